@@ -1,4 +1,4 @@
--- What the code's machine stands for, and what acting on its stack leaves.
+-- What the code's machine means, and what acting on its stack leaves.
 use Rattle.std.specs.Prelude.{◌≡◌, ℕ, List, ◌++◌, length, find, Option, Some, None}
 use Rattle.mb_model.specs.declared.region.Secret.{Secret}
 use Rattle.mb_model.specs.LayerEvents.{has_name}
@@ -17,7 +17,7 @@ use Rattle.mb_appvm.specs.Application.{AppState, Surroundings, StepOutcome, goes
 use Rattle.mb_appvm.specs.Application.{Does, DoesPlain, AppStep}
 use Rattle.mb_appvm.specs.Runs.{readable_secrets}
 
--- what the code's environment stands for
+-- what the code's environment means
 abbrev pub surroundings_of : Environment → Surroundings
 surroundings_of environment = record {
   code = environment.code.now;
@@ -48,7 +48,7 @@ abbrev pub Fetches : List ℕ → ℕ → Option (Instruction × ℕ) → Type 0
 Fetches code place None = (it : Instruction) (next : ℕ) → Stands code place it next → ⊥
 Fetches code place (Some found) = Stands code place found.0 found.1
 
--- the machine that the code's fields stand for
+-- the machine that the code's fields mean
 abbrev pub state_of : Machine → AppState
 state_of machine = record {
   place = machine.place;
@@ -58,7 +58,7 @@ state_of machine = record {
   output = machine.output.items;
 }
 
--- the outcome that an answer and the machine after it stand for
+-- the outcome that an answer and the machine after it mean
 abbrev pub outcome_of : Step → Machine → StepOutcome
 outcome_of step.GoesOn new = goes (state_of new)
 outcome_of step.Ends new = run_halts
@@ -79,7 +79,7 @@ pub record DoesStep (seen : Surroundings) (old : Machine) (result : Step) (new :
 abbrev pub without_values : Machine → List ℕ → AppState
 without_values machine rest = record (state_of machine) { stack = rest }
 
--- an instruction was done with the values that it takes, of which there are enough
+-- an instruction was done with the values that it takes, and the stack had enough
 pub record DoesOn (seen : Surroundings) (it : Instruction) (next : ℕ) (old : Machine) (result : Step) (new : Machine)
     : Type 0 where
   pub rest : List ℕ

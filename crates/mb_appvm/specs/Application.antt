@@ -37,7 +37,7 @@ pub data StepOutcome : Type 0 where
   run_halts : StepOutcome
   traps : Trap → StepOutcome
 
--- the number by which a trap is told
+-- the number with which a trap is reported
 abbrev pub trap_number : Trap → ℕ
 trap_number trap.NoInstruction = 1
 trap_number trap.TooFewValues = 2
@@ -65,7 +65,7 @@ plain_takes plain.Input = 1
 plain_takes plain.Length = 0
 plain_takes plain.Emit = 1
 
--- how many values it leaves in their place
+-- how many values an instruction without an operand leaves in place of those that it takes
 abbrev pub plain_leaves : Plain → ℕ
 plain_leaves plain.Halt = 0
 plain_leaves plain.Pop = 0
@@ -107,7 +107,7 @@ abbrev pub remainder : ℕ → ℕ → Option ℕ
 remainder a zero = None
 remainder a (suc b) = Some (a % suc b)
 
--- the result of an operation on a and b, of which b is on top; None for a division by 0
+-- the result of an operation on a and b, with b on top; None for a division by 0
 abbrev pub result_of : Operation → ℕ → ℕ → Option ℕ
 result_of op.Add a b = Some ((a + b) % 2 ^ 32)
 result_of op.Sub a b = Some ((a + (2 ^ 32 - b)) % 2 ^ 32)
@@ -138,7 +138,7 @@ outcome_of_result (Some value) next machine = goes (after_push next (value ∷ [
 abbrev pub absent_secret : ℕ
 absent_secret = 4294967295
 
--- the secret is copied to memory and its length is pushed, or it does not fit
+-- the secret is copied to memory and its length is pushed, or it does not fit; without one, `absent_secret` is pushed
 abbrev pub DoesCopy : Option Secret → ℕ → ℕ → AppState → StepOutcome → Type 0
 DoesCopy None next address machine outcome = outcome ≡ goes (after_push next (absent_secret ∷ []) machine)
 DoesCopy (Some secret) next address machine outcome =
@@ -146,7 +146,7 @@ DoesCopy (Some secret) next address machine outcome =
     ⊎ ((address + length secret.value ≤ 1024)
     × (outcome ≡ goes (after_push next (length secret.value ∷ []) (after_write address secret.value machine))))
 
--- the region may not be read, or its secret with this name is looked for
+-- the region may not be read, or its secret with this name is looked up
 abbrev pub DoesGet : Option (List Secret) → List ℕ → ℕ → ℕ → AppState → StepOutcome → Type 0
 DoesGet None name next address machine outcome = outcome ≡ traps trap.BadRegion
 DoesGet (Some secrets) name next address machine outcome =
@@ -198,8 +198,8 @@ Does seen it next values machine outcome = ⊥
 
 -- ---- one step
 
--- One step, with the traps in their order: no instruction stands at the place, or it finds too few values, or it would
--- leave more than 256, or it does what it does with the values that it takes.
+-- One step, with the traps in their order: no instruction stands at the place, or the one there finds too few values,
+-- or it would leave more than 256, or it does what it does with the values that it takes.
 pub data AppStep (seen : Surroundings) (machine : AppState) (outcome : StepOutcome) : Type 0 where
   unknown : ((it : Instruction) (next : ℕ) → Stands seen.code machine.place it next → ⊥)
       → outcome ≡ traps trap.NoInstruction → AppStep seen machine outcome

@@ -1,4 +1,4 @@
--- What an assembler text says, which code it stands for, and which of its lines is the first that is wrong.
+-- What an assembler text says, which code it assembles to, and which of its lines is the first that is wrong.
 use Rattle.std.specs.Prelude.{◌≡◌, ◌⊎◌, ℕ, ◌+◌, ◌<◌, ◌≤◌, List, [], ◌∷◌, ◌++◌, length, codes, All, flat_map, sum_by}
 use Rattle.std.specs.Prelude.{Option, Some, None, Bool, false}
 use Rattle.std.specs.List.{AllZip, list_any}
@@ -205,13 +205,13 @@ pub record IsAssembly (lines : List (List ℕ)) (code : List ℕ) : Type 0 where
   pub made : AllZip (Makes said) said pieces
   pub whole : code ≡ flat_map piece pieces
 
--- a text stands for a code
+-- a text assembles to a code
 pub record Assembles (text code : List ℕ) : Type 0 where
   pub lines : List (List ℕ)
   pub has : HasLines text lines
   pub stands : IsAssembly lines code
 
--- the line with this number is the first of a text that is wrong
+-- the line of a text with this number is the first that is wrong
 pub record AssemblyFailsAt (text : List ℕ) (line_number : ℕ) : Type 0 where
   pub lines : List (List ℕ)
   pub has : HasLines text lines

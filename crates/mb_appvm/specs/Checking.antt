@@ -34,13 +34,13 @@ IsTarget all rest (says.Label name) = Unit {0}
 IsTarget all rest (says.Whole it) = Unit {0}
 IsTarget all rest (says.JumpTo kind name) = IsTrue (list_any (is_label name) all) ⊎ TextGives rest name
 
--- the first lines are right, among all and a rest
+-- the first lines are right, among all lines and a rest of the text
 pub record AreSoundLines (all : List Said) (rest : List ℕ) (front : List Said) : Type 0 where
   pub labels : LabelsDiffer front
   pub targets : All (IsTarget all rest) front
   pub short : sum_by size_of front ≤ CODE_LIMIT
 
--- so many lines are right, and no more
+-- this many lines are right, and no more
 pub record CountsSound (all : List Said) (rest : List ℕ) (count : ℕ) : Type 0 where
   pub within : count ≤ length all
   pub right : AreSoundLines all rest (take count all)

@@ -1,4 +1,4 @@
--- The text that is written of a code: a line for each instruction. Does it stand for the same code?
+-- The text that is written of a code: a line for each instruction. Does it assemble to the same code?
 use Rattle.std.specs.Prelude.{◌≡◌, ◌≢◌, ℕ, ◌≤◌, List, [], ◌++◌, length, map, All, flat_map, Result, Ok, Err}
 use Rattle.mb_model.specs.declared.limits.TheConstants.{CODE_LIMIT}
 use Rattle.mb_model.specs.Lines.{text_of}
@@ -42,14 +42,14 @@ DisassemblesTo code (Err end.NoMemory) = Unit {0}
 
 -- ---- laws
 
--- a text stands for one code, or one line of it is the first that is wrong; never two of either, never both
+-- a text assembles to one code, or one line of it is the first that is wrong; never two of either, never both
 pub record AssembliesAreClear : Type 0 where
   pub one_code : (text a b : List ℕ) → Assembles text a → Assembles text b → a ≡ b
   pub one_line : (text : List ℕ) (first second : ℕ) → AssemblyFailsAt text first → AssemblyFailsAt text second
       → first ≡ second
   pub never_both : (text code : List ℕ) (line : ℕ) → Assembles text code → AssemblyFailsAt text line → ⊥
 
--- the text of a code stands for that code and no other, and no line of it is wrong
+-- the text of a code assembles to that code and no other, and no line of it is wrong
 pub record ListingsAssemble : Type 0 where
   pub again : (code text : List ℕ) → length code ≤ CODE_LIMIT → IsListing code text → Assembles text code
   pub alone : (code text other : List ℕ) → length code ≤ CODE_LIMIT → IsListing code text → Assembles text other

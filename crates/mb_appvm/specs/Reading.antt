@@ -4,7 +4,7 @@ use Rattle.mb_appvm.specs.declared.keyword.Keyword.{Keyword}
 use Rattle.mb_appvm.specs.declared.lines.Said.{Said}
 use Rattle.mb_appvm.specs.Assembly.{keyword_of, operand_of, IsSayable}
 
--- what a line says that has this keyword, and this operand or none
+-- what a line with this keyword, and this operand or none, says
 pub record SaysWords (keyword : Keyword) (operand : Option (List ℕ)) (meaning : Said) : Type 0 where
   pub sayable : IsSayable meaning
   pub begins : keyword_of meaning ≡ keyword

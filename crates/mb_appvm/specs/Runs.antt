@@ -20,7 +20,7 @@ LeadsOn GoesOn machine (goes next) steps ending = GoesOn next
 LeadsOn GoesOn machine run_halts steps ending = ending ≡ end.Halted steps machine.output
 LeadsOn GoesOn machine (traps cause) steps ending = ending ≡ end.Trap cause machine.place machine.output
 
--- From a machine that has done so many steps, and may do so many more, a run ends so.
+-- The end of a run from a machine that has done `steps` steps, and may do this many more.
 unfoldable pub RunsTo : Surroundings → AppState → ℕ → ℕ → AppEnd → Type 0
 RunsTo seen machine steps zero ending = ending ≡ end.OutOfSteps machine.output
 RunsTo seen machine steps (suc more) ending =
@@ -36,7 +36,7 @@ abbrev pub readable_secrets : Layers → ℕ → Region → Region → ℕ → O
 readable_secrets layers layer two three region =
     if is_readable layers layer region then Some (if region == 2 then two.secrets else three.secrets) else None
 
--- how the run of a code ends, with an input and these secrets, after at most so many steps
+-- how the run of a code ends, with an input and these secrets, after at most this many steps
 abbrev pub AppRun : List ℕ → List ℕ → (ℕ → Option (List Secret)) → ℕ → AppEnd → Type 0
 AppRun code input secrets steps ending =
     RunsTo (record { code = code; input = input; secrets = secrets }) first_state 0 steps ending

@@ -34,8 +34,8 @@ impl From<NoMemory> for AsmEnd {
     }
 }
 
-/// Assembles a text of at most 4,194,304 bytes to code of at most 32,768 bytes. A line is `label NAME`, or the name of an
-/// instruction with its operand; lines end with LF, which the last may lack.
+/// Assembles a text of at most 4,194,304 bytes to code of at most 32,768 bytes. A line is `label NAME`, or the name of
+/// an instruction with its operand; lines end with LF, which the last may lack.
 ///
 /// Errors: `BadLine` with the first line that is wrong, and `NoMemory`.
 ///

@@ -1,4 +1,4 @@
-//! The test whether a line of a text is right among the others.
+//! The test of whether a line of a text is right among the others.
 
 ghost use Rattle.std.specs.Prelude.{◌≡◌, ◌↔◌, ◌<◌, ◌≤◌, ◌+◌, ◌^◌, length, IsTrue};
 ghost use Rattle.std.specs.List.{list_any};

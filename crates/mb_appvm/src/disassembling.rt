@@ -36,11 +36,11 @@ impl From<NoMemory> for DisasmEnd {
     }
 }
 
-/// The text of a code: a line for each instruction, numbers in decimal, jumps by the number of their place. It
+/// The text of a code: a line for each instruction, numbers in decimal, jumps with their place as a number. It
 /// assembles to the same code. The code has at most 32,768 bytes.
 ///
-/// Errors: `NoInstruction` with the first place at which no whole instruction stands, and `NoMemory`, of which no clause
-/// says when it comes: the tests disassemble where there is enough.
+/// Errors: `NoInstruction` with the first place at which no whole instruction stands, and `NoMemory`. No clause says
+/// when the latter comes; the tests disassemble with ample memory.
 pub fn disassemble(alloc: Global, code: &[u8]) -> Result<Bytes, DisasmEnd>
     requires { length code.now ≤ CODE_LIMIT }
     ensures written { DisassemblesTo code.now result }

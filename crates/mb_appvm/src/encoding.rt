@@ -18,7 +18,7 @@ use mb_bytes::{put_after_u8, put_u8, put_u16, put_u32};
 use mb_model::NoMemory;
 use std::alloc::Global;
 
-/// The code of lines that are all right.
+/// The code of lines that are sayable, jump only to labels among them, and make at most 32,768 bytes.
 pub(crate) fn write_code(alloc: Global, said: &[Said<'_>]) -> Result<Vec<u8>, NoMemory>
     requires sayable { All IsSayable said.now }
     requires given { All (IsGiven said.now) said.now }

@@ -14,7 +14,7 @@ pub fn runs_see_nothing_else()
     ensures { RunsSeeNothingElse }
 {}
 
-/// A text stands for one code, or one line of it is the first that is wrong; never two of either, never both.
+/// A text assembles to one code, or one line of it is the first that is wrong; never two of either, never both.
 pub fn assemblies_are_clear()
     ensures { AssembliesAreClear }
 {}

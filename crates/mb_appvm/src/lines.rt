@@ -113,7 +113,7 @@ fn is_name(word: &[u8]) -> bool
         && word.iter().all(|byte| 0x21 <= *byte && *byte <= 0x7E)
 }
 
-/// Whether the word is the name of a label: that of a secret, and its first byte no digit.
+/// Whether the word is the name of a label: the name of a secret whose first byte is no digit.
 fn is_label_name(word: &[u8]) -> bool
     ensures { IsTrue result ↔ IsLabelName word.now }
 {

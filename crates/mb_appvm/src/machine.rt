@@ -19,7 +19,7 @@ use arrayvec::ArrayVec;
 /// The most values on the stack.
 const VALUES: usize = 256;
 
-/// The bytes of memory.
+/// The number of bytes of memory.
 pub(crate) const MEMORY: usize = 1024;
 
 /// A machine between two instructions.
@@ -74,7 +74,7 @@ impl Machine {
         self.act(instruction, next, environment)
     }
 
-    /// Does what an instruction does whose values are there and whose results have room.
+    /// Does an instruction whose values are there and whose results have room.
     fn act(
         &mut self,
         instruction: Instruction<'_>,

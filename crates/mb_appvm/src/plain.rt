@@ -13,7 +13,7 @@ use crate::secrets::write;
 use crate::trap::Trap;
 
 impl Machine {
-    /// Does what an instruction does whose values are there and whose results have room.
+    /// Does an instruction whose values are there and whose results have room.
     pub(crate) fn act_plain(&mut self, plain: Plain, next: u32, input: &[u8]) -> Step
         requires enough { plain_takes plain ≤ array_vec_len self.old.stack }
         requires room { array_vec_len self.old.stack + plain_leaves plain ≤ plain_takes plain + 256 }

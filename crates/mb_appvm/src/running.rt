@@ -14,7 +14,7 @@ use std::alloc::Global;
 /// How a run ends. The output is what was emitted until then.
 #[derive(Drop)]
 pub enum AppEnd {
-    /// A `halt`, the last of so many steps.
+    /// A `halt`, the last of this many steps.
     Halted {
         steps: u32,
         output: Bytes,
@@ -32,11 +32,11 @@ pub enum AppEnd {
 }
 
 /// Runs a code on an input, as the code of a layer of a device with these layers and these regions of layers 2 and 3,
-/// for at most `steps` steps; an executed instruction is a step, also one that ends the run. The code and the input
-/// have at most 4,194,304 bytes each.
+/// for at most `steps` steps; an executed instruction is a step, including one that ends the run. The code and the
+/// input have at most 4,194,304 bytes each.
 ///
-/// Errors: `NoMemory`, if there is none for the output, of which no clause says when it comes: the tests run codes where
-/// there is enough.
+/// Errors: `NoMemory`, if there is none for the output. No clause says when it comes; the tests run codes with ample
+/// memory.
 pub fn run_app(
     alloc: Global,
     code: &[u8],
@@ -76,7 +76,7 @@ pub fn run_app(
 /// Why a machine is executed no further.
 #[derive(Clone, Copy)]
 pub enum Stop {
-    /// A `halt`, the last of so many steps.
+    /// A `halt`, the last of this many steps.
     Halted { steps: u32 },
     /// A trap of the instruction at the machine's place.
     Trap(Trap),

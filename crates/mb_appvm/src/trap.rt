@@ -18,14 +18,14 @@ pub enum Trap {
     DivisionByZero,
     /// A region that the running layer may not read.
     BadRegion,
-    /// The output has 4,096 bytes.
+    /// The output already has 4,096 bytes.
     OutputFull,
     /// A call while 64 places are kept, or a return while none is.
     BadReturn,
 }
 
 impl Trap {
-    /// The number by which the trap is told, 1 to 8.
+    /// The number with which the trap is reported, 1 to 8.
     pub fn number(self) -> u8
         ensures { result ≡ trap_number self }
     {

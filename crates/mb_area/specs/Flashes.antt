@@ -30,12 +30,12 @@ pub record BeginWithHeader (bytes : List ℕ) : Type 0 where
 abbrev pub HoldsSomeHeader : List ℕ → ℕ → Type 0
 HoldsSomeHeader flash area = BeginWithHeader (sector flash (header_sector area))
 
--- a position of the log, 0 to 127, whose entry the header in force does not count
+-- a position of the log, 0 to 127, whose entry the current header does not count
 pub record IsFreePosition (memory : Memory) (position : ℕ) : Type 0 where
   pub within : position < ENTRY_LIMIT
   pub uncounted : (root : Root) → RootIn memory.bbram root → IsUncounted memory.flash root.area position
 
--- what is written next can be: code of a layer from 1 to 3, or none, and the bytes of a header
+-- what is to be written fits: the code, of layer 1 to 3 or none, in a slot, and the header, not empty, in a sector
 pub record IsPlan (room : Room) : Type 0 where
   pub layer : room.code_layer ≤ 3
   pub code : length room.code.items ≤ CODE_LIMIT
@@ -46,18 +46,18 @@ pub record IsPlan (room : Room) : Type 0 where
 abbrev pub code_to_write : Room → Option (List ℕ)
 code_to_write room = if room.code_layer == 0 then None else Some room.code.items
 
--- how many sectors it takes
+-- how many sectors the code that is written next takes
 abbrev pub code_sectors : Room → ℕ
 code_sectors room = if room.code_layer == 0 then 0 else sectors_for (length room.code.items)
 
 -- The code of the room was written to the slot of its layer that this header does not name, and then the header of the
--- room to the other area than this one.
+-- room to the header area that is not this one.
 pub record IsPublicWritten (room : Room) (current : Header) (area : ℕ) (before after : List ℕ) : Type 0 where
   pub between : List ℕ
   pub code : IsCodeWritten room.code_layer (slot_in current room.code_layer) (code_to_write room) before between
   pub header : IsSectorWritten (header_sector (1 - area)) room.header.items between after
 
--- the code of the room, if it has any, stands in the slot that it would be written to
+-- the code of the room, if it has any, already stands in the slot that it would be written to
 abbrev pub IsCodeThere : Room → Header → List ℕ → Type 0
 IsCodeThere room current flash =
     IfSome (code_to_write room) (BeginsWithBytes

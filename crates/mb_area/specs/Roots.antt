@@ -1,5 +1,5 @@
--- The contents of a memory after a root record is committed. Is an order wholly obeyed or not at all, and its
--- work wholly finished or still pending?
+-- The contents of a memory after a root record is committed. Is an order wholly obeyed or not at all, and its work
+-- wholly finished or still pending?
 use Rattle.std.specs.Prelude.{◌≡◌, ℕ, ◌-◌, ◌⊎◌, List, [], None}
 use Rattle.mb_model.specs.declared.entry.Entry.{Entry}
 use Rattle.mb_model.specs.declared.entry.SignedEntry.{SignedEntry}
@@ -25,14 +25,14 @@ pub record HasSomeRoot (memory : Memory) : Type 0 where
   pub root : Root
   pub holds : RootIn memory.bbram root
 
--- Whatever the memory held, it holds with this root record, and with the codes and entries that the flash holds for it.
+-- Whatever the memory held, it holds that with this root record and the codes and entries that the flash holds for it.
 pub record CommitsRoot (new_root : Root) (before after : Memory) : Type 0 where
   pub committed : (contents : Contents) (codes : Codes) (signed : List SignedEntry) (unsigned : List Entry)
       → Holds before contents → HoldsPublic before.flash new_root codes signed unsigned
       → Holds after
       (record contents { root = new_root; codes = codes; signed = signed; unsigned = unsigned })
 
--- Whatever the memory held, it stands for what that means with this root record, and with the codes and entries that
+-- Whatever contents the memory held, it means what they mean with this root record, and with the codes and entries that
 -- the flash holds for it.
 pub record MeansByRoot (new_root : Root) (before after : Memory) : Type 0 where
   pub means : (contents : Contents) (codes : Codes) (signed : List SignedEntry) (unsigned : List Entry)
@@ -58,12 +58,12 @@ pub record IsReadyToFinish (memory : Memory) (contents : Contents) : Type 0 wher
       (state_of_contents contents).log
       []
 
--- The memory stands for the state for which contents that were ready to be finished stood.
+-- If the contents of the memory were ready to be finished, it still means the state that they meant.
 pub record MeansAsReady (before after : Memory) : Type 0 where
   pub means : (contents : Contents) → IsReadyToFinish before contents → Means before (state_of_contents contents)
       → Means after (state_of_contents contents)
 
--- what the memory holds once that is finished
+-- what the memory holds once these contents are finished
 abbrev pub finished : Contents → Contents
 finished contents = at_rest (state_of_contents contents) (1 - contents.root.area)
 

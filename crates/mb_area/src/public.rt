@@ -79,8 +79,8 @@ fn store_sector<B: Board>(b: &mut B, number: u16, bytes: &[u8]) -> Result<(), St
     write_sector(b, number, bytes)
 }
 
-/// Makes a slot of a layer begin with this code, at most 32,768 bytes. There are at most two write calls for each sector
-/// that the code takes.
+/// Makes a slot of a layer begin with this code, at most 32,768 bytes. There are at most two write calls for each
+/// sector that the code takes.
 fn store_code<B: Board>(b: &mut B, layer: u8, slot: u8, code: &[u8]) -> Result<(), Stopped>
     requires powered { IsPowered (B.seen b.old) }
     requires layer { (1 ≤ layer) × (layer ≤ 3) }
@@ -166,7 +166,7 @@ fn write_code<B: Board>(b: &mut B, area: u8, room: &mut Room) -> Result<(), Stop
     store_code(b, room.code_layer, free_slot(named), &room.code)
 }
 
-/// Writes the code of the room, if it has any, and then its header into the other header area than this one.
+/// Writes the code of the room, if it has any, and then its header into the header area that is not this one.
 fn write_both<B: Board>(b: &mut B, area: u8, room: &mut Room) -> Result<(), Stopped>
     requires powered { IsPowered (B.seen b.old) }
     requires area { area ≤ 1 }
@@ -190,7 +190,7 @@ fn write_both<B: Board>(b: &mut B, area: u8, room: &mut Room) -> Result<(), Stop
     store_sector(b, header_sector(1 - area), &room.header)
 }
 
-/// Writes what the room holds: the code of a load into the slot of its layer that the header in force does not name, or
+/// Writes what the room holds: the code of a load into the slot of its layer that the current header does not name, or
 /// into slot 1 if it names none, and then the header into the other header area. The contents of the memory stay,
 /// wherever power fails. There are at most two write calls for each sector, and none if its bytes stand there already.
 pub fn write_public<S: Reaches<One>, B: Board>(s: S, b: &mut B, room: &mut Room) -> Result<S, Off>
@@ -225,9 +225,9 @@ pub fn write_public<S: Reaches<One>, B: Board>(s: S, b: &mut B, room: &mut Room)
 
 // ---- the log
 
-/// Writes the entry and signature that `room.log` holds into the sector of the log's entry at a position, which the
-/// header in force does not count. The contents of the memory stay, wherever power fails. There are at most two write
-/// calls, and none if the bytes stand there already.
+/// Writes the entry and signature that `room.log` holds into the sector for a position of the log that the current
+/// header does not count. The contents of the memory stay, wherever power fails. There are at most two write calls, and
+/// none if the bytes stand there already.
 pub fn write_log<S: Reaches<One>, B: Board>(
     s: S,
     b: &mut B,

@@ -44,7 +44,7 @@ pub fn admits(layers: &Layers, kind: ChangeKind, layer: u8, cosigned: Pair, m: u
     }
 }
 
-/// Whether region `m` is kept over a change of the kind at `layer`: if the change is above it, or its layer admits it.
+/// Whether region `m` is kept over a change of the kind at `layer`: if the change is above it, or layer `m` admits it.
 fn is_kept(layers: &Layers, kind: ChangeKind, layer: u8, cosigned: Pair, m: u8) -> bool
     ensures { result ≡ is_kept layers.now kind layer cosigned m }
 {
@@ -69,7 +69,7 @@ pub fn may_cosign(layers: &Layers, kind: ChangeKind, layer: u8, m: u8) -> bool
     is_load(kind) && layer < m && is_owned(layers, m)
 }
 
-/// The layer after a load: with the hash of the load's code, with its trusts, and with the owner as before.
+/// The layer after a load: reliable, with the load's trusts, the name of its code, and the owner as before.
 fn loaded_layer(old: &Layer, payload: &Payload) -> Layer
     ensures { result ≡ loaded_layer old.now payload.now }
 {

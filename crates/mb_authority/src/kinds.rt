@@ -19,14 +19,14 @@ pub fn change_by(order: &Order) -> Option<ChangeKind>
     }
 }
 
-/// Whether a change of the kind puts code in place.
+/// Whether a change of the kind is a load, ordinary or in an emergency.
 pub fn is_load(kind: ChangeKind) -> bool
     ensures { result ≡ is_load (Some kind) }
 {
     matches!(kind, ChangeKind::Load | ChangeKind::Emergency)
 }
 
-/// Whether a change of the kind puts code in place by the layer's own owner.
+/// Whether a change of the kind is a load by the layer's own owner.
 pub fn is_own_load(kind: ChangeKind) -> bool
     ensures { result ≡ is_own_load (Some kind) }
 {

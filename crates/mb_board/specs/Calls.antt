@@ -3,12 +3,12 @@ use Rattle.std.specs.Prelude.{◌≡◌, ℕ, ◌+◌, ◌≤◌, nat_lt, List, 
 use Rattle.std.specs.Prelude.{Result, Ok, Err, OnErr, None}
 use Rattle.mb_model.specs.Board.{Memory, Ledger, Meter, Held, IsLoaded, phase_at, memory_with_bytes}
 
--- after a stop power is off
+-- whether power is on after calls with this result: not after a stop
 abbrev pub power_of : {A E : Type 0} → Result A E → Bool
 power_of (Ok value) = true
 power_of (Err stop) = false
 
--- and the level is 0
+-- the level after calls with this result: 0 after a stop, and else as before
 abbrev pub level_of : {A E : Type 0} → Result A E → ℕ → ℕ
 level_of (Ok value) level = level
 level_of (Err stop) level = 0
@@ -17,13 +17,13 @@ level_of (Err stop) level = 0
 abbrev pub counted_write : ℕ → ℕ
 counted_write writes = if nat_lt writes 1000 then writes + 1 else writes
 
--- Each call is counted. A stop is counted as one too, and after it no power loss is armed.
+-- Each call is counted. A stop is counted as a stop too, and after it no power loss is armed.
 abbrev pub metered : {A E : Type 0} → Result A E → Meter → Meter
 metered (Ok value) meter = record meter { writes = counted_write meter.writes }
 metered (Err stop) meter =
     record { armed = false; stops = meter.stops + 1; writes = counted_write meter.writes }
 
--- A range of a memory holds arbitrary bytes; all others are as before.
+-- A range of a memory holds arbitrary bytes; all other bytes are as before.
 pub record Torn (at n : ℕ) (before after : List ℕ) : Type 0 where
   pub written : List ℕ
   pub sized : length written ≡ n
@@ -36,11 +36,12 @@ held_by memory power level meter =
 
 -- ---- several calls
 
--- whether a power loss is armed, and how often one has stopped a call, after calls that ended so
+-- whether a power loss is armed after calls with this result
 abbrev pub armed_by : {A E : Type 0} → Result A E → Bool → Bool
 armed_by (Ok value) armed = armed
 armed_by (Err stop) armed = false
 
+-- how many calls power losses have stopped, after calls with this result
 abbrev pub stops_by : {A E : Type 0} → Result A E → ℕ → ℕ
 stops_by (Ok value) stops = stops
 stops_by (Err stop) stops = stops + 1

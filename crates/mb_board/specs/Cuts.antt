@@ -11,7 +11,7 @@ use Rattle.mb_model.specs.Board.{Meter}
 use Rattle.mb_board.specs.Calls.{counted_write, stops_by}
 use Rattle.mb_board.specs.declared.fuse.Cut.{Cut}
 
--- a tear has 1 to 16 bytes to fill with
+-- the filling of a tear has 1 to 16 bytes
 pub record HasFill (tear : Tear) : Type 0 where
   pub some : 1 ≤ tear.fill_length
   pub most : tear.fill_length ≤ FILL_LIMIT
@@ -39,7 +39,7 @@ meter_of fuse = record { armed = is_armed fuse.cut; stops = fuse.stops; writes =
 abbrev pub last_count : ℕ
 last_count = 18446744073709551615
 
--- A write call passes, or fails with the tear of the armed power loss, if this is the call for which it was set.
+-- A write call passes, or fails with the tear of the armed power loss, if this is the call that it was set for.
 abbrev pub passes_by : Option Cut → ℕ → Result (Unit {0}) Tear
 passes_by None stops = Ok tt
 passes_by (Some cut) stops = if cut.count == 1 && nat_lt stops last_count then Err cut.tear else Ok tt
@@ -47,7 +47,7 @@ passes_by (Some cut) stops = if cut.count == 1 && nat_lt stops last_count then E
 abbrev pub passes : Armed → Result (Unit {0}) Tear
 passes fuse = passes_by fuse.cut fuse.stops
 
--- the power loss that is armed after a call: none after a stop, and else the one before, which is one call nearer
+-- the power loss that is armed after a call: none after a stop, and else the one before, now one call nearer
 abbrev pub cut_left : {A E : Type 0} → Result A E → Option Cut → Option Cut
 cut_left (Err stop) cut = None
 cut_left (Ok value) None = None
@@ -71,8 +71,8 @@ abbrev pub cut_in : ℕ → Option Cut → Option Cut
 cut_in zero cut = cut
 cut_in (suc n) cut = cut_in n (passed_one cut)
 
--- A power loss falls into the call for which it was set: those before it pass, and it fails. None falls into a call
--- if the count of stops is at its last value.
+-- A power loss falls into the call that it was set for: the calls before pass, and that one fails. None falls into a
+-- call if the count of stops is at its last value.
 pub record FallsInItsCall (cut : Cut) : Type 0 where
   pub before : (n stops : ℕ) → n + 1 < cut.count → passes_by (cut_in n (Some cut)) stops ≡ Ok tt
   pub there : (n stops : ℕ) → n + 1 ≡ cut.count → stops < last_count
@@ -85,7 +85,7 @@ pub record FallsInItsCall (cut : Cut) : Type 0 where
 unfoldable pub filling : Tear → ℕ → List ℕ
 filling tear n = map (λ offset. slice_index tear.fill (offset % tear.fill_length)) (range_with_len 0 n)
 
--- the bytes that a torn write leaves: the first of those that were to be written, and then the filling
+-- the bytes that a torn write leaves: a prefix of those that were to be written, and then the filling
 unfoldable pub torn_by : Tear → List ℕ → List ℕ
 torn_by tear bytes = take tear.keep bytes ++ filling tear (length bytes - tear.keep)
 
@@ -94,6 +94,6 @@ abbrev pub left_by : Result (Unit {0}) Tear → List ℕ → List ℕ
 left_by (Ok passed) bytes = bytes
 left_by (Err tear) bytes = torn_by tear bytes
 
--- a write whose bytes a power loss keeps is complete
+-- a write is complete if the power loss keeps all its bytes
 abbrev pub LeavesWhatItKeeps : Cut → Type 0
 LeavesWhatItKeeps cut = (bytes : List ℕ) → length bytes ≤ cut.tear.keep → torn_by cut.tear bytes ≡ bytes

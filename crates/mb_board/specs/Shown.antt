@@ -4,7 +4,7 @@ use Rattle.mb_model.specs.Board.{Memory, Ledger}
 use Rattle.mb_board.specs.Calls.{power_of, level_of}
 use Rattle.mb_board.specs.Cuts.{Armed, fuse_after}
 
--- one of its memories: the bytes, and what they were when they were last kept
+-- a memory of a board: its bytes, and what they were when they were last kept
 pub record BankContents : Type 0 where
   pub bytes : List ℕ
   pub standing : List ℕ
@@ -13,7 +13,7 @@ pub record BankContents : Type 0 where
 abbrev pub just_kept : List ℕ → BankContents
 just_kept bytes = record { bytes = bytes; standing = bytes }
 
--- its power, the level of its ratchet, its memory, its events, and when power will fail
+-- what is seen of a board: its power, the level of its ratchet, its memory, its events, and when power will fail
 pub record BoardShown : Type 0 where
   pub power : Bool
   pub level : ℕ
@@ -21,7 +21,7 @@ pub record BoardShown : Type 0 where
   pub ledger : Ledger
   pub fuse : Armed
 
--- all but power and level
+-- what is seen of a board besides its power and its level
 pub record Rest : Type 0 where
   pub memory : Memory
   pub ledger : Ledger
@@ -34,7 +34,7 @@ rest_of board = record { memory = board.memory; ledger = board.ledger; fuse = bo
 abbrev pub unloaded : Memory
 unloaded = record { flash = []; bbram = [] }
 
--- The board after a write call that ended so and left this memory: its events and answers stay.
+-- The board after a write call with this result that left this memory: its events and answers stay.
 abbrev pub board_after : {A E : Type 0} → Result A E → Memory → BoardShown → BoardShown
 board_after result memory board = record board {
   power = power_of result;

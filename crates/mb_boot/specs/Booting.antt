@@ -1,4 +1,4 @@
--- The memory of a device that has come up. Is it clean, and does it stand for the same state?
+-- The memory of a device that has come up. Is it clean, and does it mean the same state?
 use Rattle.std.specs.Prelude.{◌≡◌, ℕ, List, Bool, true, false, Option, Some, Result, Ok, Err}
 use Rattle.mb_model.specs.declared.state.State.{State}
 use Rattle.mb_model.specs.declared.stored.Root.{Root}
@@ -14,13 +14,13 @@ use Rattle.mb_boot.specs.Settling.{IsAtRest}
 use Rattle.mb_boot.specs.declared.device.BootEnd.{BootEnd}
 use Rattle.mb_boot.specs.declared.device.BootEnd.TheVariants.{Stopped, Zeroised, NoMemory}
 
--- the memory stands for a state that a device can have, or for a dead device
+-- the memory means a state that a device can have, or a dead device
 pub record StandsForValid (memory : Memory) : Type 0 where
   pub state : Option State
   pub stands : StandsFor memory.flash memory.bbram state
   pub valid : Valid state
 
--- the memory stands for whatever it stood for
+-- the memory means whatever it meant, a state or a dead device
 pub record KeepsState (before after : Memory) : Type 0 where
   pub kept : (state : Option State) → StandsFor before.flash before.bbram state
       → StandsFor after.flash after.bbram state
@@ -29,7 +29,7 @@ pub record KeepsState (before after : Memory) : Type 0 where
 pub record IsFoundAs (looked : Looked) (bbram : List ℕ) : Type 0 where
   pub found : (root : Root) → RootIn bbram root → IsLooked looked root (inactive_area_of_slot bbram 1)
 
--- the memory holds whatever state it stood for, with nothing pending, and the root's inactive area is all zero
+-- the memory holds whatever state it meant, with nothing pending, and the root's inactive area is all zero
 pub record Rests (before after : Memory) : Type 0 where
   pub rests : (state : State) → Means before state → IsAtRest after state
   pub blank : IsBlank (inactive_area_of_slot after.bbram 1)
@@ -39,7 +39,7 @@ pub record IsWiped (bbram : List ℕ) : Type 0 where
   pub two : IsBlank (inactive_area_of_slot bbram 2)
   pub three : IsBlank (inactive_area_of_slot bbram 3)
 
--- the memory is clean for whatever state it stood for
+-- the memory is clean for whatever state it meant
 pub record Cleans (before after : Memory) : Type 0 where
   pub cleans : (state : State) → Means before state → Clean after.bbram (Some state)
 
@@ -56,14 +56,14 @@ stop_of (Err (Stopped off)) = Err tt
 stop_of (Err (Zeroised dead)) = Ok tt
 stop_of (Err (NoMemory off)) = Ok tt
 
--- power is on in a device that has come up, and in a dead one
+-- whether power is on: it is in a device that has come up, and in a dead one
 abbrev pub power_at : {A : Type 0} → Result A BootEnd → Bool
 power_at (Ok up) = true
 power_at (Err (Stopped off)) = false
 power_at (Err (Zeroised dead)) = true
 power_at (Err (NoMemory off)) = false
 
--- at these levels
+-- the level of the ratchet is 1 in a device that has come up, and 0 in a dead one
 abbrev pub HasLevel : {A : Type 0} → Result A BootEnd → ℕ → Type 0
 HasLevel (Ok up) level = level ≡ 1
 HasLevel (Err (Stopped off)) level = Unit {0}
@@ -76,7 +76,7 @@ is_zeroised (Err (Stopped off)) = false
 is_zeroised (Err (Zeroised dead)) = true
 is_zeroised (Err (NoMemory off)) = false
 
--- if the device was found dead, or an allocation failed, both hold
+-- both P and Q hold if the device was found dead, or if an allocation failed
 abbrev pub IfUnwritten : {A : Type 0} → Result A BootEnd → Type 0 → Type 0 → Type 0
 IfUnwritten (Ok up) P Q = Unit {0}
 IfUnwritten (Err (Stopped off)) P Q = Unit {0}

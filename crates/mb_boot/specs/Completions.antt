@@ -1,5 +1,5 @@
--- The sectors of the log that unsigned entries get, and the header that counts them. Do they hold the log for which
--- the unsigned entries stood?
+-- The sectors of the log that unsigned entries get, and the header that counts them. Do they hold the log that the
+-- unsigned entries meant?
 use Rattle.std.specs.Prelude.{◌≡◌, ℕ, ◌+◌, ◌-◌, ◌==◌, ◌≤◌, List, length, Option, None, Some, if◌then◌else◌}
 use Rattle.mb_format.specs.Format.{Spells}
 use Rattle.mb_model.specs.declared.limits.TheConstants.{SECTOR_LENGTH}
@@ -28,7 +28,7 @@ pub record BeginsWithHeader (bytes : List ℕ) : Type 0 where
 abbrev pub text_at_place : Header → ℕ → Option (List ℕ)
 text_at_place header place = if place == 0 then header.first else header.second
 
--- one for an entry, none for none
+-- 1 if there is an entry, 0 if there is none
 abbrev pub count_of : Option (List ℕ) → ℕ
 count_of None = 0
 count_of (Some text) = 1
@@ -39,9 +39,9 @@ unsigned_count header = count_of header.first + count_of header.second
 
 -- ---- signatures
 
--- Who signs the unsigned entry at a place, 0 or 1? The device key does with the index that it used last. Where a key
--- gives way, this key signs the first entry with the index that it used last, and the device key the second with its
--- first index.
+-- Who signs the unsigned entry at a place, 0 or 1? The device key does with the index that it used last. If a key gives
+-- way, this key signs the first entry with the index that it used last, and the device key the second with its first
+-- index.
 abbrev pub signer_by : KeySeed → ℕ → Option Outgoing → ℕ → Signer
 signer_by device uses None place = record { key = device; index = uses - 1 }
 signer_by device uses (Some outgoing) place =
@@ -65,7 +65,7 @@ SignsText signer None expected (Some position) bytes = ⊥
 SignsText signer (Some text) expected None bytes = ⊥
 SignsText signer (Some text) expected (Some position) bytes = (position ≡ expected) × IsSignedSector signer text bytes
 
--- so it is with the text at a place of the header that a sector begins with
+-- `SignsText` holds of the text at a place of the header that a sector begins with
 abbrev pub SignsTextAt : Root → ℕ → List ℕ → Option ℕ → List ℕ → Type 0
 SignsTextAt root place sector position bytes =
     (header : Header) → BeginsAs header_format sector header

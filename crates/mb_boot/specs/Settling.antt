@@ -1,4 +1,4 @@
--- A memory while the work of an order is done. Does it stand for one state wherever power fails?
+-- A memory while the work of an order is done. Does it mean one state wherever power fails?
 use Rattle.std.specs.Prelude.{◌≡◌, ℕ, ◌+◌, ◌-◌, List, [], ◌++◌, take}
 use Rattle.mb_model.specs.declared.entry.SignedEntry.{SignedEntry}
 use Rattle.mb_model.specs.declared.state.State.{State}
@@ -12,18 +12,18 @@ use Rattle.mb_model.specs.Valid.{IsValidState}
 use Rattle.mb_model_memory.specs.Commits.{both_done, at_rest}
 use Rattle.mb_model_memory.specs.Holding.{Holds, Means}
 
--- the memory stands for a state that a device can have
+-- the memory means a state that a device can have
 pub record IsLive (memory : Memory) : Type 0 where
   pub state : State
   pub means : Means memory state
   pub valid : IsValidState state
 
--- this is the current root record, and there is no other
+-- the current root record is this one, and there is no other
 pub record IsOnlyRoot (bbram : List ℕ) (root : Root) : Type 0 where
   pub holds : RootIn bbram root
   pub only : (any : Root) → RootIn bbram any → any ≡ root
 
--- whatever the memory held, it holds after the fates of both regions
+-- the memory holds what it held, changed by the fates of both regions
 pub record AppliesBoth (before after : Memory) : Type 0 where
   pub applied : (contents : Contents) → Holds before contents → Holds after (both_done contents)
 
@@ -32,7 +32,7 @@ abbrev pub signed_anew : Contents → List SignedEntry
 signed_anew contents =
     entries_signed_for contents.root.device contents.root.uses (outgoing_of contents.root.pending) contents.unsigned
 
--- the log of these contents, and as many of the entries that are not signed yet
+-- the signed entries of these contents, and the first `place` of the unsigned ones, with their signatures
 abbrev pub log_until : ℕ → Contents → List SignedEntry
 log_until place contents = contents.signed ++ take place (signed_anew contents)
 
@@ -71,6 +71,6 @@ pub record IsAtRest (memory : Memory) (state : State) : Type 0 where
   pub area : ℕ
   pub holds : Holds memory (at_rest state area)
 
--- the memory holds whatever state it stood for, with nothing pending
+-- the memory holds whatever state it meant, with nothing pending
 pub record Settles (before after : Memory) : Type 0 where
   pub settled : (state : State) → Means before state → IsAtRest after state

@@ -137,9 +137,8 @@ fn come_up<B: Board, L: Ledger>(
 }
 
 /// Does the pending work of a committed order, and wipes what it replaced. The entries are signed by the trees on the
-/// bench; one that is not there is built. The memory has to stand for a state that a
-/// device can have. It stands for the same state wherever power fails, and afterwards it is clean. There are at most
-/// 15 write calls, and 70,946 hashes.
+/// bench; one that is not there is built. The memory has to mean a state that a device can have. It means the same
+/// state wherever power fails, and afterwards it is clean. There are at most 15 write calls, and 70,946 hashes.
 #[tactic(auto, using(crate::proofs::Booted::settled_rests, crate::proofs::Booted::cleaned, mb_model_memory::proofs::HoldingLemmas::contents_keep, mb_model_memory::proofs::HoldingLemmas::keeps_then, crate::proofs::Settled::spared_then))]
 pub fn finish_order<B: Board, L: Ledger>(
     u: Unsettled,
@@ -192,7 +191,7 @@ fn give_up<B: Board>(up: Up<R1>, b: &mut B) -> Off
 }
 
 /// Brings a device up to level 1, with nothing pending and a clean battery-backed memory, and returns the buffers in
-/// which it works. Wherever power fails, the memory stands for what it stood for. Nothing is written to a clean memory.
+/// which it works. Wherever power fails, the memory means what it meant. Nothing is written to a clean memory.
 /// There are at most 15 write calls, and 70,946 hashes.
 ///
 /// Errors: `Zeroised` exactly if the device is dead; `Stopped` if power failed; `NoMemory` if an allocation failed,

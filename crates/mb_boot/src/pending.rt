@@ -50,7 +50,7 @@ fn text_in<'a>(header: StoredHeader<'a>, place: u32) -> Option<&'a [u8]>
     }
 }
 
-/// One for an entry, none for none.
+/// 1 if there is an entry, 0 if there is none.
 fn count_of(text: Option<&[u8]>) -> u32
     ensures { result ≡ count_of (option_copied text.entry) }
 {
@@ -193,8 +193,9 @@ fn sign_text<L: Ledger>(
     let _ = put_log(text, &signature, log);
 }
 
-/// Signs the unsigned entry at a place, 0 or 1, of the header in `room.header`, once. Replaces `room.log` by the content
-/// of its sector of the log, and returns its position in the log. `None` if the header has no entry at the place.
+/// Signs the unsigned entry at a place, 0 or 1, of the header in `room.header`, once. Replaces `room.log` by the
+/// content of its sector of the log, and returns its position in the log. `None` if the header has no entry at the
+/// place.
 pub(crate) fn sign_next<L: Ledger>(
     root: &Root,
     place: u32,

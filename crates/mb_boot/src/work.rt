@@ -41,8 +41,9 @@ fn apply_fates<B: Board>(
     Ok(u)
 }
 
-/// Signs the unsigned entry at a place of the header in force, 0 or 1, and writes it to its sector of the log, in at most
-/// two write calls. Nothing is written if there is no entry at the place. `room.header` holds the header's area.
+/// Signs the unsigned entry at a place of the current header, 0 or 1, and writes it to its sector of the log, in at
+/// most two write calls. Nothing is written if there is no entry at the place. `room.header` holds the current header
+/// area.
 fn write_entry<B: Board, L: Ledger>(
     u: Unsettled,
     b: &mut B,
@@ -73,7 +74,7 @@ fn write_entry<B: Board, L: Ledger>(
     Ok(u)
 }
 
-/// Signs each unsigned entry once, and writes it to its sector of the log. The area of the header in force is left in
+/// Signs each unsigned entry once, and writes it to its sector of the log. The current header area is left in
 /// `room.header`. There are at most four write calls.
 fn write_entries<B: Board, L: Ledger>(
     u: Unsettled,
@@ -101,8 +102,8 @@ fn write_entries<B: Board, L: Ledger>(
     Ok(u)
 }
 
-/// Writes the header that counts each entry as signed to the header area that is not in force, in at most two write
-/// calls. `room.header` holds the area of the header in force.
+/// Writes the header that counts each entry as signed to the inactive header area, in at most two write calls.
+/// `room.header` holds the current header area.
 fn write_settled<B: Board>(
     u: Unsettled,
     b: &mut B,
@@ -125,8 +126,8 @@ fn write_settled<B: Board>(
     Ok(u)
 }
 
-/// Signs each unsigned entry once into the log, and counts it as signed in the header area that is not in force. There
-/// are at most six write calls.
+/// Signs each unsigned entry once into the log, and counts it as signed in the inactive header area. There are at most
+/// six write calls.
 fn write_signed<B: Board, L: Ledger>(
     u: Unsettled,
     b: &mut B,
@@ -174,9 +175,10 @@ pub(crate) fn settle_by<B: Board, L: Ledger>(
     Ok(w)
 }
 
-/// Does the pending work: applies the fates of the regions, and signs each unsigned entry once. The memory has to stand
-/// for a state that a device can have. It stands for the same state wherever power fails, and afterwards nothing is
-/// pending. The sectors of the log that the header before counts keep their bytes. There are at most 12 write calls, and 70,946 hashes.
+/// Does the pending work: applies the fates of the regions, and signs each unsigned entry once. The memory has to mean
+/// a state that a device can have. It means the same state wherever power fails, and afterwards nothing is pending. The
+/// sectors of the log that the header before counts keep their bytes. There are at most 12 write calls, and 70,946
+/// hashes.
 pub fn settle<B: Board, L: Ledger>(
     u: Unsettled,
     b: &mut B,

@@ -5,15 +5,15 @@ use Rattle.mb_model.specs.declared.tools.BadRecord.{BadRecord}
 use Rattle.mb_bytes.specs.declared.cursor.Cursor.{Cursor}
 use Rattle.mb_bytes.specs.declared.cursor.Short.{Short}
 
--- where want of bytes points
+-- the offset of a field that has too few bytes
 abbrev pub short_at : Short → Option ℕ
 short_at e = Some e.at
 
--- where a record that is not in its form fails
+-- the offset at which a record is not in its form
 abbrev pub bad_at : BadRecord → Option ℕ
 bad_at e = Some e.at
 
--- the same bytes
+-- both cursors are of the same bytes
 abbrev pub SameBytes : Cursor → Cursor → Type 0
 SameBytes old new = new.bytes.now ≡ old.bytes.now
 
@@ -29,13 +29,13 @@ pub record ReadsErr {A : Type 0} (f : Format A) (old : Cursor) (at : ℕ) (new :
   pub bytes : SameBytes old new
   pub reads : f.reads old.bytes.now old.offset ≡ Err at
 
--- where the error points at an offset, reading failed there
+-- if the error points at an offset, reading failed there; the bytes are the same in any case
 abbrev pub ReadsErrAt : {A : Type 0} → Format A → Cursor → Option ℕ → Cursor → Type 0
 ReadsErrAt f old (Some at) new = ReadsErr f old at new
 ReadsErrAt f old None new = SameBytes old new
 
--- The result is what reading the format gives. `view` is the value that the result stands for; `points` is the offset
--- at which an error points, and None where an allocation failed.
+-- The result is what reading the format gives. `view` gives the value that the result means; `points` gives the offset
+-- at which an error points, and None if an allocation failed.
 abbrev pub ReadsAs : {A X E : Type 0} → (X → A) → (E → Option ℕ) → Format A → Cursor → Result X E → Cursor → Type 0
 ReadsAs view points f old (Ok x) new = ReadsOk f old (view x) new
 ReadsAs view points f old (Err e) new = ReadsErrAt f old (points e) new
@@ -64,7 +64,7 @@ abbrev pub IsNotReadAt : {A : Type 0} → Format A → Cursor → Option ℕ →
 IsNotReadAt f old (Some at) new = IsNotRead f old at new
 IsNotReadAt f old None new = IsLeft old new
 
--- Ok exactly with the value that is spelled at the offset, else exactly the offset that fails, or no memory
+-- Ok exactly with the value that is spelled at the offset, or else exactly the offset that fails, or no memory
 abbrev pub ReadsExactlyAs : {A X E : Type 0} → (X → A) → (E → Option ℕ)
     → Format A → Cursor → Result X E → Cursor → Type 0
 ReadsExactlyAs view points f old (Ok x) new = IsRead f old (view x) new
@@ -79,7 +79,7 @@ abbrev pub FailsWholeAt : {A : Type 0} → Format A → List ℕ → Option ℕ 
 FailsWholeAt f bytes (Some at) = FailsWhole f bytes at
 FailsWholeAt f bytes None = Unit {0}
 
--- Ok exactly with the value that the whole of the bytes spells, else exactly the offset that fails, or no memory
+-- Ok exactly with the value that the whole of the bytes spells, or else exactly the offset that fails, or no memory
 abbrev pub ReadsWholeAs : {A X E : Type 0} → (X → A) → (E → Option ℕ) → Format A → List ℕ → Result X E → Type 0
 ReadsWholeAs view points f bytes (Ok x) = Spells f bytes (view x)
 ReadsWholeAs view points f bytes (Err e) = FailsWholeAt f bytes (points e)

@@ -1,7 +1,7 @@
 //! A record of a number, raw bytes and a counted list, read and written.
 //!
 //! The example shows how a record is written with the contracts of this crate. It is checked with the crate, so that a
-//! change of the contracts that would leave readers and writers above unproved is seen here first.
+//! change to the contracts that would leave readers and writers above unproved is seen here first.
 
 ghost use Rattle.std.specs.Prelude.{◌≡◌, ◌<◌, ◌≤◌, length};
 ghost use Rattle.mb_model.specs.declared.limits.TheConstants.{FILE_LIMIT};
@@ -21,7 +21,7 @@ use std::alloc::Global;
 pub struct Example {
     /// Any number.
     pub number: u32,
-    /// Any four bytes.
+    /// Four arbitrary bytes.
     pub name: [u8; 4],
     /// At most 255 values.
     pub values: Items<u16>,

@@ -29,7 +29,7 @@ pub trait ReadError: Drop {
         ensures { result ≡ points self.now };
 }
 
-/// Why no value was read by a reader that takes memory.
+/// Why no value was read by a reader that allocates memory.
 pub trait ReadMemoryError: ReadError {
     /// The error if an allocation failed.
     fn no_memory() -> Self
@@ -61,8 +61,8 @@ pub trait Field {
 
     ghost format: { Format Self.Value };
 
-    /// Reads the value at the cursor's offset; after an error the cursor may stand anywhere. If reading takes memory,
-    /// an allocation may fail.
+    /// Reads the value at the cursor's offset; after an error the cursor may stand anywhere. If reading allocates
+    /// memory, an allocation may fail.
     fn read_at(needs: Self::Needs, cursor: &mut Cursor<'_>) -> Result<Self::Value, Self::End>
         ensures { Reads Self.End.points format cursor.old result cursor.new };
 
@@ -73,8 +73,8 @@ pub trait Field {
 pub trait WriteField: Field {
     ghost Fits: { Self.Value → Type 0 };
 
-    /// Appends the spelling of a value whose lengths and counts fit into their fields, or a prefix of it if an
-    /// allocation fails.
+    /// Appends the spelling of a value whose lengths and counts fit into their fields. If an allocation fails, `out`
+    /// still begins with what it held.
     fn put(value: &Self::Value, out: &mut Vec<u8>) -> Result<(), NoMemory>
         requires { Fits value.now }
         ensures { Puts (Self.format.spelling value.now) out.old result out.new };
@@ -149,7 +149,7 @@ pub fn put_optional<F: WriteField>(
     }
 }
 
-/// The error of a list, one item of which was not read for this reason.
+/// The error of a list in which one item was not read for this reason.
 fn error_of_list<A: ReadError, B: ReadMemoryError>(error: A) -> B
     ensures { B.points result ≡ A.points error }
 {
@@ -171,7 +171,8 @@ fn item_at<F: Field, E: ReadMemoryError>(
     }
 }
 
-/// Reads `count` values, one after another. The list has its own error type: it takes memory, which its items may not.
+/// Reads `count` values, one after another. The list has its own error type: it allocates memory, which its items may
+/// not do.
 pub fn items_at<F: Field, E: ReadMemoryError>(
     alloc: Global,
     needs: F::Needs,

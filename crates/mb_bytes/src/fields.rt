@@ -1,4 +1,4 @@
-//! Single fields of records: magic words, numbers within bounds, flags, names, and bytes after their number.
+//! Single fields of records: magic words, numbers within bounds, flags, names, and length-prefixed bytes.
 //!
 //! Each reader is part of a larger one. `BadRecord` has the offset of the field that lacks bytes or is not allowed; the
 //! cursor may then stand anywhere.
@@ -13,7 +13,7 @@ ghost use Rattle.mb_bytes.specs.Puts.{Puts};
 use crate::{Cursor, put_slice, put_u8, put_u16, put_u32};
 use mb_model::{BadRecord, NoMemory};
 
-/// The word by which a kind of record is known: these four bytes and no others.
+/// The magic word of a kind of record: these four bytes and no others.
 pub fn word_at(cursor: &mut Cursor, word: &[u8; 4]) -> Result<(), BadRecord>
     ensures { Reads bad_at (mark word.now) cursor.old result cursor.new }
 {
@@ -25,7 +25,7 @@ pub fn word_at(cursor: &mut Cursor, word: &[u8; 4]) -> Result<(), BadRecord>
     Ok(())
 }
 
-/// Whether every byte prints and is no space, as in the name of a secret.
+/// Whether every byte is printable ASCII and no space, as in the name of a secret.
 pub fn is_name(bytes: &[u8]) -> bool
     ensures { result ≡ is_name bytes.now }
 {
@@ -83,7 +83,7 @@ pub fn flag_at(cursor: &mut Cursor) -> Result<bool, BadRecord>
     }
 }
 
-/// The bytes after their number, which has one byte and is from `least` to `most`.
+/// The bytes after their length, a number of one byte, from `least` to `most`.
 pub fn bytes_after_u8<'a>(
     cursor: &mut Cursor<'a>,
     least: u8,
@@ -95,7 +95,7 @@ pub fn bytes_after_u8<'a>(
     Ok(cursor.take_slice(length as u32)?)
 }
 
-/// The bytes after their number, which has two bytes and is from `least` to `most`.
+/// The bytes after their length, a number of two bytes, from `least` to `most`.
 pub fn bytes_after_u16<'a>(
     cursor: &mut Cursor<'a>,
     least: u16,
@@ -107,7 +107,7 @@ pub fn bytes_after_u16<'a>(
     Ok(cursor.take_slice(length as u32)?)
 }
 
-/// The bytes after their number, which has four bytes and is from `least` to `most`.
+/// The bytes after their length, a number of four bytes, from `least` to `most`.
 pub fn bytes_after_u32<'a>(
     cursor: &mut Cursor<'a>,
     least: u32,
@@ -126,7 +126,7 @@ pub fn put_flag(out: &mut Vec<u8>, value: bool) -> Result<(), NoMemory>
     put_u8(out, value as u8)
 }
 
-/// Appends the number of the bytes, in one byte, and the bytes.
+/// Appends the length of the bytes, in one byte, and the bytes.
 pub fn put_after_u8(out: &mut Vec<u8>, bytes: &[u8]) -> Result<(), NoMemory>
     requires { length bytes.now < 256 }
     ensures { Puts ((number w8).spelling (length bytes.now) ++ bytes.now) out.old result out.new }
@@ -135,7 +135,7 @@ pub fn put_after_u8(out: &mut Vec<u8>, bytes: &[u8]) -> Result<(), NoMemory>
     put_slice(out, bytes)
 }
 
-/// Appends the number of the bytes, in two bytes, and the bytes.
+/// Appends the length of the bytes, in two bytes, and the bytes.
 pub fn put_after_u16(out: &mut Vec<u8>, bytes: &[u8]) -> Result<(), NoMemory>
     requires { length bytes.now < 65536 }
     ensures { Puts ((number w16).spelling (length bytes.now) ++ bytes.now) out.old result out.new }
@@ -144,7 +144,7 @@ pub fn put_after_u16(out: &mut Vec<u8>, bytes: &[u8]) -> Result<(), NoMemory>
     put_slice(out, bytes)
 }
 
-/// Appends the number of the bytes, in four bytes, and the bytes.
+/// Appends the length of the bytes, in four bytes, and the bytes.
 pub fn put_after_u32(out: &mut Vec<u8>, bytes: &[u8]) -> Result<(), NoMemory>
     requires { length bytes.now < 2 ^ 32 }
     ensures { Puts ((number w32).spelling (length bytes.now) ++ bytes.now) out.old result out.new }

@@ -3,9 +3,9 @@
 //! Numbers are big-endian. The contracts speak of the formats of `mb_format`: `specs/Reads.antt` says what a reader of
 //! a format gives, `specs/Puts.antt` what a writer appends. Readers and writers of whole records, in the crates above,
 //! have the same contracts and are composed of these by `?`. Fields that several of those records share stand here too:
-//! magic words, numbers within bounds, flags, names, bytes after their number, keys, trust and kinds of keys. A record
-//! is a type with `Field`, which says how one value is read; what other crates call then follows (`read_whole`,
-//! `write_field`, ..).
+//! magic words, numbers within bounds, flags, names, length-prefixed bytes, keys, trust and kinds of keys. A record is
+//! a type that implements `Field`, which says how one value is read; the calls for other crates then follow
+//! (`read_whole`, `write_field`, ..).
 #![tactic(auto)]
 
 mod cursor;

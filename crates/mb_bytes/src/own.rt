@@ -93,7 +93,7 @@ impl WriteField for u32 {
     }
 }
 
-/// Any N bytes.
+/// N arbitrary bytes.
 impl<const N: usize> Field for [u8; N] {
     ghost use Rattle.mb_format.specs.Combinators.{raw};
     ghost use Rattle.mb_format.proofs.Fields.{raw_exact};

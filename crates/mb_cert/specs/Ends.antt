@@ -3,7 +3,7 @@ use Rattle.std.specs.Prelude.{ℕ, Option, Some, None}
 use Rattle.mb_cert.specs.declared.end.ChainEnd.{ChainEnd}
 use Rattle.mb_cert.specs.declared.end.ChainEnd.TheVariants.{BadChain, NoMemory}
 
--- the offset at which an error points, and None where an allocation failed
+-- the offset to which an error points, or None if an allocation failed
 abbrev pub chain_at : ChainEnd → Option ℕ
 chain_at (BadChain at) = Some at
 chain_at NoMemory = None

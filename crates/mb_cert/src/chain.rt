@@ -18,7 +18,7 @@ use mb_layout::EntryField;
 use mb_model::{BadRecord, Chain, ENTRY_LIMIT, Log, NoMemory, SignedEntry};
 use std::alloc::Global;
 
-/// The word by which a chain is known.
+/// The word with which the bytes of a chain begin.
 const WORD: [u8; 4] = *b"MBC1";
 
 /// The chain that all of the bytes spell, at most 4,194,304 of them.

@@ -18,7 +18,7 @@ use std::alloc::Global;
 pub enum StatementLineEnd {
     /// The first line is not that of a statement, or a second line follows it.
     BadLine {
-        /// The number of the first such line: 1, also if the text has no line, or 2.
+        /// The number of the first such line: 1 (for a text without lines too), or 2.
         line: u32,
     },
     /// An allocation failed.
@@ -28,7 +28,7 @@ pub enum StatementLineEnd {
 /// The statement of the text, whose one line is its bytes in hexadecimal. The line may lack its LF.
 ///
 /// Errors: `BadLine` with 1 if there is no line or the first is not that of a statement, and with 2 if another line
-/// follows that of a statement, be it empty; and `NoMemory`.
+/// follows that of a statement, even an empty one; and `NoMemory`.
 pub fn read_statement_line(alloc: Global, text: &[u8]) -> Result<Statement, StatementLineEnd>
     ensures read { ReadsStatementLine text.now result }
     ensures spelled { IfOk result (λ statement. statement_format.Allowed statement) }

@@ -5,11 +5,11 @@ use Rattle.mb_format.specs.Format.{IsBytes, Format, Spells, FailsWhole}
 
 -- ---- as a whole
 
--- whatever bytes follow, they fail at this offset as a whole
+-- whatever bytes follow these, the whole fails at this offset
 pub record FailsHowever {A : Type 0} (f : Format A) (bytes : List ℕ) (offset : ℕ) : Type 0 where
   pub fails : (more : List ℕ) → IsBytes more → FailsWhole f (bytes ++ more) offset
 
--- with some bytes after them they spell a value as a whole
+-- some bytes after these make the whole spell a value
 pub record CanBecome {A : Type 0} (f : Format A) (bytes : List ℕ) : Type 0 where
   pub more : List ℕ
   pub are_bytes : IsBytes more
@@ -18,18 +18,18 @@ pub record CanBecome {A : Type 0} (f : Format A) (bytes : List ℕ) : Type 0 whe
 
 -- ---- from an offset on, by reading
 
--- whatever bytes follow, reading from the start on fails at this offset
+-- whatever bytes follow these, reading from the start on fails at this offset
 pub record FailsFrom {A : Type 0} (f : Format A) (bytes : List ℕ) (start offset : ℕ) : Type 0 where
   pub fails : (more : List ℕ) → IsBytes more → f.reads (bytes ++ more) start ≡ Err offset
 
--- with some bytes after them a value is read from the start on, and it ends with them
+-- some bytes after these complete a value, read from the start on, that ends where they end
 pub record CanEndFrom {A : Type 0} (f : Format A) (bytes : List ℕ) (start : ℕ) : Type 0 where
   pub more : List ℕ
   pub are_bytes : IsBytes more
   pub value : A
   pub reads : f.reads (bytes ++ more) start ≡ Ok (value, length (bytes ++ more))
 
--- some value is allowed, and its spelling is bytes
+-- the format allows some value, and the spelling of that value is bytes
 pub record IsInhabited {A : Type 0} (f : Format A) : Type 0 where
   pub value : A
   pub allowed : f.Allowed value

@@ -1,4 +1,4 @@
--- A reader of an order that is fed in pieces. What do its answers say of the bytes that it was fed so far?
+-- A reader that is fed an order in pieces. What do its answers say of the bytes that it was fed so far?
 use Rattle.std.specs.Prelude.{◌≡◌, ℕ, List, Result, Ok, Err}
 use Rattle.mb_model.specs.OrderFormat.{order_format}
 use Rattle.mb_command.specs.declared.reader.Taken.{Taken}
@@ -8,13 +8,13 @@ use Rattle.mb_command.specs.declared.end.OrderEnd.{OrderEnd}
 use Rattle.mb_command.specs.declared.end.OrderEnd.TheVariants.{BadText, NoMemory}
 use Rattle.mb_command.specs.Beginnings.{FailsHowever}
 
--- how a piece is answered after which these bytes were fed: BadText exactly where they fail whatever follows
+-- the answer to a piece that makes these the bytes fed: BadText exactly if they fail whatever follows
 abbrev pub Feeds : List ℕ → Result (Unit {0}) OrderEnd → Type 0
 Feeds fed (Ok u) = (at : ℕ) → FailsHowever order_format fed at → ⊥
 Feeds fed (Err (BadText at)) = FailsHowever order_format fed at
 Feeds fed (Err NoMemory) = Unit {0}
 
--- what is kept of these bytes: all of them, or how they were answered
+-- what is kept of these bytes: all of them, or the error that answered them
 abbrev pub IsKeptOf : Taken → List ℕ → Type 0
 IsKeptOf (Begun begun) fed = begun.text.items ≡ fed
 IsKeptOf (Ended end) fed = Feeds fed (Err end)

@@ -1,4 +1,4 @@
--- The parts of an order as the code has them, and the bytes of some. Which part of an order does a value stand for?
+-- The parts of an order as the code has them, and the bytes of some. Which part of an order does a value mean?
 use Rattle.std.specs.Prelude.{ℕ, ◌≤◌, List, ◌++◌}
 use Rattle.std.specs.Int.{w8}
 use Rattle.mb_format.specs.Combinators.{number}
@@ -10,14 +10,14 @@ use Rattle.mb_command.specs.declared.body.SignedPart.{SignedPart}
 abbrev pub body_in : SignedPart → Body
 body_in part = record { layer = part.layer; targets = part.targets; act = part.act }
 
--- its layer is one of the three
+-- the layer of a signed part is one of the three
 pub record HasLayer (part : SignedPart) : Type 0 where
   pub least : 1 ≤ part.layer
   pub most : part.layer ≤ 3
 
 -- ---- bytes
 
--- a target on a layer
+-- the bytes of a target that names a layer and a hash
 abbrev pub named_bytes : ℕ → ℕ → List ℕ → List ℕ
 named_bytes tag layer hash = (number w8).spelling tag ++ ((number w8).spelling layer ++ hash)
 

@@ -1,5 +1,5 @@
--- What looking over bytes from a cursor on gives, before all of them are there. Does a field end the order, or can it
--- still be completed?
+-- What a survey of bytes from a cursor on answers before all of them are there. Does a field fail whatever follows, or
+-- can it still be completed?
 use Rattle.std.specs.Prelude.{◌≡◌, ℕ, ◌≤◌, List, length, Option, Some, None, Result, Ok, Err}
 use Rattle.mb_format.specs.Format.{Format}
 use Rattle.mb_format.specs.Combinators.{between, items, led}
@@ -15,7 +15,7 @@ use Rattle.mb_command.specs.declared.stuck.Stuck.TheVariants.{Lost, Open}
 use Rattle.mb_command.specs.declared.stuck.Heading.{Heading}
 use Rattle.mb_command.specs.Beginnings.{FailsFrom, CanEndFrom, FailsHowever, CanBecome}
 
--- a value was read of which this is told, and the cursor stands after it
+-- a value was read that `Tells` holds of, and the cursor stands after it
 pub record IsFound {A : Type 0} (f : Format A) (old new : Cursor) (Tells : A → Type 0) : Type 0 where
   pub bytes : SameBytes old new
   pub value : A
@@ -27,26 +27,26 @@ abbrev pub IsStuck : {A : Type 0} → Format A → Cursor → Stuck → Cursor �
 IsStuck f old (Lost at) new = SameBytes old new × FailsFrom f old.bytes.now old.offset at
 IsStuck f old Open new = SameBytes old new × CanEndFrom f old.bytes.now old.offset
 
--- the result of looking over a value of the format: `Tells` relates what was answered to the value
+-- the result of a survey of a value of the format: `Tells` relates what was answered to the value
 abbrev pub Surveys : {A X : Type 0} → (X → A → Type 0) → Format A → Cursor → Result X Stuck → Cursor → Type 0
 Surveys Tells f old (Ok x) new = IsFound f old new (Tells x)
 Surveys Tells f old (Err e) new = IsStuck f old e new
 
--- nothing is told of the value
+-- an answer that says nothing of the value
 abbrev pub NothingTold : {A : Type 0} → Unit {0} → A → Type 0
 NothingTold u a = Unit {0}
 
--- the value is told
+-- an answer that is the value
 abbrev pub IsTold : {A : Type 0} → A → A → Type 0
 IsTold x a = a ≡ x
 
--- the kind and the layer of the signed part are told
+-- an answer that is the kind and the layer of the signed part
 pub record IsHeadingOf (heading : Heading) (body : Body) : Type 0 where
   pub kind : kind_of body.act ≡ heading.kind
   pub layer : body.layer ≡ heading.layer
   pub most : heading.layer ≤ 3
 
--- the layer of a countersignature is told
+-- an answer that is the layer of a countersignature
 abbrev pub IsLayerOf : ℕ → Countersignature → Type 0
 IsLayerOf layer c = c.layer ≡ layer
 

@@ -2,7 +2,7 @@
 
 ghost use Rattle.std.specs.Prelude.{◌≤◌, vec_len};
 
-/// Bytes that some more can complete, no more than `ORDER_LIMIT`.
+/// Bytes that some more can complete into an order, no more than `ORDER_LIMIT`.
 #[derive(Drop)]
 pub struct Begun {
     pub text: Vec<u8>,

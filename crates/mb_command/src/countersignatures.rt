@@ -26,8 +26,8 @@ pub fn signature_at(alloc: Global, cursor: &mut Cursor) -> Result<Bytes, OrderEn
     Ok(Bytes::copy(alloc, signature)?)
 }
 
-/// Reads a countersignature of a layer above `below`, low enough that each of those still to come has a layer of its own.
-/// `left` counts them and this one.
+/// Reads a countersignature of a layer above `below`, low enough that each of those still to come has a layer of its
+/// own. `left` counts them and this one.
 fn countersignature_at(
     alloc: Global,
     cursor: &mut Cursor,

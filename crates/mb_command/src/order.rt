@@ -18,7 +18,7 @@ use mb_bytes::{Cursor, Field, WriteField, write_field};
 use mb_model::{NoMemory, Order};
 use std::alloc::Global;
 
-/// A length that no order reaches, in bytes: no more than these are read of a text.
+/// A length that no order reaches, in bytes: no more than this many are read of a text.
 pub const ORDER_LIMIT: usize = 65_536;
 
 /// An order.
@@ -86,8 +86,8 @@ fn put_order(out: &mut Vec<u8>, order: &Order) -> Result<(), NoMemory>
     put_countersignatures(out, &order.countersignatures)
 }
 
-/// Appends the spelling of an order, which has one, or leaves `out` as it was. The answer is Ok if the capacity of `out`
-/// holds the spelling.
+/// Appends the spelling of an order, which has one, or leaves `out` as it was. `Ok` if the capacity of `out` holds the
+/// spelling.
 #[tactic(auto, using(crate::proofs::Sizes::sized_of))]
 pub fn write_order(order: &Order, out: &mut Vec<u8>) -> Result<(), NoMemory>
     requires { order_format.Allowed order.now }

@@ -20,9 +20,9 @@ use std::alloc::Global;
 /// What is kept of the bytes so far.
 #[derive(Drop)]
 enum Taken {
-    /// All of them.
+    /// All of the bytes.
     Begun(Begun),
-    /// How they were answered, which no bytes that follow change.
+    /// The error that answers the bytes, whatever bytes follow.
     Ended(OrderEnd),
 }
 
@@ -32,7 +32,7 @@ pub struct OrderReader {
     taken: Taken,
 }
 
-/// The first bytes of a piece, as many as are looked at beside those that are there.
+/// A prefix of a piece: as many bytes as are looked at beside the `there` bytes that are kept.
 fn looked_at(piece: &[u8], there: usize) -> &[u8]
     requires { there ≤ ORDER_LIMIT }
     ensures { result.now ≡ take (ORDER_LIMIT - there) piece.now }
@@ -79,7 +79,7 @@ fn ended(end: OrderEnd) -> (Taken, Result<(), OrderEnd>)
     (Taken::Ended(end), Err(end))
 }
 
-/// What is kept after one piece more, and how the piece is answered.
+/// What is kept after one more piece, and how the piece is answered.
 fn after(taken: Taken, piece: &[u8]) -> (Taken, Result<(), OrderEnd>)
     ensures keeps { (fed : List ℕ) → IsKeptOf taken fed → IsKeptOf result.0 (fed ++ piece.now) }
     ensures answers { (fed : List ℕ) → IsKeptOf taken fed → Feeds (fed ++ piece.now) result.1 }

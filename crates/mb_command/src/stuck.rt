@@ -1,4 +1,4 @@
-//! Why looking over the first bytes of an order came to no value, and what it has told by then.
+//! Why a survey of the first bytes of an order found no value, and what it has found by then.
 
 use mb_model::{BadRecord, OrderKind};
 

@@ -1,6 +1,6 @@
-//! Looking over an order, of which the last bytes may be missing.
+//! Surveys of an order whose last bytes may be missing.
 //!
-//! This takes no memory and skips raw bytes, so it costs some forty steps for the largest order.
+//! A survey takes no memory and skips raw bytes, so it costs some forty steps for the largest order.
 
 ghost use Rattle.std.specs.Prelude.{◌≤◌, ◌+◌, ◌-◌, length, IfOk};
 ghost use Rattle.mb_format.specs.Format.{IsBytes};
@@ -14,8 +14,8 @@ use crate::survey_body::survey_body;
 use crate::survey_fields::{survey_signature, survey_u8};
 use mb_bytes::Cursor;
 
-/// A countersignature of a layer above `below`, low enough that each of those still to come has a layer of its own.
-/// `left` counts them and this one. Answers its layer.
+/// Surveys a countersignature of a layer above `below`, low enough that each of those still to come has a layer of its
+/// own. `left` counts them and this one. Answers its layer.
 fn survey_countersignature(cursor: &mut Cursor, below: u8, left: u8) -> Result<u8, Stuck>
     requires { below + left ≤ 3 }
     ensures surveys { Surveys IsLayerOf (countersignature_format (record { below = below; left = left })) cursor.old result cursor.new }
@@ -26,7 +26,7 @@ fn survey_countersignature(cursor: &mut Cursor, below: u8, left: u8) -> Result<u
     Ok(layer)
 }
 
-/// The countersignatures of an order: a byte for their number, and as many, their layers ascending.
+/// Surveys the countersignatures of an order: a byte for their number, and as many, their layers ascending.
 fn survey_countersignatures(cursor: &mut Cursor, heading: Heading) -> Result<(), Stuck>
     requires { heading.layer ≤ 3 }
     ensures { Surveys NothingTold (countersignatures_above heading.kind heading.layer) cursor.old result cursor.new }
@@ -48,7 +48,7 @@ fn survey_order(cursor: &mut Cursor) -> Result<(), Stuck>
     survey_countersignatures(cursor, heading)
 }
 
-/// The offset at which bytes fail as an order whatever follows; none if some bytes can complete them.
+/// The offset at which bytes fail as an order whatever follows; `None` if some bytes can complete them.
 pub fn failing_offset(bytes: &[u8]) -> Option<u32>
     requires { length bytes.now ≤ FILE_LIMIT }
     ensures settled { IsSettled bytes.now result }

@@ -1,4 +1,4 @@
-//! Looking over what an order does, of which the last bytes may be missing.
+//! Surveys of what an order does; the last bytes may be missing.
 
 ghost use Rattle.std.specs.Prelude.{false};
 ghost use Rattle.std.specs.Int.{w8};
@@ -23,7 +23,7 @@ fn survey_trust(cursor: &mut Cursor) -> Result<Trust, Stuck>
     Ok(trust_at(cursor)?)
 }
 
-/// A trust other than this one.
+/// Surveys a trust other than this one.
 fn survey_other(cursor: &mut Cursor, one: Trust) -> Result<(), Stuck>
     ensures { Surveys NothingTold (listed w8 (other_rows one) trust_byte) cursor.old result cursor.new }
 {
@@ -48,7 +48,7 @@ fn survey_one(cursor: &mut Cursor) -> Result<(), Stuck>
     Ok(())
 }
 
-/// The trusts that an act gives its layer: one trust if they are equal, else both.
+/// Surveys the trusts that an act gives its layer: one trust if they are equal, else both.
 fn survey_given(cursor: &mut Cursor, differs: bool) -> Result<(), Stuck>
     ensures { Surveys NothingTold (given_trusts differs) cursor.old result cursor.new }
 {
@@ -84,7 +84,7 @@ fn survey_key_kind(cursor: &mut Cursor) -> Result<(), Stuck>
     Ok(())
 }
 
-/// What an order of the form does.
+/// Surveys what an order of the form does.
 pub fn survey_act(cursor: &mut Cursor, form: OrderForm) -> Result<(), Stuck>
     ensures { Surveys NothingTold (act_by form.kind form.differs) cursor.old result cursor.new }
 {

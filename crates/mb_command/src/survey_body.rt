@@ -1,4 +1,4 @@
-//! Looking over the signed part of an order, of which the last bytes may be missing.
+//! Surveys of the signed part of an order; the last bytes may be missing.
 
 ghost use Rattle.std.specs.Prelude.{◌≤◌};
 ghost use Rattle.std.specs.Int.{w8};
@@ -14,7 +14,7 @@ use crate::survey_fields::{survey_number, survey_raw, survey_u8};
 use mb_bytes::Cursor;
 use mb_model::{OrderForm, TARGET_LIMIT};
 
-/// A layer and a hash.
+/// Surveys a layer and a hash.
 fn survey_named(cursor: &mut Cursor) -> Result<(), Stuck>
     ensures { Surveys NothingTold (pair (between w8 1 3) (raw 32)) cursor.old result cursor.new }
 {
@@ -32,7 +32,7 @@ fn survey_target(cursor: &mut Cursor) -> Result<(), Stuck>
     }
 }
 
-/// The targets of an order, after a byte for their number.
+/// Surveys the targets of an order, after a byte for their number.
 fn survey_targets(cursor: &mut Cursor) -> Result<(), Stuck>
     ensures { Surveys NothingTold (counted (between w8 0 TARGET_LIMIT) target_format) cursor.old result cursor.new }
 {
@@ -64,7 +64,7 @@ fn survey_after_form(cursor: &mut Cursor, form: OrderForm) -> Result<Heading, St
     })
 }
 
-/// The signed part of an order.
+/// Surveys the signed part of an order, and answers its heading.
 pub fn survey_body(cursor: &mut Cursor) -> Result<Heading, Stuck>
     ensures { Surveys IsHeadingOf body_format cursor.old result cursor.new }
 {

@@ -1,6 +1,6 @@
-//! Looking over single fields whose last bytes may be missing.
+//! Surveys of single fields whose last bytes may be missing.
 //!
-//! A field of one byte is there or can follow. Of a number of several bytes the first ones may be there: they tell the
+//! A field of one byte is there or can follow. Of a number of several bytes the first ones may be there: they give the
 //! least number that it can become, with zeros for the bytes that are missing.
 
 ghost use Rattle.std.specs.Prelude.{ℕ, ◌≤◌, ◌<◌, ◌≡◌, ◌+◌, length, drop, get_or, IfOk};
@@ -16,7 +16,7 @@ use crate::stuck::Stuck;
 use mb_bytes::{Cursor, u8_between, u16_between, u32_between};
 use mb_model::{CODE_LIMIT, SIGNATURE_LIMIT};
 
-/// `count` bytes.
+/// Surveys `count` bytes.
 pub fn survey_raw(cursor: &mut Cursor, count: u32) -> Result<(), Stuck>
     ensures { Surveys NothingTold (raw count) cursor.old result cursor.new }
 {
@@ -26,7 +26,7 @@ pub fn survey_raw(cursor: &mut Cursor, count: u32) -> Result<(), Stuck>
     }
 }
 
-/// Any number of four bytes.
+/// Surveys an arbitrary number of four bytes.
 pub fn survey_number(cursor: &mut Cursor) -> Result<(), Stuck>
     ensures { Surveys NothingTold (number w32) cursor.old result cursor.new }
 {
@@ -36,7 +36,7 @@ pub fn survey_number(cursor: &mut Cursor) -> Result<(), Stuck>
     }
 }
 
-/// A number of one byte, from `least` to `most`.
+/// Surveys a number of one byte, from `least` to `most`.
 pub fn survey_u8(cursor: &mut Cursor, least: u8, most: u8) -> Result<u8, Stuck>
     requires { least ≤ most }
     ensures surveys { Surveys IsTold (between w8 least most) cursor.old result cursor.new }
@@ -93,7 +93,7 @@ fn begun_u32(cursor: &Cursor, most: u32) -> Stuck
     }
 }
 
-/// A number of four bytes, from `least`, which fits into a byte, to `most`.
+/// Surveys a number of four bytes, from `least`, which fits into a byte, to `most`.
 fn survey_u32(cursor: &mut Cursor, least: u32, most: u32) -> Result<u32, Stuck>
     requires bounds { least ≤ most }
     requires small { least < 256 }
@@ -140,7 +140,7 @@ fn begun_u16(cursor: &Cursor, most: u16) -> Stuck
     }
 }
 
-/// A number of two bytes, up to `most`.
+/// Surveys a number of two bytes, up to `most`.
 fn survey_u16(cursor: &mut Cursor, most: u16) -> Result<u16, Stuck>
     ensures { Surveys IsTold (between w16 0 most) cursor.old result cursor.new }
 {
@@ -150,7 +150,7 @@ fn survey_u16(cursor: &mut Cursor, most: u16) -> Result<u16, Stuck>
     Ok(u16_between(cursor, 0, most)?)
 }
 
-/// The code of a load, after its length.
+/// Surveys the code of a load, after its length.
 pub fn survey_code(cursor: &mut Cursor) -> Result<(), Stuck>
     ensures { Surveys NothingTold (sized (between w32 0 CODE_LIMIT)) cursor.old result cursor.new }
 {
@@ -158,7 +158,7 @@ pub fn survey_code(cursor: &mut Cursor) -> Result<(), Stuck>
     survey_raw(cursor, length)
 }
 
-/// A signature, after its length.
+/// Surveys a signature, after its length.
 pub fn survey_signature(cursor: &mut Cursor) -> Result<(), Stuck>
     ensures { Surveys NothingTold sized_signature_format cursor.old result cursor.new }
 {
@@ -166,7 +166,7 @@ pub fn survey_signature(cursor: &mut Cursor) -> Result<(), Stuck>
     survey_raw(cursor, length as u32)
 }
 
-/// The number of an LMS type.
+/// Surveys the number of an LMS type.
 fn survey_tree(cursor: &mut Cursor) -> Result<(), Stuck>
     ensures { Surveys NothingTold (table w32 tree_rows tree_type) cursor.old result cursor.new }
 {
@@ -174,7 +174,7 @@ fn survey_tree(cursor: &mut Cursor) -> Result<(), Stuck>
     Ok(())
 }
 
-/// The number of an LM-OTS type.
+/// Surveys the number of an LM-OTS type.
 fn survey_chains(cursor: &mut Cursor) -> Result<(), Stuck>
     ensures { Surveys NothingTold (table w32 chains_rows chains_type) cursor.old result cursor.new }
 {
@@ -182,7 +182,7 @@ fn survey_chains(cursor: &mut Cursor) -> Result<(), Stuck>
     Ok(())
 }
 
-/// A public key: its two type numbers, its identifier and the root of its tree.
+/// Surveys a public key: its two type numbers, its identifier and the root of its tree.
 pub fn survey_key(cursor: &mut Cursor) -> Result<(), Stuck>
     ensures { Surveys NothingTold public_key_format cursor.old result cursor.new }
 {

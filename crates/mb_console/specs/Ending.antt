@@ -1,4 +1,4 @@
--- What carries out a part of a command, before the line of its status is printed. Does each end have its line and its
+-- What carries out a part of a command, before the line of its end is printed. Does each end have its line and its
 -- status?
 use Rattle.std.specs.Prelude.{◌≡◌, ℕ, List, [], ◌++◌, codes, Option, None, Some, Result, Ok, Err}
 use Rattle.std.specs.Fmt.{decimal}
@@ -12,7 +12,7 @@ use Rattle.mb_model.specs.Commands.{role_word, place_words}
 use Rattle.mb_console.specs.declared.end.End.{End}
 use Rattle.mb_console.specs.declared.end.End.TheVariants as end
 
--- the number after a space, or nothing where there is none
+-- the number after a space, or nothing if there is none
 abbrev pub after_space : Option ℕ → List ℕ
 after_space None = []
 after_space (Some n) = codes " " ++ decimal n
@@ -51,7 +51,8 @@ abbrev pub ended_at : Outside → List Answered → Held → Outside → ℕ →
 ended_at before answered final after status =
     record { before = before; after = after; answered = answered; final = final; status = status }
 
--- A part is done and has ended so, or it will have ended so, once the line of its end is printed.
+-- A part is done, and `EndsSo` holds now with status 0; or it ends, and `EndsSo` holds once the line of its end is
+-- printed, with the status of the end.
 abbrev pub EndsOncePrinted : (Outside → ℕ → Type 0) → Result (Unit {0}) End → Outside → Type 0
 EndsOncePrinted EndsSo (Ok u) now = EndsSo now 0
 EndsOncePrinted EndsSo (Err why) now =
@@ -63,18 +64,18 @@ unfoldable pub CarriesOutRest :
 CarriesOutRest command past answered final before result now =
     EndsOncePrinted (λ after status. CommandEnds command past (ended_at before answered final after status)) result now
 
--- the same of a command that leaves the board alone, from any past on
+-- A command that leaves the board alone is carried out from any past on.
 abbrev pub CarriesOutAfter : Command → Outside → Result (Unit {0}) End → Outside → Type 0
 CarriesOutAfter command before result now =
     (past : Past) (final : Held) → CarriesOutRest command past past.answered final before result now
 
--- and from its beginning on
+-- A command that leaves the board alone is carried out from its beginning on.
 abbrev pub CarriesOut : Command → Outside → Result (Unit {0}) End → Outside → Type 0
 CarriesOut command before result now = (final : Held) → CarriesOutRest command at_first [] final before result now
 
 -- ---- inputs
 
--- the input was read, and its bytes stand for this value
+-- the input was read, and its bytes mean this value
 pub record HasInput {A : Type 0} (input : Input A) (before now : Outside) (value : A) : Type 0 where
   pub bytes : List ℕ
   pub read : HasRead before input.name bytes

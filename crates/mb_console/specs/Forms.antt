@@ -1,4 +1,4 @@
--- An input in a form: its role, the name of its file, and what its bytes stand for.
+-- An input in a form: its role, the name of its file, and what its bytes mean.
 use Rattle.std.specs.Prelude.{ℕ, List}
 use Rattle.mb_model.specs.declared.role.Role.{Role}
 use Rattle.mb_model.specs.declared.role.Place.{Place}
@@ -10,7 +10,7 @@ abbrev pub input_of : {A : Type 0} → Role → List ℕ
     → (List ℕ → A → Type 0) → (List ℕ → Place → Type 0) → Input A
 input_of role name Is FaultyAt = record { role = role; name = name; Is = Is; FaultyAt = FaultyAt }
 
--- the bytes are at fault at the place that is told; where an allocation failed nothing is said of them
+-- the bytes are at fault at the place that is answered; if an allocation failed, nothing is said of them
 abbrev pub IsUnread : (Place → Type 0) → Unread → Type 0
 IsUnread FaultyAt (unread.At place) = FaultyAt place
 IsUnread FaultyAt unread.NoMemory = Unit {0}

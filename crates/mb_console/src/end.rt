@@ -19,7 +19,7 @@ pub type ShortLine = ArrayString<LINE_LIMIT>;
 /// The words for the place where an input is at fault.
 type PlaceWords = ArrayString<20>;
 
-/// A line of any length, without its LF, with room for that.
+/// A line of any length, without its LF, with room for the LF.
 #[derive(Drop)]
 pub struct LongLine {
     line: Vec<u8>,
@@ -106,7 +106,7 @@ pub fn stop<H: Host>(host: &mut H, end: End) -> u8
     status
 }
 
-/// The exit status.
+/// The exit status of an end.
 fn status(end: &End) -> u8
     ensures { result ≡ end_status end.now }
 {
@@ -120,7 +120,7 @@ fn status(end: &End) -> u8
     }
 }
 
-/// Prints the line.
+/// Prints the line of an end.
 fn say<H: Host>(host: &mut H, end: End)
     ensures { SaysLine (end_line end) (H.outside host.old) (H.outside host.new) }
 {
@@ -137,7 +137,7 @@ fn say<H: Host>(host: &mut H, end: End)
     }
 }
 
-/// Prints the line that tells what is wrong with an input, in at most 20 bytes.
+/// Prints the line that says what is wrong with an input: its role, and `what`, of at most 20 bytes.
 fn say_input<H: Host>(host: &mut H, role: Role, what: &str)
     requires { length what.now ≤ 20 }
     ensures { SaysLine (input_line role what.now) (H.outside host.old) (H.outside host.new) }
@@ -168,7 +168,7 @@ fn say_text<H: Host>(host: &mut H, text: &[u8])
     let _ = host.print(text);
 }
 
-/// The number after a space, or nothing where there is none.
+/// The number after a space, or nothing if there is none.
 fn after_space(number: Option<u32>) -> PlaceWords
     ensures words { result.bytes ≡ after_space number }
     ensures short { length result.bytes ≤ 20 }
@@ -223,7 +223,7 @@ fn place_words(place: Place) -> PlaceWords
     }
 }
 
-/// The words themselves.
+/// The words, at most 8 bytes, and nothing after them.
 fn words_of(words: &str) -> PlaceWords
     requires { length words.now ≤ 8 }
     ensures words { result.bytes ≡ words.now }
@@ -234,7 +234,7 @@ fn words_of(words: &str) -> PlaceWords
     text
 }
 
-/// The words, and then a number.
+/// The words, at most 8 bytes, and then a number.
 fn with_number(words: &str, number: u32) -> PlaceWords
     requires { length words.now ≤ 8 }
     ensures words { result.bytes ≡ words.now ++ decimal number }

@@ -17,7 +17,7 @@ use std::alloc::Global;
 /// Why bytes were not read in a form.
 #[derive(Clone, Copy, Debug, PartialEq, Eq)]
 pub enum Unread {
-    /// They are at fault at this place.
+    /// The bytes are at fault at this place.
     At(Place),
     /// An allocation failed.
     NoMemory,
@@ -33,7 +33,7 @@ impl From<NoMemory> for Unread {
     }
 }
 
-/// A form of inputs: for what the bytes of a file stand, and at which place they are at fault.
+/// A form of inputs: what the bytes of a file mean, and at which place they are at fault.
 pub trait Form: Drop {
     /// What is read from bytes in this form.
     type Value: Drop;
@@ -48,8 +48,7 @@ pub trait Form: Drop {
 
     ghost Keeps: { Self.Value → Type 0 };
 
-    /// What the bytes stand for, at most 4,194,304 of them. Else the place at which they are at fault, or an allocation
-    /// failed.
+    /// What the bytes mean, at most 4,194,304 of them. Else the place at which they are at fault, or `NoMemory`.
     fn read(self, alloc: Global, bytes: Vec<u8>) -> Result<Self::Value, Unread>
         requires fits { length bytes.items ≤ FILE_LIMIT }
         requires bytes { IsBytes bytes.items }

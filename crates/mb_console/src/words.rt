@@ -1,4 +1,4 @@
-//! The words of a command line: whether they call a command, and what the words after its name stand for.
+//! The words of a command line: whether they call a command, and what the words after its name mean.
 
 ghost use Rattle.std.specs.Prelude.{◌≡◌, ◌↔◌, ◌∷◌, ◌++◌, ◌+◌, ◌≤◌, ℕ, List, IsTrue, MatchOption, length, map, true, string_bytes};
 ghost use Rattle.arrayvec.specs.ArrayVec.{array_vec_len};
@@ -25,7 +25,7 @@ pub enum Kind {
 /// A word after a command's name: how `--help` shows it, and of which kind it is.
 pub type Word = (&'static str, Kind);
 
-/// What a word stands for.
+/// What a word means.
 #[derive(Clone, Copy)]
 pub enum Argument<'a> {
     /// The name of a file.
@@ -42,10 +42,10 @@ impl Default for Argument<'_> {
     }
 }
 
-/// What the words after a command's name stand for, in their order.
+/// What the words after a command's name mean, in their order.
 pub type Arguments<'a> = ArrayVec<Argument<'a>, WORD_LIMIT>;
 
-/// What the words after this name stand for, each a word of its kind, at most 8; `None` if the words are any others.
+/// What the words after this name mean, each a word of its kind, at most 8; `None` if the words are any others.
 pub fn arguments_of<'a>(name: &str, kinds: &[Word], words: &'a [String]) -> Option<Arguments<'a>>
     requires { length kinds.now ≤ WORD_LIMIT }
     ensures { MatchOption result
@@ -63,7 +63,7 @@ pub fn arguments_of<'a>(name: &str, kinds: &[Word], words: &'a [String]) -> Opti
     }
 }
 
-/// AppendsWords what the words stand for, if each is a word of its kind; else some of them may have been appended.
+/// Appends what the words mean. `true` if each is a word of its kind; else some of them may have been appended.
 fn read_words<'a>(kinds: &[Word], words: &'a [String], arguments: &mut Arguments<'a>) -> bool
     requires { array_vec_len arguments.old + length kinds.now ≤ WORD_LIMIT }
     ensures { AppendsWords (map (λ w. w.1) kinds.now) (map string_bytes words.now) arguments.old.items result arguments.new.items }
@@ -81,7 +81,7 @@ fn read_words<'a>(kinds: &[Word], words: &'a [String], arguments: &mut Arguments
     }
 }
 
-/// What a word of this kind stands for; `None` if it is no word of the kind.
+/// What a word of this kind means; `None` if it is no word of the kind.
 fn argument_of<'a>(kind: Kind, word: &'a str) -> Option<Argument<'a>>
     ensures { MatchOption result
         ((argument : Meant) → IsWordFor kind word.now argument → ⊥)

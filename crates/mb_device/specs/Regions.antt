@@ -1,4 +1,4 @@
--- The events by which layers use their regions. What is the outcome of such a use, wherever control is?
+-- The events in which layers use their regions. What is the outcome of such a use, wherever control is?
 use Rattle.std.specs.Prelude.{ℕ}
 use Rattle.mb_model.specs.declared.event.Event.{Event}
 use Rattle.mb_model.specs.declared.event.Event.TheVariants as event
@@ -6,7 +6,7 @@ use Rattle.mb_model.specs.declared.reply.Reply.TheVariants as reply
 use Rattle.mb_model.specs.declared.state.State.{State}
 use Rattle.mb_model.specs.LayerEvents.{Outcome, put_event, get_event, drop_event, sign_event}
 
--- the event is one by which a layer uses its region
+-- the event is a layer's use of its region
 abbrev pub IsLayerEvent : Event → Type 0
 IsLayerEvent (event.Put L name value) = Unit {0}
 IsLayerEvent (event.Get L name) = Unit {0}

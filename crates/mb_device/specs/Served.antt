@@ -1,4 +1,4 @@
--- What serving the events of a board comes to. Is each event answered, once and in order, by one step of the machine?
+-- The result of serving the events of a board. Is each event answered, once and in order, by one step of the machine?
 use Rattle.std.specs.Prelude.{◌≡◌, ◌≢◌, ◌⊎◌, ◌++◌, List, [], map}
 use Rattle.mb_model.specs.declared.event.Answered.{Answered}
 use Rattle.mb_model.specs.Acknowledged.{Shows, AreWiping}
@@ -7,8 +7,8 @@ use Rattle.mb_model.specs.Clean.{Clean}
 use Rattle.mb_model.specs.Machine.{World, Run, off}
 use Rattle.mb_model.specs.Valid.{Valid}
 
--- All events that waited were answered, in order, by a run from a world; and what the board holds then shows the world
--- to which it led.
+-- All waiting events were answered, in order, by a run from this world, and the board then holds the world to which the
+-- run led.
 pub record IsServedFrom (world : World) (before after : Ledger) (held : Held) : Type 0 where
   pub more : List Answered
   pub grown : after.answered ≡ before.answered ++ more
@@ -19,6 +19,6 @@ pub record IsServedFrom (world : World) (before after : Ledger) (held : Held) : 
   pub shown : Shows held last
   pub valid : Valid last.state
   pub bytes : AreBytes held.memory
-  -- no secret lies in the memory but those of the state: while power is on, and while it is off if no power loss has
+  -- the memory holds no secrets but those of the state: while power is on, and while it is off if no power loss has
   -- stopped the device since it last booted or was tampered with
   pub clean : (held.phase ≢ off) ⊎ AreWiping more → Clean held.memory.bbram last.state

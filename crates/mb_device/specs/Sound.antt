@@ -23,7 +23,7 @@ pub record IsRunning (r : ℕ) (running : Running) (world : World) : Type 0 wher
   pub live : world.state ≡ Some state
   pub knows : Knows running.known state
 
--- what a device remembers fits a world
+-- what the device remembers fits the world
 abbrev pub Fits : Device → World → Type 0
 Fits (device.Off state) world = world.phase ≡ off
 Fits (device.Dead state) world = world.phase ≡ dead
@@ -31,22 +31,22 @@ Fits (device.One state running) world = IsRunning 1 running world
 Fits (device.Two state running) world = IsRunning 2 running world
 Fits (device.Three state running) world = IsRunning 3 running world
 
--- The board holds this world, which a device can have. While power is on, its memory is clean. And what the device
--- remembers fits.
+-- A sound device: its board holds this world, which a device can have, the memory is clean while power is on, and what
+-- the device remembers fits the world.
 pub record IsSoundDevice (device : Device) (held : Held) (world : World) : Type 0 where
   pub shown : Shows held world
   pub valid : Valid world.state
   pub clean : held.phase ≢ off → Clean held.memory.bbram world.state
   pub fits : Fits device world
 
--- so it is for some world
+-- the device is sound for some world
 pub record HasSound (device : Device) (held : Held) : Type 0 where
   pub world : World
   pub sound : IsSoundDevice device held world
 
 -- ---- one event
 
--- what a board holds that has handed out an event
+-- what a board holds once it has handed out an event
 abbrev pub taken : Event → Held → Held
 taken event.Off held = record held { phase = off }
 taken event.Tamper held =
@@ -61,20 +61,20 @@ taken (event.Get L name) held = held
 taken (event.Drop L name) held = held
 taken (event.Sign L key message) held = held
 
--- the event has been handed out by a board that held a world before, and is one of a script
+-- the device was sound before the board handed out this event, which is one of a script
 pub record CanStep (device : Device) (event : Event) (now : Held) : Type 0 where
   pub before : Held
   pub has : HasSound device before
   pub taken_so : now ≡ taken event before
   pub script : IsScriptEvent event
 
--- the answer makes one step of the machine to the world that the board now holds
+-- the event with this answer is one step of the machine from this world, to one for which the device is now sound
 pub record Steps (world : World) (event : Event) (answer : Reply) (device : Device) (now : Held) : Type 0 where
   pub next : World
   pub step : Step world event answer next
   pub sound : IsSoundDevice device now next
 
--- so it does from each world that the board can have held
+-- the answer is one step of the machine, from each world for which the device was sound before
 abbrev pub StepsFrom : Device → Held → Event → (Device × Reply) → Held → Type 0
 StepsFrom before old event told now =
     (world : World) → IsSoundDevice before old world → Steps world event told.1 told.0 now

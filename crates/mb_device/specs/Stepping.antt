@@ -1,4 +1,4 @@
--- How single events are answered. Does an answer tell of everything that was written?
+-- How single events are answered. Does an answer report everything that was written?
 use Rattle.std.specs.Prelude.{◌≡◌, false, Result, Ok, Err}
 use Rattle.mb_model.specs.declared.event.Event.{Event}
 use Rattle.mb_model.specs.declared.event.Event.TheVariants as event
@@ -20,7 +20,7 @@ status_known known =
     let three = layer_standing layers 3 in
     reply.Status known.serial known.figures.number known.figures.length one two three
 
--- whether power failed in an event that was answered so
+-- whether the answer reports a power loss
 abbrev pub stop_told : Reply → Result (Unit {0}) (Unit {0})
 stop_told reply.Stopped = Err tt
 stop_told other = Ok tt
@@ -37,7 +37,7 @@ IsOff (device.One state running) = ⊥
 IsOff (device.Two state running) = ⊥
 IsOff (device.Three state running) = ⊥
 
--- at a boot this holds
+-- if the event is a boot, this holds
 abbrev pub IfBoot : Event → Type 0 → Type 0
 IfBoot event.Boot P = P
 IfBoot other P = Unit {0}

@@ -1,4 +1,4 @@
-//! How control passes from a layer to the next.
+//! How control passes from one layer to the next.
 
 ghost use Rattle.std.specs.Prelude.{◌≡◌, Ok};
 ghost use Rattle.mb_model.specs.declared.event.Event.TheVariants as event;

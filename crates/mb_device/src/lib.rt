@@ -1,8 +1,8 @@
 //! The device: from one event to the next.
 //!
-//! This crate owns what a device is between two events, the answer to each event in each phase, and the serving of
-//! all events of a board, each by one step of the machine. A device is taken by value and given back, since its
-//! state cannot be copied.
+//! This crate owns what a device is between two events, the answer to each event in each phase, and the serving of all
+//! events of a board, each by one step of the machine. A device is taken by value and given back, since its state
+//! cannot be copied.
 #![tactic(auto)]
 
 mod control;

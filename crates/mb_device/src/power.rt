@@ -97,8 +97,8 @@ impl Device {
         }
     }
 
-    /// Turns the board's power off between two events; it may be off already. The memory, the events and answers, and the
-    /// meter stay as they are.
+    /// Turns the board's power off between two events; it may be off already. The memory, the events and answers, and
+    /// the meter stay as they are.
     pub fn shut<B: Board>(self, b: &mut B)
         ensures power { (B.seen b.new).power ≡ false }
         ensures switched { IsSwitched (B.seen b.old) (B.seen b.new) }

@@ -26,7 +26,7 @@ use mb_region::Named;
 use std::alloc::Global;
 use std::sync::ledger::Ledger;
 
-/// Does what the event asks with the region of `L`, whose layer may run.
+/// Carries out the event in the region of `L`, whose layer may run.
 fn ask<S: Reaches<L>, L: Named, B: Board, C: Ledger>(
     alloc: Global,
     s: S,
@@ -107,7 +107,7 @@ fn use_at<S: Reaches<L> + Runs, L: Named, B: Board, C: Ledger>(
 }
 
 impl Device {
-    /// Answers a layer's use of its region. The layer has to be allowed to run, and control must not be past it.
+    /// Answers a layer's use of its region. Refuses it if the layer may not run, or if control is past the layer.
     pub(crate) fn use_region<B: Board, C: Ledger>(
         self,
         alloc: Global,

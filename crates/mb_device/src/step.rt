@@ -22,10 +22,10 @@ use std::sync::ledger::Ledger;
 impl Device {
     /// Answers an event that the board has handed out. Together with the handing out, the answer is one step of the
     /// machine, from the world that the board held before. Nothing is written if the event is refused, if an allocation
-    /// fails, or if the answer tells of no change; and nothing at the boot of a clean memory. Each sector that holds a
-    /// signed entry of the log keeps its bytes, also if power fails, and so do the sectors 50 to 63 and 192 to 255, which
-    /// hold nothing. There are at most 35 write calls and 139,744 hashes. The answer is `Stopped` exactly if a write
-    /// call was stopped.
+    /// fails, or if the answer reports no change, nor at the boot of a clean memory. Each sector that holds a signed
+    /// entry of the log keeps its bytes, even if power fails, and so do sectors 50 to 63 and 192 to 255, which hold
+    /// nothing. There are at most 35 write calls and 139,744 hashes. The answer is `Stopped` exactly if a write call
+    /// was stopped.
     #[tactic(auto, using(mb_device_orders::proofs::Spared::same_flash_spared, mb_device_orders::proofs::Spared::same_memory_spared))]
     pub fn step<B: Board, L: Ledger>(
         self,

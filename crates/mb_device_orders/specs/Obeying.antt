@@ -19,7 +19,7 @@ pub data IsOrderAnswered
   answer_tells : (next : State) → OrderStep state text draw answer next → IsReady after next → Knows known next →
       IsOrderAnswered state text draw known answer before after
 
--- Power failed while an order was obeyed: it counts wholly or not at all.
+-- Power failed while an order was obeyed: the order counts wholly or not at all.
 pub record IsOrderCut (state : State) (text draw : List ℕ) (after : Memory) : Type 0 where
   pub number : ℕ
   pub size : ℕ

@@ -52,12 +52,12 @@ pub record PassesAs (state : State) (text draw : List ℕ) (judged : Judged) : T
   pub passes : Passes (view_of state) judged.order
   pub plan : judged.plan ≡ plan_by (view_of state) judged.order draw
 
--- the result of judging bytes in this state: an order that passes, or an answer by which nothing changes
+-- the result of judging bytes in this state: an order that passes, or an answer that changes nothing
 abbrev pub JudgesText : State → List ℕ → List ℕ → Result Judged Reply → Type 0
 JudgesText state text draw (Ok judged) = PassesAs state text draw judged
 JudgesText state text draw (Err answer) = (answer ≡ reply.NoMemory) ⊎ OrderStep state text draw answer state
 
--- some bytes spelled this order, which passes in a state with which the memory is ready
+-- the memory is ready with a state in which this order passes, some bytes spell it, and the root is the current one
 pub record HasPassed (memory : Memory) (judged : Judged) : Type 0 where
   pub state : State
   pub text : List ℕ
@@ -81,14 +81,14 @@ pub record CanTake (layer : ℕ) (act : Act) (entries : List Entry) (bytes : Lis
   pub entries_allowed : All entry_format.Allowed entries
   pub short : BringsShortCode act
 
--- this code of the layer is what the room has to be written, or none is
+-- the code that the room has to write is this code of the layer, or none
 abbrev pub IsToWrite : Room → ℕ → Option (List ℕ) → Type 0
 IsToWrite room layer None = (room.code_layer ≡ 0) × (room.code.items ≡ [])
 IsToWrite room layer (Some code) = (room.code_layer ≡ layer) × (room.code.items ≡ code)
 
--- The memory is ready with this state, in which the order passes. The root commits the order; it names the other header
--- area than the current root does. The room has what is written to the flash before: the header after the order, whose
--- texts spell the new entries, and the code that the order brings.
+-- The memory is ready with this state, in which the order passes. The root record commits the order, and names the
+-- header area that the current one does not name. The room holds what is written to the flash before it: the header
+-- after the order, whose texts spell the new entries, and the code that the order brings.
 pub record IsCommit
     (memory : Memory) (root : Root) (room : Room) (state : State) (order : Order) (draw : List ℕ) : Type 0 where
   pub ready : IsReady memory state
@@ -108,7 +108,7 @@ pub record IsCommit
       (header_after holds.public.header order.layer order.act first second)
   pub code : IsToWrite room order.layer (code_brought order.act)
 
--- it is the commit of some order
+-- the root record and what the room holds are the commit of some order
 pub record HasCommit (memory : Memory) (root : Root) (room : Room) : Type 0 where
   pub state : State
   pub order : Order

@@ -1,4 +1,4 @@
--- What a device remembers of its state while power is on. Does it stand in the memory?
+-- What a device remembers of its state while power is on. Does it agree with the memory?
 use Rattle.std.specs.Prelude.{◌≡◌, Option, IfSome}
 use Rattle.mb_model.specs.declared.state.State.{State}
 use Rattle.mb_model.specs.Board.{Memory}
@@ -10,7 +10,7 @@ use Rattle.mb_signer.specs.Tree.{IsTreeOf}
 use Rattle.mb_device_orders.specs.declared.remembering.Known.{Known}
 use Rattle.mb_device_orders.specs.declared.remembering.Trees.{Trees}
 
--- in this state, the tree is that of the device key, if it is kept
+-- in this state, the tree is that of the device key, if one is kept
 abbrev pub IsDeviceTree : Option KeptTree → State → Type 0
 IsDeviceTree kept state = IfSome kept (IsTreeOf state.device)
 

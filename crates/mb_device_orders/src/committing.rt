@@ -20,10 +20,10 @@ use mb_ratchet::{Off, R1, Up};
 use mb_signer::Bench;
 use std::sync::ledger::Ledger;
 
-/// Commits an order: writes its code and header, which the room holds, where they do not count yet, makes its root
-/// record current, which is when the order counts, and completes the order's pending work, by the trees on the bench.
-/// If power fails, the memory stands for the state before the order or for the state after it. No signed entry of the
-/// log is written to. There are at most 35 write calls and 70,946 hashes. Takes no memory.
+/// Commits an order. Writes its code and header, which the room holds, where they do not count yet; makes its root
+/// record current, which is when the order counts; and completes the order's pending work, with the trees on the bench.
+/// If power fails, the memory means the state before the order or the state after it. No signed entry of the log is
+/// written to. There are at most 35 write calls and 70,946 hashes. Takes no memory.
 #[tactic(auto, using(crate::proofs::Committed::header_there, crate::proofs::Committed::plan_is, crate::proofs::Committed::root_allowed))]
 pub fn commit<B: Board, L: Ledger>(
     up: Up<R1>,

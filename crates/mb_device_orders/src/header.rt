@@ -18,7 +18,7 @@ use mb_model::{Act, Bytes, Entry, Header, NoMemory, Order, Slot};
 use mb_segments::{StoredHeader, header_at, write_header};
 use std::alloc::Global;
 
-/// The slot of a layer that its header does not name; slot 1 if none is named.
+/// The slot of a layer that the header does not name; slot 1 if it names none.
 fn free_slot(slot: Slot) -> u8
     ensures { result ≡ free_slot slot }
 {
@@ -51,7 +51,7 @@ fn slot_left(old: Slot, own: bool, act: &Act) -> Slot
     if own { slot_after(old, act) } else { old }
 }
 
-/// The bytes of the entry at a place in a list; `None` if the list ends before.
+/// The bytes of the entry at a position in a list; `None` if the list is too short.
 fn text_at(alloc: Global, entries: &[Entry], place: usize) -> Result<Option<Bytes>, NoMemory>
     requires { All entry_format.Allowed entries.now }
     ensures { IfOk result (λ text. text ≡ slice_get (texts_of_entries entries.now) place) }
@@ -64,7 +64,7 @@ fn text_at(alloc: Global, entries: &[Entry], place: usize) -> Result<Option<Byte
     Ok(Some(Bytes::from_vec(bytes)))
 }
 
-/// The header after an order, whose entries, as texts, are not signed yet.
+/// The header after an order. The order's entries are in it as texts, not signed yet.
 fn header_after(
     old: &StoredHeader<'_>,
     order: &Order,
@@ -98,7 +98,7 @@ fn stored_header(sector: &[u8]) -> StoredHeader<'_>
     header
 }
 
-/// Replaces the header in `header` of the room by the header after the order, which appends these entries.
+/// Replaces the header in `room.header` by the header after the order, which appends these entries.
 pub(crate) fn put_header(
     alloc: Global,
     order: &Order,
@@ -124,7 +124,7 @@ pub(crate) fn put_header(
     Ok(())
 }
 
-/// Puts the code that an order brings into `code` of the room, and its layer into `code_layer`; no code and 0 if it
+/// Puts the code that an order brings into `room.code`, and its layer into `room.code_layer`; no code and 0 if it
 /// brings none. The room has the memory for it.
 pub(crate) fn put_code(order: &Order, room: &mut Room)
     requires { BringsShortCode order.now.act }

@@ -58,7 +58,7 @@ fn reply_for(end: JudgeEnd) -> Reply
     }
 }
 
-/// The figures by which an order is judged, of the state that the device remembers.
+/// The figures of the device's state that an order is judged by.
 #[tactic(auto, using(crate::proofs::Judgement::region_two, crate::proofs::Judgement::region_three))]
 fn view_now<B: Board>(up: &Up<R1>, b: &B, known: &Known, root: &Root, room: &mut Room) -> View
     requires up { IsUp 1 (B.seen b.now) }

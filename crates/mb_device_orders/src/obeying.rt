@@ -25,13 +25,13 @@ use std::alloc::Global;
 use std::sync::ledger::Ledger;
 
 /// Answers the bytes of an order: obeys it, or refuses it (bytes that are no order included). New keys are derived from
-/// `draw`. A device that has answered is ready and remembers its state. If power fails, the memory stands for the state
-/// before the order or for the state after it. No signed entry of the log is written to. Nothing is written for an
-/// order that is refused, nor if an allocation fails, which is an answer of its own. There are at most 35 write calls
-/// and 139,744 hashes.
+/// `draw`. A device that has answered is ready and remembers its state. If power fails, the memory means the state
+/// before the order or the state after it. No signed entry of the log is written to. Nothing is written for an order
+/// that is refused, nor if an allocation fails, which is an answer of its own. There are at most 35 write calls and
+/// 139,744 hashes.
 ///
-/// The order's entries are signed by the tree of the device key, if it is kept. Once an order is done, the tree of the
-/// device key that stands then is kept, and that of a region's key is kept no longer. If the order is refused or an
+/// The order's entries are signed with the tree of the device key, if it is kept. Once an order is done, the tree of
+/// the device key that is then current is kept, and that of a region's key is dropped. If the order is refused or an
 /// allocation fails, the trees stay as they are.
 #[tactic(auto, using(crate::proofs::Answered::has_passed))]
 pub fn obey<B: Board, L: Ledger>(

@@ -25,7 +25,7 @@ use mb_ratchet::{R1, Up};
 use mb_segments::{header_at, log_at};
 use mb_signer::{Bench, KeptTree};
 
-/// The trees of keys that a device keeps while power is on, to sign by again. They are public nodes: no seed is among
+/// The trees of keys that a device keeps while power is on, to sign with again. They are public nodes: no seed is among
 /// them.
 #[derive(Drop)]
 pub struct Trees {
@@ -60,7 +60,7 @@ pub struct Known {
 }
 
 impl Known {
-    /// Puts the tree of the device key on the bench, if it is kept. It is kept no longer then.
+    /// Moves the tree of the device key to the bench, if one is kept.
     pub(crate) fn lend(&mut self, device: &KeySeed, bench: &mut Bench)
         requires { IfSome self.old.trees.value.device (λ tree. IsTreeOf device.now tree) }
         ensures { self.new.serial ≡ self.old.serial }
@@ -71,7 +71,7 @@ impl Known {
     }
 }
 
-/// The number of signed entries by the header at the beginning of a sector; 0 if there is no header.
+/// The number of signed entries that the header at the beginning of a sector counts; 0 if there is no header.
 fn signed_in(sector: &[u8]) -> u32
     requires { length sector.now ≤ FILE_LIMIT }
     ensures signed { (header : Header) → BeginsAs header_format sector.now header
@@ -94,7 +94,7 @@ fn entry_in(sector: &[u8]) -> Option<Entry>
     read_entry(&mut cursor).ok()
 }
 
-/// The number of signed entries by the header in an area, 0 or 1; 0 if the area holds no header.
+/// The number of signed entries that the header in an area, 0 or 1, counts; 0 if the area holds no header.
 fn count_signed<B: Board>(b: &B, area: u8, room: &mut Room) -> u32
     requires powered { IsPowered (B.seen b.now) }
     requires area { area ≤ 1 }
@@ -134,8 +134,8 @@ fn figures_in<B: Board>(b: &B, signed: u32, room: &mut Room) -> Figures
     figures
 }
 
-/// Reads what the device remembers from its memory, which is ready. It keeps no tree: what `trees` holds is dropped, and
-/// its memory serves for those to come. Takes no memory.
+/// Reads what the device remembers from its memory, which is ready. No tree is kept: what `trees` holds is dropped, and
+/// its memory is used again. Takes no memory.
 #[tactic(auto, using(crate::proofs::Remembered::ready_root))]
 pub fn remember<B: Board>(_up: &Up<R1>, b: &B, trees: Box<Trees>, room: &mut Room) -> Known
     requires up { IsUp 1 (B.seen b.now) }

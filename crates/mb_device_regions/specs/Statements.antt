@@ -30,13 +30,13 @@ signed_statement_bytes seed index key serial number message = statement_format.s
   signature = signature_of seed index (statement_text serial key number message);
 })
 
--- the memory is ready with a state in which a tree that is kept is its key's
+-- the memory is ready with a state, in which a kept tree is that of the key for which it is kept
 pub record HasKeptTree (kept : Option RegionTree) (memory : Memory) : Type 0 where
   pub state : State
   pub ready : IsReady memory state
   pub own : IsKeptIn kept state
 
--- once a key has signed, its tree is kept
+-- once the key has signed, its tree is kept
 abbrev pub KeepsTree : {S E : Type 0} → Result (S × Reply) E → Option RegionTree → ℕ → ℕ → Type 0
 KeepsTree (Ok told) kept L key =
     (index : ℕ) (statement : List ℕ) → told.1 ≡ reply.Signed key index statement → IsKeptFor kept L key

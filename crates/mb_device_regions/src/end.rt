@@ -6,7 +6,7 @@ use mb_model::NoMemory;
 
 /// Why a secret was not put into a region.
 pub(crate) enum NotPut {
-    /// The region holds as many secrets as it can, all of other names.
+    /// The region holds as many secrets as it can, all with other names.
     Full,
     /// An allocation failed.
     NoMemory,

@@ -110,7 +110,7 @@ pub fn get_secret<S: Reaches<L>, L: Named, B: Board>(
     }
 }
 
-/// The stored region without the secret with the name; none if there is no such secret.
+/// The stored region without the secret with the name; `None` if there is no such secret.
 fn region_without<S: Reaches<L>, L: Named, B: Board>(
     alloc: Global,
     s: &S,

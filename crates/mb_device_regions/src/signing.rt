@@ -98,8 +98,8 @@ fn make_statement<Lg: Ledger>(
 /// the device's serial and configuration number. One more use of the key is stored before it signs, so that no index
 /// signs twice; if power fails, the use is stored or not. There are at most three write calls and 35,473 hashes.
 ///
-/// The key signs by its tree, which is kept in place of the one before: so there are at most 1,074 hashes while the same
-/// key signs. The tree that is kept has to be that of the key for which it is kept.
+/// The key signs with its tree, which is kept in place of the previous one, so that the same key signs again in at most
+/// 1,074 hashes. A kept tree has to be that of the key for which it is kept.
 pub fn sign_message<S: Reaches<L>, L: Named, B: Board, Lg: Ledger>(
     alloc: Global,
     s: S,

@@ -60,8 +60,8 @@ fn exchange<S: Reaches<L>, L: Named, B: Board>(
     wipe_region::<S, L, B>(s, b)
 }
 
-/// Makes this the region of the state for which the memory stands. If power fails, the memory stands for the state with
-/// the old region or with this one. There are at most three write calls.
+/// Makes this the region of the state that the memory means. If power fails, the memory means the state with the old
+/// region or with this one. There are at most three write calls.
 pub(crate) fn replace<S: Reaches<L>, L: Named, B: Board>(
     s: S,
     b: &mut B,

@@ -30,7 +30,7 @@ use Rattle.mb_fleet.specs.Showing.{Meets, IsChainAnswered}
 use Rattle.mb_fleet.specs.ItemFormat.{AreItems, ItemsFailAt}
 use Rattle.mb_fleet.specs.Serving.{answer_line, FleetStep, AreServed, IsTooLong}
 
--- the offset at which an error points, and None where an allocation failed
+-- the offset to which an error points; None if an allocation failed
 abbrev pub fleet_at : FleetReadEnd → Option ℕ
 fleet_at (reading.Bad bad) = Some bad.at
 fleet_at reading.NoMemory = None
@@ -40,7 +40,7 @@ answer_of (shown.Same serial n) = same serial n
 answer_of (shown.Added serial n) = newly_added serial n
 answer_of (shown.Extended serial n) = extended serial n
 
--- why a chain is not taken that the verifier does not answer: for its refusal, or for want of memory
+-- the end to which an error of the verifier leads: a refusal of the chain, or want of memory
 abbrev pub fleet_end_of : verifier.ChainRefusal → FleetEnd
 fleet_end_of (why.Form at) = end.Chain (why.Form at)
 fleet_end_of (why.Signature entry) = end.Chain (why.Signature entry)
@@ -53,7 +53,7 @@ fleet_end_of why.NotAlive = end.Chain why.NotAlive
 fleet_end_of why.NoMemory = end.NoMemory
 
 -- The result of `add` is the answer to a chain, and these are the rows afterwards. A refusal of the chain is never want
--- of memory, and where memory lacks the rows are as they were.
+-- of memory. If an allocation failed, the rows are as they were.
 abbrev pub AnswersChain : PublicKey → List Row → List ℕ → Result Added FleetEnd → List Row → Type 0
 AnswersChain maker rows bytes (Ok answer) after = IsChainAnswered maker rows bytes (answer_of answer) after
 AnswersChain maker rows bytes (Err (end.Chain refusal)) after =
@@ -66,7 +66,7 @@ AnswersChain maker rows bytes (Err (end.Fork serial place)) after =
 AnswersChain maker rows bytes (Err end.Full) after = IsChainAnswered maker rows bytes full after
 AnswersChain maker rows bytes (Err end.NoMemory) after = after ≡ rows
 
--- the same of a row that meets the rows, where no chain is refused
+-- a result is the answer to a row that meets the rows, and these are the rows afterwards; no chain is refused
 abbrev pub AnswersRow : List Row → Row → Result Added FleetEnd → List Row → Type 0
 AnswersRow rows row (Ok answer) after = Meets rows row (answer_of answer) after
 AnswersRow rows row (Err (end.Chain refusal)) after = ⊥
@@ -75,12 +75,12 @@ AnswersRow rows row (Err (end.Fork serial place)) after = Meets rows row (forked
 AnswersRow rows row (Err end.Full) after = Meets rows row full after
 AnswersRow rows row (Err end.NoMemory) after = after ≡ rows
 
--- where a chain is wrong, as the end of a line, if it is in one place
+-- the end of a refusal's line: where the chain is wrong, if it is wrong in one place
 abbrev pub refused_place_words : Option ℕ → List ℕ
 refused_place_words None = []
 refused_place_words (Some place) = codes " " ++ decimal place
 
--- the line that tells of this end is appended; want of memory has no line
+-- the line of this end is appended; want of memory has no line
 abbrev pub TellsEnd : FleetEnd → Vec ℕ → Result (Unit {0}) NoMemory → Vec ℕ → Type 0
 TellsEnd (end.Chain refusal) old result new =
     IfSome (chain_refusal_of refusal) (λ reason. Puts (line_with_lf (chain_refusal_line reason)) old result new)
@@ -96,19 +96,19 @@ pub record AppendsStep (maker : PublicKey) (rows : List Row) (item : Item) (old 
   pub step : FleetStep maker rows item lines after
   pub appended : new ≡ old ++ text_of lines
 
--- the chain of an item is no longer than a file
+-- the chain of an item is no longer than a file may be
 abbrev pub HasShortChain : Item → Type 0
 HasShortChain (Show chain) = length chain ≤ FILE_LIMIT
 HasShortChain (Find layer hash) = Unit {0}
 HasShortChain (Codes layer) = Unit {0}
 
--- the result of reading items: these are spelled, or the offset fails
+-- the result of reading items: the bytes spell these, or fail at this offset
 abbrev pub ReadsItems : List ℕ → Result (List Item) FleetReadEnd → Type 0
 ReadsItems bytes (Ok listed) = AreItems bytes listed
 ReadsItems bytes (Err (reading.Bad bad)) = ItemsFailAt bytes bad.at
 ReadsItems bytes (Err reading.NoMemory) = Unit {0}
 
--- the result of serving items is the text of the answers, or tells that it is too long
+-- the result of serving items: the text of the answers, or that this text is too long
 abbrev pub ServesItems : PublicKey → List Row → List Item → Result (List ℕ) ServeEnd → List Row → Type 0
 ServesItems maker rows listed (Ok text) after = AreServed maker rows listed text after
 ServesItems maker rows listed (Err serving.TooLong) after = IsTooLong maker rows listed

@@ -18,7 +18,7 @@ use Rattle.mb_fleet.specs.Ends.{HasShortChain}
 
 -- ---- values
 
--- a device whose serial and hashes repeat one byte each; its layer 2 has the code 9, repeated
+-- a device whose serial and hashes repeat one byte each; the hash of its layer 2's code repeats 9
 abbrev pub small_row : ℕ → List ℕ → Row
 small_row serial hashes = record {
   serial = replicate 16 serial;
@@ -53,12 +53,12 @@ pub record FleetBytesCounterExamples : Type 0 where
   pub nothing : (rows : List Row) → Spells register_format [] rows → ⊥
   pub twice : (bytes : List ℕ) → Spells register_format bytes (small_row 1 (5 ∷ []) ∷ small_row 1 (6 ∷ []) ∷ []) → ⊥
   pub unordered : AreOrdered (small_row 3 (5 ∷ []) ∷ small_row 1 (5 ∷ []) ∷ []) → ⊥
-  -- one item is not two, and is at fault nowhere
+  -- one item is not an empty list of items, and fails nowhere
   pub other_items : AreItems (3 ∷ 2 ∷ []) [] → ⊥
   pub not_at_fault : (offset : ℕ) → ItemsFailAt (3 ∷ 2 ∷ []) offset → ⊥
   -- an item fails at its layer, and not where it begins
   pub other_offset : ItemsFailAt (3 ∷ 4 ∷ []) 0 → ⊥
-  -- a chain that is longer than a file
+  -- a chain that is longer than a file may be
   pub long_chain : (chain : List ℕ) → length chain ≡ FILE_LIMIT + 1 → HasShortChain (Show chain) → ⊥
 
 -- ---- answers
@@ -71,7 +71,7 @@ pub record ShownExamples : Type 0 where
   pub longer : Meets two_rows (small_row 1 (5 ∷ 6 ∷ 7 ∷ [])) (extended (replicate 16 1) 3)
       (small_row 1 (5 ∷ 6 ∷ 7 ∷ []) ∷ small_row 3 (5 ∷ 6 ∷ []) ∷ [])
   pub shorter : Meets two_rows (small_row 3 (5 ∷ [])) (older (replicate 16 3) 2) two_rows
-  -- another second entry; more entries after it count for nothing
+  -- another second entry; entries after it make no difference
   pub fork : Meets two_rows (small_row 3 (5 ∷ 7 ∷ 8 ∷ [])) (forked (replicate 16 3) 1) two_rows
   -- no bytes are no chain
   pub no_chain : (maker : PublicKey) → IsChainAnswered maker two_rows [] (chain_refused (bad_form 0)) two_rows
@@ -86,7 +86,7 @@ pub record ShownCounterExamples : Type 0 where
   pub older_same : (after : List Row) → Meets two_rows (small_row 3 (5 ∷ [])) (same (replicate 16 3) 1) after → ⊥
   pub older_taken : (answer : Answer) → Meets two_rows (small_row 3 (5 ∷ [])) answer
       (small_row 1 (5 ∷ 6 ∷ []) ∷ small_row 3 (5 ∷ []) ∷ []) → ⊥
-  -- two devices do not fill a register, and a new one does not come last
+  -- two devices do not fill a register, and the new device 2 does not come last
   pub full_of_two : (after : List Row) → Meets two_rows (small_row 2 (5 ∷ [])) full after → ⊥
   pub out_of_order : (answer : Answer) → Meets two_rows (small_row 2 (5 ∷ [])) answer
       (small_row 1 (5 ∷ 6 ∷ []) ∷ small_row 3 (5 ∷ 6 ∷ []) ∷ small_row 2 (5 ∷ []) ∷ []) → ⊥
@@ -101,14 +101,14 @@ pub record QuestionExamples : Type 0 where
   pub answered : (maker : PublicKey) → AreServed maker two_rows (Codes 1 ∷ []) (line_with_lf (codes "codes 0")) two_rows
 
 pub record QuestionCounterExamples : Type 0 where
-  -- not one device alone, and not in descending order
+  -- more than one device is found, and not in descending order
   pub one_found : serials_with 2 (replicate 32 9) two_rows ≡ replicate 16 1 ∷ [] → ⊥
   pub descending : serials_with 2 (replicate 32 9) two_rows ≡ replicate 16 3 ∷ replicate 16 1 ∷ [] → ⊥
-  -- a code is not left out, counted once, or counted for no device
+  -- a code of two devices is neither left out nor counted once; a code of no device is not listed
   pub none_counted : AreCounts 2 two_rows [] → ⊥
   pub counted_once : AreCounts 2 two_rows (record { hash = replicate 32 9; count = 1 } ∷ []) → ⊥
   pub counted_for_none : AreCounts 1 two_rows (record { hash = replicate 32 9; count = 0 } ∷ []) → ⊥
-  -- no items have no answer, and are not too long
+  -- an empty list of items has no answers, and they are not too long; a question changes no row
   pub unasked : (maker : PublicKey) (after : List Row)
       → AreServed maker two_rows [] (line_with_lf (codes "codes 0")) after → ⊥
   pub questions_change_nothing : (maker : PublicKey) (text : List ℕ)

@@ -61,7 +61,7 @@ KeepsCodes old new = (hash : List ℕ) → HasCode old hash → HasCode new hash
 abbrev pub ListsSame : CodeIndex → CodeIndex → Type 0
 ListsSame old new = (hash : List ℕ) → serials_at new hash ≡ serials_at old hash
 
--- for this code, if there is one, these serials are to be listed in place of those that are
+-- the listing for this code, if there is one: the serials that the index lists for it, changed; the index has the code
 abbrev pub IsListingOf : CodeIndex → (List (List ℕ) → List (List ℕ)) → Option (List ℕ) → Option Listing → Type 0
 IsListingOf index change None None = Unit {0}
 IsListingOf index change None (Some listing) = ⊥

@@ -28,7 +28,7 @@ items_input name = record {
   FaultyAt = λ bytes place. (offset : ℕ) × (place ≡ fault.At offset) × ItemsFailAt bytes offset;
 }
 
--- each input is read in one way only: a value and a fault exclude each other
+-- no input both means a value and is at fault
 pub record FleetInputsAreClear : Type 0 where
   pub register : (name : List ℕ) → IsClearInput (register_input name)
   pub items : (name : List ℕ) → IsClearInput (items_input name)
@@ -48,7 +48,7 @@ RowsHaveOneAnswer =
     (rows : List Row) (row : Row) (a b : Answer) (after later : List Row) → AreOrdered rows
     → Meets rows row a after → Meets rows row b later → (a ≡ b) × (after ≡ later)
 
--- so has a chain that is shown to a register with these rows
+-- a chain that is shown to rows in ascending serials has one answer, and one list of rows afterwards
 abbrev pub ChainsHaveOneAnswer : Type 0
 ChainsHaveOneAnswer =
     (maker : PublicKey) (rows : List Row) (bytes : List ℕ) (a b : Answer) (after later : List Row) → IsBytes bytes

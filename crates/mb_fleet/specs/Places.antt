@@ -1,4 +1,4 @@
--- Where a key stands in a list that ascends by it. Is it there, and else between which two items does it belong?
+-- Where a key stands in a list that ascends by it. Is it there, and if not, between which two items does it belong?
 use Rattle.std.specs.Prelude.{◌≡◌, ℕ, ◌≤◌, List, ◌∷◌, ◌++◌, length}
 use Rattle.std.specs.List.{AllByRecursion}
 use Rattle.mb_model.specs.declared.limits.TheConstants.{ENTRY_LIMIT}

@@ -1,4 +1,4 @@
--- What a device has shown, as a row of a register. Does the row tell two histories of a device apart?
+-- What a device has shown, as a row of a register. Does the row distinguish two histories of a device?
 use Rattle.std.specs.Prelude.{◌≡◌, ℕ, ◌==◌, List, map, Option, None, Some, if◌then◌else◌}
 use Rattle.std.specs.Option.{option_map}
 use Rattle.sha2.specs.Sha256.{sha256}

@@ -68,7 +68,7 @@ pub record AreServed (maker : PublicKey) (rows : List Row) (listed : List Item) 
   pub text_is : text ≡ text_of lines
   pub short : length text ≤ TEXT_LIMIT
 
--- the answers to the first of the items alone are too long a text
+-- the text of the answers to a prefix of the items is too long
 pub record IsTooLong (maker : PublicKey) (rows : List Row) (listed : List Item) : Type 0 where
   pub front : List Item
   pub rest : List Item

@@ -15,17 +15,17 @@ use Rattle.mb_fleet.specs.Rows.{IsRowOf}
 
 -- what a register answers to a chain
 pub data Answer : Type 0 where
-  -- the device with this serial is new, and has shown so many entries
+  -- the device with this serial is new, and has shown this many entries
   newly_added : List ℕ → ℕ → Answer
-  -- the device has shown just these entries before, so many
+  -- the device has shown exactly these entries before, this many
   same : List ℕ → ℕ → Answer
-  -- the device has shown a proper prefix of these entries, which are so many
+  -- the device has shown a proper prefix of these entries; the entries are this many
   extended : List ℕ → ℕ → Answer
   -- the verifier refuses the chain
   chain_refused : ChainRefusal → Answer
-  -- the device has shown these entries and more, so many
+  -- the device has shown these entries and more, this many in all
   older : List ℕ → ℕ → Answer
-  -- the device has shown another past: entries with this index, from 0, are the first that differ
+  -- the device has shown another past: the first entries that differ have this index, from 0
   forked : List ℕ → ℕ → Answer
   -- the device is new, and the register is full
   full : Answer
@@ -36,12 +36,12 @@ pub data Answer : Type 0 where
 abbrev pub IsNewDevice : List Row → Row → Type 0
 IsNewDevice rows row = AllByRecursion (λ other. other.serial ≢ row.serial) rows
 
--- the row stands in its place between rows in ascending serials
+-- the row stands in its place: the serials of the rows before it are lower, and those of the rows after it higher
 pub record StandsBetween (before later : List Row) (row : Row) : Type 0 where
   pub below : AllByRecursion (λ other. IsBefore other.serial row.serial) before
   pub above : AllByRecursion (λ other. IsBefore row.serial other.serial) later
 
--- the row of the same device is there, among these before it and these after it
+-- the rows have one of the same device, with these rows before it and these after it
 pub record HasOld (rows : List Row) (row : Row) (before : List Row) (old : Row) (later : List Row) : Type 0 where
   pub split : rows ≡ before ++ old ∷ later
   pub serial : old.serial ≡ row.serial
@@ -82,7 +82,7 @@ pub data Meets (rows : List Row) (row : Row) (answer : Answer) (after : List Row
 
 -- ---- a chain
 
--- the entries of a chain are good under the maker's key, and this is their row; its statement counts only by its form
+-- the entries of a chain are good under the maker's key, and this is their row; of a statement only the form counts
 pub record IsShown (maker : PublicKey) (bytes : List ℕ) (row : Row) : Type 0 where
   pub chain : Chain
   pub spelled : Spells chain_format bytes chain

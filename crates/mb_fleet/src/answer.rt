@@ -52,7 +52,7 @@ pub(crate) fn put_found(out: &mut Vec<u8>, serials: &[[u8; 16]]) -> Result<(), N
     Ok(())
 }
 
-/// Appends how many codes there are, and each with its number.
+/// Appends how many codes there are, and each with the number of its devices.
 pub(crate) fn put_codes(out: &mut Vec<u8>, counts: &[CodeCount]) -> Result<(), NoMemory>
     ensures { OnOk result (out.new.items ≡ out.old.items ++ text_of (count_lines counts.now)) }
 {

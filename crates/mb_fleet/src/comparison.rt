@@ -4,23 +4,23 @@ ghost use Rattle.mb_model.specs.declared.limits.TheConstants.{ENTRY_LIMIT};
 ghost use Rattle.std.specs.Prelude.{◌≤◌, length};
 ghost use Rattle.mb_fleet.specs.Places.{Compares};
 
-/// What the hashes of entries have to do with those that were shown before.
+/// How the hashes of the entries that are shown compare with those that were shown before.
 #[derive(Clone, Copy)]
 pub enum Comparison {
-    /// They are the same.
+    /// The new hashes are the old ones.
     Same,
-    /// They go on after those before.
+    /// The old hashes are a proper prefix of the new ones.
     Longer,
-    /// They are a proper prefix of those before.
+    /// The new hashes are a proper prefix of the old ones.
     Shorter,
-    /// They differ from those before.
+    /// The new hashes differ from the old ones at an index of both.
     Differs {
         /// The first index, from 0, at which they differ.
         place: u32,
     },
 }
 
-/// What the new hashes have to do with the old ones.
+/// How the new hashes compare with the old ones.
 pub(crate) fn compare(old: &[[u8; 32]], new: &[[u8; 32]]) -> Comparison
     requires { length old.now ≤ ENTRY_LIMIT }
     ensures { Compares old.now new.now result }

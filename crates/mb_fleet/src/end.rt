@@ -6,8 +6,8 @@ use mb_bytes::{ReadError, ReadMemoryError, Short};
 use mb_model::{BadRecord, NoMemory};
 use mb_verifier::ChainRefusal;
 
-/// A chain that a register took, or had taken before. Each has the serial of the device, and the number of the chain's
-/// entries.
+/// A chain that a register took, or had taken before. Each variant has the serial of the device, and the number of the
+/// chain's entries.
 #[derive(Clone, Copy, Debug, PartialEq, Eq)]
 pub enum Added {
     /// The device has shown just these entries before.
@@ -53,11 +53,11 @@ impl From<NoMemory> for FleetEnd {
     }
 }
 
-/// Why no register or no items were read.
+/// Why a register or items were not read.
 #[derive(Clone, Copy, Debug, PartialEq, Eq)]
 pub enum FleetReadEnd {
-    /// The bytes spell none; the offset of the first field that lacks bytes or is not allowed, or of the first byte
-    /// after the last field.
+    /// The bytes spell no register or no items. The offset is that of the first field that lacks bytes or is not
+    /// allowed, or of the first byte after the last field.
     Bad(BadRecord),
     /// An allocation failed. No clause says when; the tests read with ample memory.
     NoMemory,

@@ -56,7 +56,7 @@ impl Fleet {
         }
     }
 
-    /// The register that all of the bytes spell, at most 4,194,304 of them.
+    /// The register that the bytes as a whole spell. There are at most 4,194,304 bytes.
     ///
     /// Errors: `Bad` with the offset of the first field that lacks bytes or is not allowed, or of the first byte after
     /// the last field; and `NoMemory`.
@@ -76,7 +76,7 @@ impl Fleet {
     }
 
     /// Shows the register a chain of at most 4,194,304 bytes, whose entries have to be good under the maker's key
-    /// `root`; a statement counts only by its form. After an error the register is as it was.
+    /// `root`; of a statement only the form counts. After an error the register is as it was.
     ///
     /// Errors: those of `FleetEnd`.
     pub fn add(&mut self, alloc: Global, root: &PublicKey, chain: &[u8]) -> Result<Added, FleetEnd>
@@ -117,7 +117,7 @@ impl Fleet {
         }
     }
 
-    /// Takes the row of a device that is not there, which belongs at this index.
+    /// Takes the row of a new device, which belongs at this index.
     fn take_new(&mut self, alloc: Global, at: usize, row: Row) -> Result<Added, FleetEnd>
         requires few { HasFewEntries row }
         requires free { IsFree serial_of_row self.old row.serial at }
@@ -194,7 +194,7 @@ impl WriteField for RegisterField {
     }
 }
 
-/// Why a chain is not taken that the verifier does not answer.
+/// The end to which an error of the verifier leads.
 fn end_of(refusal: ChainRefusal) -> FleetEnd
     ensures { result ≡ fleet_end_of refusal }
 {
@@ -214,7 +214,7 @@ fn insert_row(rows: &mut Vec<Row>, at: usize, row: Row) -> Result<(), NoMemory>
     Ok(())
 }
 
-/// The number of the entries that a row tells of.
+/// The number of the entries whose hashes a row has.
 fn count_entries(row: &Row) -> u32
     requires { HasFewEntries row.now }
     ensures { result ≡ length row.now.hashes }

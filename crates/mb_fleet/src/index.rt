@@ -11,7 +11,7 @@ use std::alloc::Global;
 use std::cmp::Ordering;
 use std::collections::BTreeMap;
 
-/// For each code that the layer of some device has or had, the serials of the devices that have it, in ascending order.
+/// A map from codes to the serials of the devices whose layer has the code, in ascending order. A code may have none.
 #[derive(Drop)]
 pub struct CodeIndex {
     serials: BTreeMap<[u8; 32], Serials>,
@@ -24,12 +24,12 @@ pub struct Listing {
     serials: Serials,
 }
 
-/// What an index is to list when the code of a device changes. To put it into the index takes no memory.
+/// What an index is to list when the code of a device changes. Putting it into the index takes no memory.
 #[derive(Drop)]
 pub struct IndexChange {
-    /// The code that the device had, without the device.
+    /// The listing of the code that the device had, without the device.
     left: Option<Listing>,
-    /// The code that the device has now, with the device.
+    /// The listing of the code that the device has now, with the device.
     joined: Option<Listing>,
 }
 
@@ -50,7 +50,7 @@ impl CodeIndex {
         Ok(Items::from_vec(Vec::from_slice(alloc, self.listed(hash))?))
     }
 
-    /// The serials of the devices that have this code, where they stand.
+    /// The serials of the devices that have this code, borrowed from the index.
     fn listed(&self, hash: &[u8; 32]) -> &[[u8; 16]]
         ensures { result.now ≡ serials_at self.now hash.now }
     {
@@ -78,7 +78,7 @@ impl CodeIndex {
         Ok(counts)
     }
 
-    /// Finds the memory for a change of the code of the device with this serial. The index lists what it listed.
+    /// Finds the memory for a change of the code of the device with this serial. What the index lists stays as it is.
     pub(crate) fn prepare(
         &mut self,
         alloc: Global,
@@ -94,7 +94,7 @@ impl CodeIndex {
         Ok(IndexChange { left, joined })
     }
 
-    /// The code that a device leaves, if it has one, without the device.
+    /// The listing of the code that a device leaves, without the device; `None` if it has none.
     fn prepare_left(
         &mut self,
         alloc: Global,
@@ -116,7 +116,7 @@ impl CodeIndex {
         }))
     }
 
-    /// The code that a device comes to have, if there is one, with the device.
+    /// The listing of the code that a device comes to have, with the device; `None` if there is none.
     fn prepare_joined(
         &mut self,
         alloc: Global,
@@ -138,7 +138,7 @@ impl CodeIndex {
         }))
     }
 
-    /// Makes the index know a code, if only with no devices.
+    /// Puts a code into the index, without devices if it is new.
     fn make_room(&mut self, alloc: Global, hash: &[u8; 32]) -> Result<(), NoMemory>
         ensures same { ListsSame self.old self.new }
         ensures known { KeepsCodes self.old self.new }

@@ -84,7 +84,7 @@ impl CodeIndexes {
         }
     }
 
-    /// Finds the memory for a change of the code of the device with this serial. The indexes list what they listed.
+    /// Finds the memory for a change of the code of the device with this serial. What the indexes list stays as it is.
     pub(crate) fn prepare(
         &mut self,
         alloc: Global,

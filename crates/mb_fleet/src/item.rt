@@ -12,7 +12,7 @@ use mb_bytes::{Cursor, u8_between};
 use mb_model::{BadRecord, Bytes, Items};
 use std::alloc::Global;
 
-/// What is asked of a register. A layer is 1, 2 or 3.
+/// An item for a register: a chain, or a question. A layer is 1, 2 or 3.
 #[derive(Drop)]
 pub enum Item {
     /// A chain is shown. The bytes need not spell one.
@@ -31,7 +31,7 @@ pub enum Item {
     },
 }
 
-/// The items that all of the bytes spell, at most 4,194,304 of them.
+/// The items that the bytes as a whole spell. There are at most 4,194,304 bytes.
 ///
 /// Errors: `Bad` with the offset of the first field that lacks bytes or is not allowed, and `NoMemory`.
 pub fn read_items(alloc: Global, bytes: &[u8]) -> Result<Items<Item>, FleetReadEnd>

@@ -16,7 +16,7 @@ pub fn items_are_clear()
     ensures { ItemsAreClear }
 {}
 
-/// A file of a register or of items that is at fault stands for no value.
+/// No file of a register or of items both means a value and is at fault.
 pub fn fleet_inputs_are_clear()
     ensures { FleetInputsAreClear }
 {}
@@ -41,22 +41,22 @@ pub fn fleet_bytes_counter_examples()
     ensures { FleetBytesCounterExamples }
 {}
 
-/// What two small rows answer to another.
+/// What a register of two small rows answers to another row, and to bytes that are no chain.
 pub fn shown_examples()
     ensures { ShownExamples }
 {}
 
-/// What two small rows do not answer.
+/// What a register of two small rows does not answer.
 pub fn shown_counter_examples()
     ensures { ShownCounterExamples }
 {}
 
-/// What two small rows answer to questions.
+/// What a register of two small rows answers to questions.
 pub fn question_examples()
     ensures { QuestionExamples }
 {}
 
-/// What two small rows do not answer to questions.
+/// What a register of two small rows does not answer to questions.
 pub fn question_counter_examples()
     ensures { QuestionCounterExamples }
 {}

@@ -5,7 +5,7 @@ use mb_model::Items;
 /// A list of serials.
 pub type Serials = Items<[u8; 16]>;
 
-/// A list of codes with their numbers.
+/// A list of codes with their counts.
 pub type Counts = Items<CodeCount>;
 
 /// A code, and the number of the devices that have it.

@@ -28,16 +28,16 @@ pub struct CodeHashes {
 pub struct Row {
     /// The serial of the device.
     pub serial: [u8; 16],
-    /// The number of its configuration.
+    /// The device's configuration number.
     pub number: u32,
-    /// The hashes of its code.
+    /// The hashes of the device's code.
     pub code: CodeHashes,
-    /// The hash of each entry of its log, in order.
+    /// The hash of each entry of the device's log, in order.
     pub hashes: Items<[u8; 32]>,
 }
 
 impl CodeHashes {
-    /// No layer has code.
+    /// The hashes of layers without code: none.
     pub(crate) fn none() -> CodeHashes {
         CodeHashes {
             one: None,
@@ -47,7 +47,7 @@ impl CodeHashes {
     }
 }
 
-/// The row of the device whose chain this is, if its entries are good under some maker's key.
+/// The row of the device whose chain this is. The chain's entries are good under a maker's key.
 pub(crate) fn row_of(alloc: Global, _root: &PublicKey, chain: &Chain) -> Result<Row, NoMemory>
     requires spelled { chain_format.Allowed chain.now }
     requires good { AreGood _root.now chain.now.entries }

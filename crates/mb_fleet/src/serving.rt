@@ -14,10 +14,10 @@ use crate::limits::TEXT_LIMIT;
 use mb_model::{Bytes, NoMemory, PublicKey};
 use std::alloc::Global;
 
-/// Serves the items one after another: the text of all answers, at most 268,435,456 bytes. The register is then the one
-/// after all items; after an error it may have taken chains of some of them.
+/// Serves the items one after another, and gives the text of all answers, at most 268,435,456 bytes. The register is
+/// then the one after all items. After an error it may have taken the chains of some of them.
 ///
-/// Errors: `TooLong` if the answers to the first items alone are a longer text, and `NoMemory`.
+/// Errors: `TooLong` if the answers to a prefix of the items are a longer text, and `NoMemory`.
 pub fn serve_items(
     alloc: Global,
     fleet: &mut Fleet,

@@ -1,5 +1,5 @@
 -- Formats and how they are composed: single fields, one format after another, choices, options and lists. Each says
--- first what it means (spelling, what is allowed, where it fails) and last how it is read by computing (Reading.antt).
+-- first what it means (spelling, what is allowed, where it fails) and last how it is read (Reading.antt).
 use Rattle.std.specs.Prelude.{◌≡◌, ℕ, zero, suc, ◌^◌, ◌<◌, ◌≤◌, ◌==◌, nat_lt, Bool, true, false, IsTrue, if◌then◌else◌}
 use Rattle.std.specs.Prelude.{List, [], ◌∷◌, ◌++◌, length, Option, Some, None, Result, Ok}
 use Rattle.std.specs.Int.{Width, w8, byte_len, to_be_bytes}
@@ -9,24 +9,24 @@ use Rattle.mb_format.specs.Reading.{raw_at, number_at, decode_read, then_read, i
 
 -- ---- what fields and compositions mean
 
--- a single field fails at its beginning, exactly where no allowed value is spelled there
+-- a single field fails at its beginning, exactly if no allowed value is spelled there
 pub record FailsHere {A : Type 0} (spelling : A → List ℕ) (Allowed : A → Type 0)
     (bytes : List ℕ) (at offset : ℕ) : Type 0 where
   pub here : offset ≡ at
   pub none : (a : A) (after : ℕ) → SpelledAt spelling Allowed bytes at a after → ⊥
 
--- of one format after another, the first fails, or it is spelled and the second fails after it
+-- one format after another fails: the first does, or a value of the first is spelled and the second fails after it
 pub data FailsInBoth {A B : Type 0} (f : Format A) (g : A → Format B) (bytes : List ℕ) (at offset : ℕ) : Type 0 where
   in_first : f.FailsAt bytes at offset → FailsInBoth f g bytes at offset
   in_second : (a : A) (middle : ℕ) → SpelledAt f.spelling f.Allowed bytes at a middle
       → (g a).FailsAt bytes middle offset → FailsInBoth f g bytes at offset
 
--- the spelling of what a value was made of
+-- the spelling of what a value was made from; no bytes if it was made from nothing
 abbrev pub spelling_of : {A : Type 0} → Format A → Option A → List ℕ
 spelling_of f (Some a) = f.spelling a
 spelling_of f None = []
 
--- a value was made of something, and that is allowed
+-- a value was made from something, and that is allowed
 abbrev pub AllowedOf : {A : Type 0} → Format A → Option A → Type 0
 AllowedOf f (Some a) = f.Allowed a
 AllowedOf f None = ⊥
@@ -41,7 +41,7 @@ field spelling Allowed reads = record {
   reads = reads;
 }
 
--- any n bytes
+-- n arbitrary bytes
 abbrev pub raw : ℕ → Format (List ℕ)
 raw n = field (λ bytes. bytes) (λ bytes. length bytes ≡ n) (raw_at n)
 
@@ -49,7 +49,7 @@ raw n = field (λ bytes. bytes) (λ bytes. length bytes ≡ n) (raw_at n)
 abbrev pub limit : Width → ℕ
 limit w = 256 ^ byte_len w
 
--- a number as bytes, the most significant first
+-- a number as bytes, big-endian
 unfoldable pub number_bytes : Width → ℕ → List ℕ
 number_bytes w n = to_be_bytes w n
 
@@ -57,13 +57,13 @@ number_bytes w n = to_be_bytes w n
 abbrev pub number : Width → Format ℕ
 number w = field (number_bytes w) (λ n. n < limit w) (number_at w)
 
--- A field that stands for a value: `code` gives what is written for a value. `decode` is its other direction, by which
--- it is read.
+-- A field that encodes a value: `code` gives what is written for a value. `decode` is its other direction, and is used
+-- for reading.
 abbrev pub decoded : {N A : Type 0} → Format N → (A → N) → (A → Type 0) → (N → Option A) → Format A
 decoded f code Allowed decode =
     field (λ a. f.spelling (code a)) Allowed (λ bytes at. decode_read decode at (f.reads bytes at))
 
--- a number that stands for a value
+-- a number that encodes a value
 abbrev pub coded : {A : Type 0} → Width → (A → ℕ) → (A → Type 0) → (ℕ → Option A) → Format A
 coded w code Allowed decode = decoded (number w) code Allowed decode
 
@@ -79,11 +79,11 @@ abbrev pub row_of : {A : Type 0} → List (ℕ × A) → ℕ → Option A
 row_of [] n = None
 row_of (row ∷ rows) n = if n == row.0 then Some row.1 else row_of rows n
 
--- a number with a table of what each stands for
+-- a number that encodes a value, with a table of the value for each number
 abbrev pub table : {A : Type 0} → Width → List (ℕ × A) → (A → ℕ) → Format A
 table w rows code = coded w code (λ a. Unit {0}) (row_of rows)
 
--- the same, where a value is allowed exactly where it has a row
+-- a number with a table of values; a value is allowed exactly if the row of its number has it
 abbrev pub listed : {A : Type 0} → Width → List (ℕ × A) → (A → ℕ) → Format A
 listed w rows code = coded w code (λ a. row_of rows (code a) ≡ Some a) (row_of rows)
 
@@ -103,7 +103,7 @@ same_bytes _ _ = false
 abbrev pub mark_of : List ℕ → List ℕ → Option (Unit {0})
 mark_of word bytes = if same_bytes word bytes then Some tt else None
 
--- these bytes and no others, as one field: a version, or a word by which files are known
+-- these bytes and no others, as one field: a version or a magic word
 abbrev pub mark : List ℕ → Format (Unit {0})
 mark word = decoded (raw (length word)) (λ u. word) (λ u. Unit {0}) (mark_of word)
 
@@ -131,10 +131,10 @@ both f g = record {
 abbrev pub pair : {A B : Type 0} → Format A → Format B → Format (A × B)
 pair f g = both f (λ a. g)
 
--- ---- values made of what was read
+-- ---- values made from what was read
 
--- A value that is made of what was read, by `into`. `out` takes it apart again, where it is one of those that are so
--- made: how it is spelled and whether it is allowed is said by `out` alone.
+-- A value that `into` makes from what was read. `out` takes a value apart again, if it is one that can be so made;
+-- `out` alone says how a value is spelled and whether it is allowed.
 abbrev pub as_value : {A B : Type 0} → Format A → (A → B) → (B → Option A) → Format B
 as_value f into out = record {
   spelling = λ b. spelling_of f (out b);
@@ -143,12 +143,12 @@ as_value f into out = record {
   reads = λ bytes at. into_read into (f.reads bytes at);
 }
 
--- the same where each value is so made, as a struct of its fields
+-- a value that is made from what was read, if every value can be so made, as a struct is made from its fields
 abbrev pub as_record : {A B : Type 0} → Format A → (A → B) → (B → A) → Format B
 as_record f into parts = as_value f into (λ b. Some (parts b))
 
--- A leading field that is a function of the value, as a tag, a flag, a length or a count; the format after it depends
--- on it.
+-- A leading field that is a function of the value, such as a tag, a flag, a length or a count; the format after it
+-- depends on the field.
 abbrev pub led : {K B : Type 0} → Format K → (B → K) → (K → Format B) → Format B
 led f key g = as_record (both f g) (λ p. p.1) (λ b. (key b, b))
 
@@ -158,7 +158,7 @@ then_value f g = as_record (pair f g) (λ p. p.1) (λ b. (tt, b))
 
 -- ---- choices and options
 
--- one format or another
+-- the first format if the flag is true, else the second
 abbrev pub either : {A : Type 0} → Bool → Format A → Format A → Format A
 either true f g = f
 either false f g = g
@@ -174,11 +174,11 @@ flag_byte true = 1
 abbrev pub flag : Format Bool
 flag = table w8 flag_rows flag_byte
 
--- the value that is there
+-- an optional value that is there
 abbrev pub present : {A : Type 0} → Format A → Format (Option A)
 present f = as_value f Some (λ o. o)
 
--- a flag, and the value where it is 1
+-- a flag, and the value if it is 1
 abbrev pub optional : {A : Type 0} → Format A → Format (Option A)
 optional f = led flag is_some (λ there. either there (present f) (nothing None))
 

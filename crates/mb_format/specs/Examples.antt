@@ -1,4 +1,4 @@
--- An example of each kind of field, composed to one format.
+-- An example of each kind of field, composed into one format.
 use Rattle.std.specs.Prelude.{ℕ, List, [], ◌∷◌, Option, Some, None}
 use Rattle.std.specs.Int.{w8, w16, w32}
 use Rattle.mb_format.specs.Format.{Format}
@@ -56,13 +56,13 @@ sample = as_record
     sample_into
     sample_parts
 
--- a value and its bytes: size 7, a word, two numbers, three bytes
+-- a value and its bytes: size 7, a word, two numbers, one byte
 abbrev pub short_sample : Sample
 short_sample = record { size = 7; choice_in = Word 258; numbers = 1 ∷ 515 ∷ []; bytes = 4 ∷ [] }
 
 abbrev pub short_bytes : List ℕ
 short_bytes = 0 ∷ 7 ∷ 1 ∷ 0 ∷ 0 ∷ 1 ∷ 2 ∷ 2 ∷ 0 ∷ 1 ∷ 2 ∷ 3 ∷ 0 ∷ 1 ∷ 4 ∷ []
 
--- the same with a tag that is in no row
+-- `short_bytes` with a tag that is in no row
 abbrev pub mistagged_bytes : List ℕ
 mistagged_bytes = 0 ∷ 7 ∷ 3 ∷ 0 ∷ 0 ∷ 1 ∷ 2 ∷ 2 ∷ 0 ∷ 1 ∷ 2 ∷ 3 ∷ 0 ∷ 1 ∷ 4 ∷ []

@@ -1,12 +1,12 @@
--- What a binary format is: which bytes spell a value, and at which offset bytes fail that spell none. How a format is
--- read by computing is in Reading.antt, and is no part of what a format means.
+-- What a binary format is: which bytes spell a value, and at which offset bytes fail if they spell none. How a format
+-- is read is in Reading.antt, and is no part of what a format means.
 use Rattle.std.specs.Prelude.{◌≡◌, ℕ, ◌+◌, ◌<◌, ◌≤◌, ◌⊎◌, List, ◌++◌, length, get_or, drop, Result}
 
 -- each number of the list is a byte
 abbrev pub IsBytes : List ℕ → Type 0
 IsBytes bytes = (i : ℕ) → get_or bytes i 0 < 256
 
--- an offset among bytes, from the first of them on up to their end
+-- an offset in a list of bytes, from 0 up to its length
 pub record IsOffset (bytes : List ℕ) (at : ℕ) : Type 0 where
   pub are_bytes : IsBytes bytes
   pub within : at ≤ length bytes
@@ -19,7 +19,7 @@ pub record SpelledAt {A : Type 0} (spelling : A → List ℕ) (Allowed : A → T
   pub ends : after ≡ at + length (spelling a)
   pub within : after ≤ length bytes
 
--- A format of values: how each is spelled, which are allowed, and at which offset bytes fail that spell no allowed
+-- A format of values: how each is spelled, which are allowed, and at which offset bytes fail if they spell no allowed
 -- value from a start on. `FailsAt bytes start offset` speaks of spellings alone. These three are what a format means.
 -- `reads` computes the value and the offset after it, or the failing offset: nothing here speaks of it, and the law
 -- `IsExact` of Reading.antt ties it to the three.
@@ -42,7 +42,8 @@ pub record FailsSomewhere {A : Type 0} (f : Format A) (bytes : List ℕ) (at : �
   pub offset : ℕ
   pub fails : f.FailsAt bytes at offset
 
--- At each offset of any bytes one value is spelled, or one offset fails: never two of either, never both, always one.
+-- At each offset of arbitrary bytes one value is spelled or one offset fails: never two of either, never both, always
+-- one.
 pub record IsClear {A : Type 0} (f : Format A) : Type 0 where
   pub one_value : (bytes : List ℕ) (at : ℕ) (a b : A) (m n : ℕ) → IsOffset bytes at
       → SpelledAt f.spelling f.Allowed bytes at a m → SpelledAt f.spelling f.Allowed bytes at b n → (a ≡ b) × (m ≡ n)

@@ -1,5 +1,5 @@
--- How a format is read by computing, and what it means that this is right. What a format means does not rest on it:
--- that a format is clear and short is said without it, and so is what a reader gives to those who call it.
+-- How formats are read by functions, and what it means that these are right. What a format means does not rest on them:
+-- that a format is clear and short is said without them, and so is what a reader gives to those who call it.
 use Rattle.std.specs.Prelude.{◌≡◌, ℕ, ◌+◌, ◌≤◌, List, length, take, drop, nat_lt, if◌then◌else◌}
 use Rattle.std.specs.Prelude.{Option, Some, None, Result, Ok, Err}
 use Rattle.std.specs.Int.{Width, byte_len, from_be_bytes}
@@ -7,7 +7,7 @@ use Rattle.mb_format.specs.Format.{IsBytes, IsOffset, SpelledAt, Format, Spells,
 
 -- ---- at an offset
 
--- reading finds exactly the value that is spelled, and else exactly the offset that fails
+-- reading finds exactly the value that is spelled, or else exactly the offset that fails
 pub record IsExact {A : Type 0} (f : Format A) : Type 0 where
   pub found : (bytes : List ℕ) (at : ℕ) (a : A) (after : ℕ) → IsOffset bytes at
       → f.reads bytes at ≡ Ok (a, after) → SpelledAt f.spelling f.Allowed bytes at a after
@@ -23,7 +23,7 @@ abbrev pub offset_of : {A : Type 0} → Result (A × ℕ) ℕ → ℕ
 offset_of (Ok r) = r.1
 offset_of (Err offset) = offset
 
--- reading depends on the first n bytes from the offset on, and goes no further than these
+-- reading depends only on the first n bytes from the offset on, and goes no further than these
 pub record IsLocal {A : Type 0} (f : Format A) (n : ℕ) : Type 0 where
   pub same : (bytes : List ℕ) (at m : ℕ) → IsOffset bytes at → at + n ≤ m
       → f.reads (take m bytes) at ≡ f.reads bytes at
@@ -39,7 +39,7 @@ all_read size (Err offset) = Err offset
 abbrev pub reads_whole : {A : Type 0} → Format A → List ℕ → Result A ℕ
 reads_whole f bytes = all_read (length bytes) (f.reads bytes 0)
 
--- reading bytes as a whole finds exactly the value that they spell, and else exactly the offset that fails
+-- reading bytes as a whole finds exactly the value that they spell, or else exactly the offset that fails
 pub record IsExactWhole {A : Type 0} (f : Format A) : Type 0 where
   pub found : (bytes : List ℕ) (a : A) → IsBytes bytes → reads_whole f bytes ≡ Ok a → Spells f bytes a
   pub finds : (bytes : List ℕ) (a : A) → IsBytes bytes → Spells f bytes a → reads_whole f bytes ≡ Ok a
@@ -48,7 +48,7 @@ pub record IsExactWhole {A : Type 0} (f : Format A) : Type 0 where
   pub failed : (bytes : List ℕ) (offset : ℕ) → IsBytes bytes
       → FailsWhole f bytes offset → reads_whole f bytes ≡ Err offset
 
--- ---- of which the reading of fields and compositions is made
+-- ---- parts of the reading of fields and compositions
 
 -- n bytes at an offset
 unfoldable pub raw_at : ℕ → List ℕ → ℕ → Result (List ℕ × ℕ) ℕ
@@ -60,7 +60,7 @@ number_at w bytes at =
     if nat_lt (length bytes) (at + byte_len w) then Err at
     else Ok (from_be_bytes w (take (byte_len w) (drop at bytes)), at + byte_len w)
 
--- the value that a field stands for; where it stands for none the field fails
+-- the value that a field encodes; if it encodes none, the field fails
 abbrev pub stood_for : {A : Type 0} → ℕ → ℕ → Option A → Result (A × ℕ) ℕ
 stood_for at after (Some a) = Ok (a, after)
 stood_for at after None = Err at
@@ -75,12 +75,12 @@ abbrev pub with_first : {A B : Type 0} → A → Result (B × ℕ) ℕ → Resul
 with_first a (Ok r) = Ok ((a, r.0), r.1)
 with_first a (Err offset) = Err offset
 
--- the first value was read, and then the second is
+-- the first value was read, and the second is read after it
 abbrev pub then_read : {A B : Type 0} → Result (A × ℕ) ℕ → (A → ℕ → Result (B × ℕ) ℕ) → Result ((A × B) × ℕ) ℕ
 then_read (Ok r) rest = with_first r.0 (rest r.0 r.1)
 then_read (Err offset) rest = Err offset
 
--- a value is made of what was read
+-- a value is made from what was read
 abbrev pub into_read : {A B : Type 0} → (A → B) → Result (A × ℕ) ℕ → Result (B × ℕ) ℕ
 into_read into (Ok r) = Ok (into r.0, r.1)
 into_read into (Err offset) = Err offset

@@ -6,18 +6,18 @@ use Rattle.mb_model.specs.Workload.{generator_words, DrawnValue, RoundDraws, Dra
 use Rattle.mb_generate.specs.declared.draws.RoundDrawn.{RoundDrawn}
 use Rattle.mb_generate.specs.declared.draws.Drawn.{Drawn}
 
--- the generator gives these words, one after another, and is then another
+-- the generator gives these words, one after another, and becomes the new one
 abbrev pub Gives : ChaCha → List ℕ → ChaCha → Type 0
 Gives old [] new = new ≡ old
 Gives old (word ∷ words) new = (word ≡ (next_word 10 old).0) × Gives (next_word 10 old).1 words new
 
--- The words that the generator gives are drawn for this value, by the rule that says which words are.
+-- The generator gives words from which this value is drawn, by the rule `Draws`.
 pub record IsDrawn {A : Type 0} (Draws : List ℕ → A → Type 0) (old : ChaCha) (value : A) (new : ChaCha) : Type 0 where
   pub words : List ℕ
   pub given : Gives old words new
   pub drawn : Draws words value
 
--- the same for lists of values: the words of each stand after those of the one before
+-- `count` values are drawn by the rule `Draws`, the words of each after those of the one before
 pub record DrawnEach
     {A : Type 0}
     (Draws : List ℕ → A → Type 0)
@@ -35,10 +35,11 @@ DrawnValues = DrawnEach DrawnValue
 abbrev pub DrawnRounds : ℕ → List ℕ → List RoundDraws → Type 0
 DrawnRounds = DrawnEach DrawnRound
 
--- what the program holds of a round, and of all that is drawn
+-- the draws of a round, from what the program holds of it
 abbrev pub round_of : RoundDrawn → RoundDraws
 round_of round = record { code = round.code; values = round.values; message = round.message }
 
+-- all draws, from what the program holds of them
 abbrev pub draws_of : Drawn → Draws
 draws_of drawn = record {
   root = drawn.root;

@@ -13,7 +13,7 @@ use Rattle.mb_generate.specs.declared.officers.Officers.{Officers}
 
 -- ---- officers
 
--- the key of officer n, who has given these orders their signatures
+-- the key of officer n after the officer's signatures on these orders
 abbrev pub keyfile_after : Draws → List Plan → ℕ → Keyfile
 keyfile_after draws before n = record { seed = key_of_officer draws n; next = signatures_by n before }
 
@@ -41,7 +41,7 @@ targeted layer count what = record {
   countersignatures = [];
 }
 
--- what an order does can be spelled, and is for this layer
+-- this act may be ordered for this layer, and has a spelling
 pub record CanBeOrdered (layer : ℕ) (what : Act) : Type 0 where
   pub layered : MayBeFor (kind_of what) layer
   pub spelled : (act_by (kind_of what) (differs_in what)).Allowed what
@@ -50,7 +50,7 @@ pub record CanBeOrdered (layer : ℕ) (what : Act) : Type 0 where
 abbrev pub layers_above : ℕ → List ℕ
 layers_above layer = if layer == 1 then 2 ∷ 3 ∷ [] else if layer == 2 then 3 ∷ [] else []
 
--- The order is the one that is planned, after others that leave the log one entry shorter than `count`.
+-- The order is the planned one, for a log of `count` entries, and the officers' keys are as after signing it.
 abbrev pub SignsPlan : {E : Type 0} → ℕ → Plan → Officers → Result Order E → Officers → Type 0
 SignsPlan count planned old result new =
     IfOk result
@@ -62,7 +62,7 @@ pub record RoundFits (round : RoundDraws) : Type 0 where
   pub code : length round.code ≤ CODE_LIMIT
   pub values : length round.values ≤ 4
 
--- no code of a workload is too long for an order
+-- no code of a workload is too long for an order, and no round has more than four secrets
 pub record DrawsFit (draws : Draws) : Type 0 where
   pub one : length draws.code_one ≤ CODE_LIMIT
   pub two : length draws.code_two ≤ CODE_LIMIT

@@ -12,7 +12,7 @@ use Rattle.mb_generate.specs.Orders.{AreOfficers}
 abbrev pub puts_text : ℕ → List (List ℕ) → List ℕ
 puts_text n values = text_of (map (λ at. put_line (n + length at.0) at.1) (with_before values))
 
--- the orders before the rounds
+-- the text of the orders before the rounds
 abbrev pub first_orders_text : Draws → List ℕ
 first_orders_text draws =
     text_of (map order_line (map (λ at. signed_plan draws at.0 at.1) (with_before (first_plans draws))))
@@ -36,12 +36,12 @@ AppendsRound number round officers old new =
     (draws : Draws) (before : List Plan) → AreOfficers draws before officers → 5 + number ≡ length before + 1
     → new ≡ old ++ text_of (round_lines (number - 1) (signed_plan draws before (round_plan number round.code)) round)
 
--- and their keys are as after that order
+-- the officers' keys are as after the order of this round
 abbrev pub SignsRound : ℕ → RoundDraws → Officers → Officers → Type 0
 SignsRound number round old new =
     (draws : Draws) (before : List Plan) → AreOfficers draws before old → 5 + number ≡ length before + 1
     → AreOfficers draws (before ++ round_plan number round.code ∷ []) new
 
--- the line by which the key with number 1 states a message
+-- the line that has key 1 of layer 3 sign a message
 abbrev pub sign_line : List ℕ → List ℕ
 sign_line message = spaced_words (codes "sign" ∷ codes "3" ∷ codes "1" ∷ hex_word message ∷ [])

@@ -6,7 +6,7 @@ use Rattle.mb_model.specs.declared.limits.TheConstants.{FILE_LIMIT, DRAW_LENGTH}
 use Rattle.mb_model.specs.Lines.{ReadsLines}
 use Rattle.mb_model.specs.Script.{IsScript, commands_in}
 
--- The script is one, its noise has 32 bytes for each of its commands, and neither is longer than an input may be.
+-- The script can be read, its noise has 32 bytes for each of its commands, and neither is longer than an input may be.
 pub record CanBeServed (made : Workload) : Type 0 where
   pub undrawn : List Event
   pub script : ReadsLines IsScript made.script undrawn

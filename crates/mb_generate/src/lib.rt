@@ -1,7 +1,7 @@
 //! The generated workload: the image of a new device, a script, and its noise, all derived from one number.
 //!
-//! This crate owns what is drawn for a workload, in order, the orders of the device's owners that the script gives,
-//! and the script's text.
+//! This crate owns what is drawn for a workload, in order, the orders of the device's owners that the script gives, and
+//! the script's text.
 #![tactic(auto)]
 
 mod draws;

@@ -22,7 +22,7 @@ use std::alloc::Global;
 use std::sync::ledger::Ledger;
 
 /// Makes the workload of a number, with 1 to 24 rounds: the image of a new device, a script in which officers load each
-/// layer in turn, and the noise of the script's commands. It takes at most 350,434 hashes, and 106,419 for each round.
+/// layer in turn, and the noise of the script's commands. It takes at most 350,434 hashes, and 106,419 more a round.
 ///
 /// The script can be read, its noise has 32 bytes for each of its commands, and neither is longer than an input may be.
 pub fn workload<L: Ledger>(

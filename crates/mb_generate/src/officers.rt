@@ -53,7 +53,7 @@ pub(crate) fn round_order<L: Ledger>(
     }
 }
 
-/// The payload of a load by which the layer trusts countersigned changes.
+/// The payload of a load after which the layer trusts countersigned changes.
 pub(crate) fn load_of(alloc: Global, version: u32, code: &[u8]) -> Result<Payload, NoMemory>
     ensures { IfOk result (λ payload. payload ≡ plan_payload version code.now) }
 {
@@ -64,7 +64,7 @@ pub(crate) fn load_of(alloc: Global, version: u32, code: &[u8]) -> Result<Payloa
     })
 }
 
-/// The load of a layer, where the log has `count` entries: the owner signs it, and the owners of the layers above
+/// The load of a layer, for a log of `count` entries: the owner signs it, and the owners of the layers above
 /// countersign it.
 fn load_layer<L: Ledger>(
     alloc: Global,
@@ -119,7 +119,7 @@ pub(crate) fn targeted(alloc: Global, layer: u8, count: u32, what: Act) -> Resul
     })
 }
 
-/// Signs the order by an officer, who has an index left.
+/// Signs the order with the key of an officer, which has an index left.
 pub(crate) fn sign<L: Ledger>(
     alloc: Global,
     officer: &mut Keyfile,
@@ -141,7 +141,7 @@ pub(crate) fn sign<L: Ledger>(
     }
 }
 
-/// Countersigns the order by an officer, the owner of the layer, who has an index left.
+/// Countersigns the order with the key of an officer, who owns the layer; the key has an index left.
 fn agree<L: Ledger>(
     alloc: Global,
     officer: &mut Keyfile,

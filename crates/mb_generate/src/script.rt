@@ -101,7 +101,7 @@ fn put_first_orders<L: Ledger>(
     )
 }
 
-/// The act by which this officer becomes the owner of a layer, which trusts countersigned changes.
+/// The act that makes this officer the owner of a layer, which then trusts countersigned changes.
 fn establish_of<L: Ledger>(officer: &Keyfile, hashes: &mut HashCount<L>) -> Act
     ensures act { result ≡ act.Establish (public_of officer.now.seed) (equal_trusts Countersigned) }
     ensures cost { hashes.new ≡ hashes.old + TREE_HASHES }
@@ -112,7 +112,7 @@ fn establish_of<L: Ledger>(officer: &Keyfile, hashes: &mut HashCount<L>) -> Act
     }
 }
 
-/// Signs an order by the officer, and appends its line.
+/// Signs an order with the officer's key, and appends its line.
 fn put_order<L: Ledger>(
     alloc: Global,
     officer: &mut Keyfile,
@@ -161,7 +161,7 @@ fn put_round<L: Ledger>(
     put_statement(alloc, round.message.as_slice(), script)
 }
 
-/// Appends a line for each secret; the first is put after n others.
+/// Appends a line for each secret; the first is put after `n` others.
 fn put_secrets(
     alloc: Global,
     n: u32,
@@ -180,7 +180,7 @@ fn put_secrets(
     Ok(())
 }
 
-/// Appends the line of a secret that is put after n others.
+/// Appends the line of a secret that is put after `n` others.
 fn put_secret(alloc: Global, n: u32, value: &[u8], script: &mut Vec<u8>) -> Result<(), NoMemory>
     ensures { OnOk result (script.new.items ≡ script.old.items ++ line_with_lf (put_line n value.now)) }
 {
@@ -194,7 +194,7 @@ fn put_secret(alloc: Global, n: u32, value: &[u8], script: &mut Vec<u8>) -> Resu
     Ok(())
 }
 
-/// Appends the line by which the key with number 1 signs the message.
+/// Appends the line that has key 1 of layer 3 sign the message.
 fn put_statement(alloc: Global, message: &[u8], script: &mut Vec<u8>) -> Result<(), NoMemory>
     ensures { OnOk result (script.new.items ≡ script.old.items ++ line_with_lf (sign_line message.now)) }
 {

@@ -5,7 +5,7 @@ use Rattle.std.specs.Str.{bytes_eq}
 use Rattle.mb_model.specs.declared.items.File.{File}
 use Rattle.mb_model.specs.Outside.{Outside, count_after_call}
 
--- if two files have one name, the first counts
+-- what a host in memory holds; if two files have one name, the first counts
 pub record HostShown : Type 0 where
   pub files : List File
   pub printed : List ℕ
@@ -34,7 +34,7 @@ host_of files failing = record {
   prints = 0;
 }
 
--- the next call is one of those that fail
+-- whether the next call is one of those that fail
 abbrev pub next_fails : HostShown → Bool
 next_fails host = list_any (λ number. number == host.calls) host.failing
 
@@ -43,7 +43,7 @@ pub record IsNumbered (before after : HostShown) : Type 0 where
   pub next : after.calls ≡ count_after_call before.calls
   pub list : after.failing ≡ before.failing
 
--- the file has this name
+-- whether the file has this name
 abbrev pub is_named : List ℕ → File → Bool
 is_named name file = bytes_eq file.name name
 
@@ -51,7 +51,7 @@ is_named name file = bytes_eq file.name name
 abbrev pub content_of : List File → List ℕ → Option (List ℕ)
 content_of files name = option_map (λ file. file.bytes) (find (is_named name) files)
 
--- contracts see all contents of a host in memory
+-- what contracts see of a host in memory: all of its contents
 abbrev pub told : HostShown → Outside
 told shown = record {
   files = Some (content_of shown.files);

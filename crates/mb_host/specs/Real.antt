@@ -5,7 +5,7 @@ use Rattle.mb_host.specs.declared.faults.Faults.{Faults}
 use Rattle.mb_host.specs.declared.whole.ReadCounts.{ReadCounts}
 use Rattle.mb_host.specs.declared.whole.WriteCounts.{WriteCounts}
 
--- contracts see the counts of such a host alone; it cannot know that a file is absent
+-- what contracts see of a host without its contents: its counts alone; such a host cannot know that a file is absent
 abbrev pub untold : ReadCounts → WriteCounts → Outside
 untold reads writes = record {
   files = None;
@@ -18,7 +18,7 @@ untold reads writes = record {
   prints = writes.prints;
 }
 
--- one fault more
+-- one more fault
 abbrev pub one_fault_more : Faults → Faults
 one_fault_more faults = record { count = count_after_call faults.count }
 

@@ -49,8 +49,8 @@ impl Model for MemoryHost {
 }
 
 impl MemoryHost {
-    /// A host with these files and nothing printed, which grows by `alloc`. The calls of `read`, `write` and `print`
-    /// are numbered together, from 0; those with a number in `failing` fail.
+    /// A host with these files and nothing printed, which allocates with `alloc`. The calls of `read`, `write` and
+    /// `print` are numbered together, from 0; those with a number in `failing` fail.
     ///
     /// `NoMemory` if an allocation fails. No clause rules that out: the tests show that a host is made.
     pub fn new(alloc: Global, files: Files, failing: Calls) -> Result<MemoryHost, NoMemory>

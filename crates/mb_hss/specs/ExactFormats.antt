@@ -17,7 +17,7 @@ hss_key_exact =
     let parts = pair_exact (between_exact wide32 (lit< tt)) public_key_exact in
     as_record_exact _ _ parts (λ p h. refl) (λ key. refl)
 
--- the numbers of at most 8 levels have eight bytes
+-- the numbers of at most 8 levels fit into eight bytes
 numbers_fit : (levels : ℕ) → levels ≤ 8 → 32 ^ levels < limit w64
 numbers_fit levels within = lt_of_le_of_lt (pow-le-pow_right (lit< tt) within) (lit< tt)
 

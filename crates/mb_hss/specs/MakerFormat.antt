@@ -5,7 +5,7 @@ use Rattle.mb_format.specs.Format.{Format}
 use Rattle.mb_format.specs.Combinators.{raw, between, mark, both, pair, as_record, then_value}
 use Rattle.mb_hss.specs.declared.maker.Maker.{Maker}
 
--- the word by which a maker's file is known: MBK2
+-- the first four bytes of a maker's file: MBK2
 abbrev pub maker_word : List ℕ
 maker_word = 0x4D ∷ 0x42 ∷ 0x4B ∷ 0x32 ∷ []
 

@@ -12,13 +12,13 @@ MakersSignaturesVerify =
     (maker after : Maker) (text sig : List ℕ) → IsMaker maker → Signs maker text sig after
     → HssVerifies (maker_key maker) text sig
 
--- a call by which a maker signs: the number that it answers, the text, and the signature
+-- a call in which a maker signs: the number that it answers, the text, and the signature
 pub record SignCall : Type 0 where
   pub number : ℕ
   pub text : List ℕ
   pub signature : List ℕ
 
--- the maker signs by these calls, one after another
+-- the maker signs in these calls, one after another
 abbrev pub SignsAll : Maker → List SignCall → Maker → Type 0
 SignsAll maker [] after = after ≡ maker
 SignsAll maker (call ∷ calls) after =
@@ -37,7 +37,7 @@ pub record UseOneIndex (levels first second level : ℕ) : Type 0 where
   pub prefix : prefix_at levels first level ≡ prefix_at levels second level
   pub index : index_at levels first level ≡ index_at levels second level
 
--- Where two calls use one index of one key at a level, it is not the last level, and both sign the same text there.
+-- If two calls use one index of one key at a level, it is not the last level, and both sign the same text there.
 abbrev pub IndicesServeOneText : Type 0
 IndicesServeOneText =
     (maker after : Maker) (before between later : List SignCall) (first second : SignCall) (level : ℕ)

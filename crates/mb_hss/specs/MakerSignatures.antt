@@ -22,13 +22,13 @@ upper_levels maker number text zero = []
 upper_levels maker number text (suc n) =
     upper_levels maker number text n ++ signature_at maker number text n ++ public_at maker number (n + 1)
 
--- the signature of a text with a number: how many levels there are below the first, those above the last, and the last
+-- the signature of a text with a number: the count of levels below the first, the upper levels, and the last level
 unfoldable pub maker_signature : Maker → ℕ → List ℕ → List ℕ
 maker_signature maker number text =
     to_be_bytes w32 (maker.levels - 1) ++ upper_levels maker number text (maker.levels - 1)
     ++ signature_at maker number text (maker.levels - 1)
 
--- the maker signs a text with its next number, and has one number less
+-- the maker signs a text with its next number, and then has one number fewer left
 pub record Signs (maker : Maker) (text sig : List ℕ) (after : Maker) : Type 0 where
   pub left : maker.next < 32 ^ maker.levels
   pub signature : sig ≡ maker_signature maker maker.next text

@@ -1,4 +1,4 @@
--- A signature above the last level, taken apart (RFC 8554, section 6.2). In which parts can it be cut?
+-- A signature above the last level, taken apart (RFC 8554, section 6.2). Into which parts can it be split?
 use Rattle.std.specs.Prelude.{◌≡◌, ℕ, ◌+◌, ◌*◌, List, ◌++◌, length}
 use Rattle.mb_model.specs.declared.key.PublicKey.{PublicKey}
 use Rattle.mb_model.specs.Key.{IsSized, key_bytes, chain_count, height}

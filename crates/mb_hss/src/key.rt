@@ -1,4 +1,4 @@
-//! The public key of an HSS key (RFC 8554, section 6.1).
+//! The public keys of HSS (RFC 8554, section 6.1).
 
 ghost use Rattle.std.specs.Prelude.{◌≡◌, ◌≤◌, length, IfOk, MatchOption};
 ghost use Rattle.mb_format.specs.Format.{Spells};

@@ -1,4 +1,4 @@
-//! The keys of a maker's levels, and where a number signs by them.
+//! The keys of a maker's levels, and the index at which a number signs with each.
 
 ghost use Rattle.std.specs.Prelude.{◌≡◌, ◌+◌, ◌/◌, ◌^◌, ◌<◌, ◌≤◌, ◌++◌};
 ghost use Rattle.std.specs.Int.{w8, w64, to_be_bytes};
@@ -17,7 +17,7 @@ use mb_model::{KeySeed, SIGNATURE_LENGTH};
 use mb_signer::{KeptTree, Uses, public_kept, sign_kept, take_index};
 use std::sync::ledger::Ledger;
 
-/// The number without its last `count` digits to the base 32, at most 8.
+/// The number without its last `count` digits to the base 32; `count` is at most 8.
 #[tactic(auto, using(crate::proofs::Digits::digit_powers))]
 fn without_digits(number: u64, count: u8) -> u64
     requires { count ≤ 8 }
@@ -86,7 +86,7 @@ impl Level {
         Level { seed, tree, index }
     }
 
-    /// The public key as 56 bytes (RFC 8554, section 5.3), in no hash.
+    /// The public key as 56 bytes (RFC 8554, section 5.3), without computing a hash.
     pub(crate) fn public_bytes(&self) -> [u8; 56]
         ensures { result ≡ key_bytes (public_of self.now.seed) }
     {

@@ -2,8 +2,8 @@
 //!
 //! This crate owns the spelling of an HSS public key, the verification of an HSS signature, and the maker of such
 //! signatures, whose keys are all derived from one seed, with its file. Each call that makes a key or a signature
-//! counts its hashes on the count of its caller, and begins none; only the hash that derives a new maker's seed is
-//! not counted.
+//! counts its hashes on the count of its caller, and begins no count of its own; only the hash that derives a new
+//! maker's seed is not counted.
 #![tactic(auto)]
 
 mod key;

@@ -14,7 +14,7 @@ use crate::maker::{Maker, number_count};
 use mb_bytes::{Cursor, Field, Short, put_at, read_whole, u8_between, word_at};
 use mb_model::BadRecord;
 
-/// The word by which a maker's file is known.
+/// The first four bytes of a maker's file.
 const WORD: [u8; 4] = *b"MBK2";
 
 /// The number in the next eight bytes, big-endian.

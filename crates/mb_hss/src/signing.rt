@@ -102,8 +102,8 @@ fn put_signature<L: Ledger>(
     append(out, &level.sign(head, body, hashes));
 }
 
-/// Signs `head` followed by `body` with the maker's next number, which is answered and raised, and appends the
-/// signature, in at most 35,475 hashes a level (RFC 8554, section 6.2).
+/// Signs `head` followed by `body` with the maker's next number, and appends the signature, in at most 35,475 hashes a
+/// level (RFC 8554, section 6.2). Answers that number; the maker's next one is then one higher.
 ///
 /// Errors: `Spent` exactly if the next number is 32^levels; and `NoMemory`, only if the capacity of `out` does not hold
 /// the signature.

@@ -33,7 +33,7 @@ fn root_bytes() -> Result<[u8; 56], Fail> {
     Ok(<[u8; 56] as FromHex>::from_hex(ROOT)?)
 }
 
-/// The file of the maker of the noise, with the number next.
+/// The file of the maker from `NOISE`, with `number` as its next number.
 fn file_of(levels: u8, number: u64) -> Result<[u8; 45], Fail>
     requires least { 1 ≤ levels }
     requires most { levels ≤ 8 }
@@ -44,7 +44,7 @@ fn file_of(levels: u8, number: u64) -> Result<[u8; 45], Fail>
     Ok(file)
 }
 
-/// The maker of the noise, with the number next.
+/// The maker from `NOISE`, with `number` as its next number.
 fn maker_at(levels: u8, number: u64) -> Result<Maker, Fail>
     requires least { 1 ≤ levels }
     requires most { levels ≤ 8 }
@@ -94,7 +94,7 @@ fn public_counted<L: Ledger>(alloc: Global, maker: &Maker, blank: Blank) -> HssK
     public(maker, &mut HashCount::<L>::begin(alloc, blank))
 }
 
-/// Signs the root by the maker's next number, on a count of its own.
+/// Signs the root with the maker's next number, on a count of its own.
 fn endorse(
     alloc: Global,
     maker: &mut Maker,

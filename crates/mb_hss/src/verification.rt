@@ -1,4 +1,4 @@
-//! Whether an HSS signature is one of a text (RFC 8554, section 6.3).
+//! Whether bytes are an HSS signature of a text (RFC 8554, section 6.3).
 
 ghost use Rattle.std.specs.Prelude.{◌≡◌, ◌↔◌, ◌≤◌, ◌++◌, IsTrue, MatchOption};
 ghost use Rattle.mb_model.specs.Key.{chain_count, height};
@@ -78,7 +78,7 @@ fn verifies_under(key: &PublicKey, below: u8, head: &[u8], body: &[u8], sig: &[u
 }
 
 /// Whether `sig` is a signature of `head` followed by `body` under the key, whose number of levels is 1 to 8 (RFC 8554,
-/// section 6.3). With bytes after it, it is no signature.
+/// section 6.3). A signature with further bytes after it is none.
 pub fn verify(key: &HssKey, head: &[u8], body: &[u8], sig: &[u8]) -> bool
     requires least { 1 ≤ key.now.levels }
     requires most { key.now.levels ≤ 8 }

@@ -4,7 +4,7 @@ use Rattle.mb_model.specs.Faults.{Fault, bad_length, bad_root, bad_public, bad_r
 use Rattle.mb_image.specs.declared.image.ImageEnd.{ImageEnd}
 use Rattle.mb_image.specs.declared.image.ImageEnd.TheVariants as end
 
--- the fault of an image; want of memory is none
+-- the fault that an answer names; a failed allocation is none
 abbrev pub fault_of : ImageEnd → Option Fault
 fault_of end.Length = Some bad_length
 fault_of end.Root = Some bad_root

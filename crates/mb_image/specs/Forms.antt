@@ -1,4 +1,4 @@
--- Forms of the flash that a reader can be had for. Are as many entries unsigned as the root says?
+-- Forms of the flash that can have a reader. Are as many entries unsigned as the root says?
 use Rattle.std.specs.Prelude.{ℕ, List}
 use Rattle.mb_model.specs.declared.entry.Entry.{Entry}
 use Rattle.mb_model.specs.declared.entry.SignedEntry.{SignedEntry}
@@ -7,7 +7,7 @@ use Rattle.mb_model.specs.declared.stored.Root.{Root}
 use Rattle.mb_model.specs.StoredLog.{AreCounted}
 use Rattle.mb_model.specs.Meaning.{FlashForm}
 
--- by this form a flash holds as many unsigned entries as the root says
+-- in this form a flash holds as many unsigned entries as the root says
 abbrev pub CountsUnsigned : FlashForm → Type 0
 CountsUnsigned Form =
     (flash : List ℕ) (root : Root) (codes : Codes) (signed : List SignedEntry) (unsigned : List Entry)

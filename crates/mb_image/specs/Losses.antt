@@ -4,7 +4,7 @@ use Rattle.mb_model.specs.declared.entry.Entry.{Entry}
 use Rattle.mb_model.specs.declared.entry.Entry.TheVariants.{Birth, Change, NewKey, Succession}
 use Rattle.mb_model.specs.Layers.{is_in}
 
--- the number of the change by which region L lost its secrets; 0 for each other entry
+-- the number of a change that does not keep region L; 0 for every other entry
 abbrev pub loss : ℕ → Entry → ℕ
 loss L (Birth version serial key layers) = 0
 loss L (Change version position number kind layer cosigned layers kept next) = if is_in L kept then 0 else number

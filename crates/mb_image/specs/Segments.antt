@@ -7,7 +7,7 @@ use Rattle.mb_model.specs.declared.stored.Header.{Header}
 use Rattle.mb_model.specs.Flash.{HoldsLog}
 use Rattle.mb_model_lemmas.specs.SegmentLaws.{HoldsNoEntry}
 
--- a slot that there is, with a length of code that fits it
+-- an existing slot, with a length of code that fits it
 pub record IsSlot (slot : Slot) : Type 0 where
   pub which : slot.which ≤ 2
   pub length : slot.length ≤ CODE_LIMIT
@@ -36,7 +36,7 @@ pub record LacksEntry (flash : List ℕ) (count : ℕ) : Type 0 where
   pub below : position < count
   pub none : HoldsNoEntry flash position
 
--- the entries stand in the sectors of the log below the count
+-- the signed entries stand in the sectors of the log below the count
 pub record IsLogOf (flash : List ℕ) (count : ℕ) (log : List SignedEntry) : Type 0 where
   pub count_is : length log ≡ count
   pub holds : HoldsLog flash log

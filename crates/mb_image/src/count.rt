@@ -17,8 +17,8 @@ use mb_layout::is_blank;
 use mb_model::Root;
 
 /// The number of entries of the log of the device whose state the image means: at most 128, and 0 if the device is
-/// dead. The header alone is read, so that no memory is taken and nothing is hashed. The number is arbitrary if the
-/// image means no state.
+/// dead. Of the flash only the header is read: no memory is taken, and nothing is hashed. The number is arbitrary if
+/// the image means no state.
 pub fn log_length(image: &[u8]) -> u16
     ensures { (flash bbram : List ℕ) (state : Option State) → IsImage image.now flash bbram → StandsFor flash bbram state
         → result ≡ log_length state }

@@ -1,10 +1,10 @@
-//! The state that an image means, or the image's first fault; the length of the log of the image's device; and the image
-//! of a state, written from nothing; and whether two states are equal.
+//! The state that an image means, or the image's first fault; the length of the log of the image's device; the image of
+//! a state, written from nothing; and whether two states are equal.
 //!
 //! This crate owns the meaning of a device's memory as it lies: the current areas, the unsigned entries and their
 //! signatures, the pending work on the regions, and whether a device can have the state that results. What a flash
 //! holds is read by its form (`FlashForm`), once for every form; the present one is a flash in segments (`Segments`).
-//! The crate also owns the places of all that stands in an image with no pending work.
+//! The crate also owns the offsets of all that stands in an image with no pending work.
 #![tactic(auto)]
 
 mod alive;

@@ -11,7 +11,7 @@ use mb_layout::{write_entry, write_region, write_root};
 use mb_model::{Entry, NoMemory, RECORD_LIMIT, Region, Root};
 use std::alloc::Global;
 
-/// The bytes of one record, in a buffer that has room for each: 4,094 bytes.
+/// The bytes of one record, in a buffer with room for any: 4,094 bytes.
 #[derive(Drop)]
 pub(crate) struct RecordBuffer {
     pub(crate) bytes: Vec<u8>,
@@ -46,7 +46,7 @@ impl RecordBuffer {
         };
     }
 
-    /// Replaces the bytes by those of a region's record, or by none where the region is empty.
+    /// Replaces the bytes by those of a region's record, or by none if the region is empty.
     pub(crate) fn spell_region(&mut self, region: &Region)
         requires { CanBeWritten region.now }
         ensures { self.new.bytes.items ≡ written_region region.now }

@@ -105,7 +105,7 @@ fn has_name(secrets: &[Secret], name: &[u8]) -> bool
     secrets.iter().any(|secret| secret.name.as_slice() == name)
 }
 
-/// The number of the last change by which the layer's region lost its secrets; 0 if there is none.
+/// The number of the last change that took the secrets of the layer's region; 0 if there is none.
 fn last_loss(log: &[SignedEntry], layer: u8) -> u32
     ensures upper { All (λ signed. loss layer signed.entry ≤ result) log.now }
     ensures least { (c : ℕ) → All (λ signed. loss layer signed.entry ≤ c) log.now → result ≤ c }
@@ -117,7 +117,7 @@ fn last_loss(log: &[SignedEntry], layer: u8) -> u32
     last
 }
 
-/// The number of the entry if it is a change by which the layer's region lost its secrets; else 0.
+/// The number of the entry if it is a change that took the secrets of the layer's region; else 0.
 fn loss(layer: u8, entry: &Entry) -> u32
     ensures { result ≡ loss layer entry.now }
 {

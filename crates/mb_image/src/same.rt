@@ -6,7 +6,7 @@ use mb_model::{
     Bytes, Codes, Layers, Log, Region, RegionKey, RegionKeys, Secret, Secrets, SignedEntry, State,
 };
 
-/// Whether two states are equal; `None` is that of a dead device.
+/// Whether two states are equal; `None` is the state of a dead device.
 pub fn same_state(one: &Option<State>, other: &Option<State>) -> bool
     ensures { IsTrue result ↔ (one.now ≡ other.now) }
 {
@@ -24,7 +24,7 @@ fn is_same_state(one: &State, other: &State) -> bool
     is_same_device(one, other) && are_same_layers(one, other) && are_same_regions(one, other)
 }
 
-/// Whether two states have the same serial and the same device key, of which as many indices are used.
+/// Whether two states have the same serial and the same device key, with the same number of used indices.
 fn is_same_device(one: &State, other: &State) -> bool
     ensures { IsTrue result ↔ ((one.now.serial ≡ other.now.serial) × (one.now.device ≡ other.now.device) × (one.now.uses ≡ other.now.uses)) }
 {

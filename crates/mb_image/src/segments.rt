@@ -61,7 +61,7 @@ pub(crate) fn text_count(header: &StoredHeader<'_>) -> u16
     }
 }
 
-/// Whether as many entries are unsigned as the pending work says, with an outgoing key if they are two.
+/// Whether as many entries are unsigned as the pending work says, with an outgoing key if there are two.
 fn are_counted(pending: &Option<Pending>, count: u16) -> bool
     ensures { IsTrue result ↔ ((count ≡ how_many_unsigned pending.now) × CanSign pending.now) }
 {
@@ -160,7 +160,7 @@ fn signed_in(alloc: Global, flash: &[u8], count: u32) -> Result<Option<Log>, NoM
     Ok(Some(log))
 }
 
-/// The unsigned entries that the texts of a header spell; `None` exactly if they spell none.
+/// The unsigned entries that the texts of a header spell; `None` exactly if the texts spell no such entries.
 fn unsigned_in(alloc: Global, header: &StoredHeader<'_>) -> Result<Option<Entries>, NoMemory>
     requires { IsReadable (header_of header.now) }
     ensures { IfOk result (λ found. FindsBy (λ entries. entries)

@@ -22,7 +22,7 @@ use mb_model::{
 use mb_segments::{put_log, write_header};
 use std::alloc::Global;
 
-/// The life byte of a device that lives, and the selectors of the root and of the regions: the first of two areas is
+/// The life byte of a live device, and the selectors of the root and of the regions: the first of two areas is
 /// current everywhere.
 const HEAD: [u8; 4] = [0xA5, 0, 0, 0];
 
@@ -143,7 +143,7 @@ fn header_of(state: &State) -> Header
     }
 }
 
-/// Where the code of a layer stands: in slot 1, where there is code.
+/// Where the code of a layer stands: in slot 1, if there is code.
 fn slot_of(code: &Option<Bytes>) -> Slot
     requires { IfSome code.now (λ bytes. length bytes ≤ CODE_LIMIT) }
     ensures { result ≡ first_slot code.now }
@@ -248,8 +248,8 @@ fn put_erased(out: &mut Vec<u8>, count: usize) -> Result<(), NoMemory>
 
 // ---- the battery-backed memory
 
-/// Appends the battery-backed memory: the life byte and the selectors, the root and the regions in the first of their two
-/// areas, and zeros.
+/// Appends the battery-backed memory: the life byte and the selectors, the root and the regions in the first of their
+/// two areas, and zeros.
 #[tactic(auto, unfolding(mb_model::specs::WrittenImage::written_bbram))]
 fn put_bbram(out: &mut Vec<u8>, record: &mut RecordBuffer, state: &State) -> Result<(), NoMemory>
     requires { FitsImage state.now }

@@ -1,4 +1,4 @@
--- Why no record was read, as a place. Where do the bytes fail?
+-- Why no record was read, as an offset. Where do the bytes fail?
 use Rattle.std.specs.Prelude.{ℕ, Option, Some, None}
 use Rattle.mb_layout.specs.declared.end.LayoutEnd.{LayoutEnd}
 use Rattle.mb_layout.specs.declared.end.LayoutEnd.TheVariants.{Bad, NoMemory}

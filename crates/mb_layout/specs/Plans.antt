@@ -9,13 +9,13 @@ pub record SamePlans (before after : Room) : Type 0 where
   pub header : after.header ≡ before.header
   pub log : after.log ≡ before.log
 
--- all that is written next stays, but the header
+-- all that is written next stays, but for the header
 pub record SameBesidesHeader (before after : Room) : Type 0 where
   pub code : after.code ≡ before.code
   pub code_layer : after.code_layer ≡ before.code_layer
   pub log : after.log ≡ before.log
 
--- all that is written next stays, but the sector of the log
+-- all that is written next stays, but for the sector of the log
 pub record SameBesidesLog (before after : Room) : Type 0 where
   pub code : after.code ≡ before.code
   pub code_layer : after.code_layer ≡ before.code_layer

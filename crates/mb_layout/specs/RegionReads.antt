@@ -1,4 +1,4 @@
--- What a reader of a region gives, whose record may be of either version. Which region is it, and where do bytes fail?
+-- What a reader of a region's record of either version answers. Which region is it, and where do bytes fail?
 use Rattle.std.specs.Prelude.{ℕ, List, Result, Ok, Err}
 use Rattle.mb_model.specs.declared.region.Region.{Region}
 use Rattle.mb_model.specs.RegionFormat.{region_format, IsRecordOf}
@@ -13,7 +13,8 @@ abbrev pub ReadsRegion : Cursor → Result Region LayoutEnd → Cursor → Type 
 ReadsRegion old (Ok region) new = (version : ℕ) × IsRead region_format old (version, region) new
 ReadsRegion old (Err end) new = IsNotReadAt region_format old (layout_at end) new
 
--- the same of the whole of the bytes
+-- Ok exactly with the region whose record, of one of the versions, the whole of the bytes spells. Else exactly the
+-- offset that fails, or no memory.
 abbrev pub ReadsWholeRegion : List ℕ → Result Region LayoutEnd → Type 0
 ReadsWholeRegion bytes (Ok region) = IsRecordOf bytes region
 ReadsWholeRegion bytes (Err end) = FailsWholeAt region_format bytes (layout_at end)

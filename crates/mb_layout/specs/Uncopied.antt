@@ -1,4 +1,4 @@
--- What was read and not copied. For which value does it stand?
+-- What was read and not copied. Which value does it mean?
 use Rattle.mb_model.specs.declared.region.Secret.{Secret}
 use Rattle.mb_layout.specs.declared.region.StoredSecret.{StoredSecret}
 

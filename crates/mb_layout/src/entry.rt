@@ -123,7 +123,7 @@ fn succession_at(cursor: &mut Cursor<'_>) -> Result<Entry, BadRecord>
     Ok(Entry::Succession { position, key })
 }
 
-/// Reads an entry after its first byte, which says which of the four it is, and which version a birth or change has.
+/// Reads an entry: its first byte says which of the four it is, and which version a birth or change has.
 #[tactic(auto, unfolding(mb_model::specs::EntryFormat::entry_format))]
 pub fn entry_at(cursor: &mut Cursor<'_>) -> Result<Entry, BadRecord>
     ensures { Reads bad_at entry_format cursor.old result cursor.new }
@@ -231,7 +231,7 @@ fn put_made_key(
     put_public_key(out, key)
 }
 
-/// Appends an entry after its first byte, which says which of the four it is.
+/// Appends an entry: its first byte says which of the four it is, and which version a birth or change has.
 #[tactic(auto, unfolding(mb_model::specs::EntryFormat::birth_format, mb_model::specs::EntryFormat::change_format, mb_model::specs::EntryFormat::new_key_format, mb_model::specs::EntryFormat::succession_format, mb_model::specs::EntryFormat::entry_format))]
 pub fn put_entry(out: &mut Vec<u8>, entry: &Entry) -> Result<(), NoMemory>
     ensures { Puts (entry_format.spelling entry.now) out.old result out.new }

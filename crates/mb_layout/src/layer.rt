@@ -225,9 +225,9 @@ pub fn read_layer(c: &mut Cursor<'_>, version: u8) -> Result<Layer, BadRecord>
     Ok(layer)
 }
 
-/// Appends the layer's spelling in the form of entries of this version, 1 or 2; it has to have one. Version 1 spells a
-/// layer only if its trusts are equal. `Ok` if the capacity of `out` holds the bytes; else memory may lack, and `out`
-/// is then as it was.
+/// Appends the layer's spelling in the form of entries of this version, 1 or 2, or leaves `out` as it was. The layer
+/// has to have a spelling: version 1 spells a layer only if its trusts are equal. `Ok` if the capacity of `out` holds
+/// the bytes.
 pub fn write_layer(layer: &Layer, out: &mut Vec<u8>, version: u8) -> Result<(), NoMemory>
     requires version { (version ≡ 1) ⊎ (version ≡ 2) }
     requires spelled { (layer_format version).Allowed layer.now }

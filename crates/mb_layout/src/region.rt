@@ -36,7 +36,7 @@ pub struct StoredSecret<'a> {
     pub born: u32,
 }
 
-/// A name after its length: 1 to 32 printable bytes, none of them a space.
+/// Reads a name after its length: 1 to 32 printable bytes, none of them a space.
 fn name_at<'a>(cursor: &mut Cursor<'a>) -> Result<&'a [u8], BadRecord>
     ensures { ReadsAs (λ slice. slice.now) bad_at
         (sized_that is_name (between w8 1 NAME_LIMIT)) cursor.old result cursor.new }
@@ -146,7 +146,7 @@ fn least_keys(secrets: &Secrets) -> u8
     if secrets.as_slice().is_empty() { 1 } else { 0 }
 }
 
-/// What stands after the version of a region's record.
+/// Reads what stands after the version of a region's record.
 #[tactic(auto, unfolding(mb_model::specs::RegionFormat::region_by))]
 fn region_after(alloc: Global, cursor: &mut Cursor<'_>, version: u8) -> Result<Region, LayoutEnd>
     ensures { Reads layout_at (region_by version) cursor.old result cursor.new }
@@ -157,7 +157,7 @@ fn region_after(alloc: Global, cursor: &mut Cursor<'_>, version: u8) -> Result<R
     Ok(Region { secrets, keys })
 }
 
-/// The version of a region's record, and the region.
+/// Reads the version of a region's record, and the region.
 #[tactic(auto, unfolding(mb_model::specs::RegionFormat::region_format))]
 fn region_at(alloc: Global, cursor: &mut Cursor<'_>) -> Result<(u8, Region), LayoutEnd>
     ensures { Reads layout_at region_format cursor.old result cursor.new }
@@ -177,7 +177,7 @@ fn put_secrets(out: &mut Vec<u8>, secrets: &Secrets) -> Result<(), NoMemory>
     put_items::<SecretField>(out, secrets.as_slice())
 }
 
-/// Appends the keys of a region's record, at most 255, after a byte for their number. If memory lacks, a part of the
+/// Appends the keys of a region's record, at most 255, after a byte for their number. If memory runs out, a part of the
 /// spelling may have been appended.
 #[tactic(auto, unfolding(mb_model::specs::RegionFormat::keys_format))]
 pub fn put_keys(out: &mut Vec<u8>, keys: &[RegionKey]) -> Result<(), NoMemory>
@@ -253,7 +253,7 @@ pub fn region_of_bytes(alloc: Global, bytes: &[u8]) -> Result<Region, LayoutEnd>
 
 /// Appends the region's record of version 2, or leaves `out` as it was. `Ok` if the capacity of `out` holds it.
 ///
-/// Not by `write_field`: the region is borrowed, and a value of `RegionField` owns it.
+/// `write_field` does not serve here: the region is borrowed, and a value of `RegionField` owns it.
 #[tactic(auto, using(crate::proofs::Sizes::region_fits))]
 pub fn write_region(region: &Region, out: &mut Vec<u8>) -> Result<(), NoMemory>
     requires { region_format.Allowed (REGION_VERSION, region.now) }

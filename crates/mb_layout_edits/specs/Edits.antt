@@ -11,8 +11,8 @@ use Rattle.mb_model.specs.RegionFormat.{SpellsRegion, CanBeWritten, written_regi
 use Rattle.mb_layout_edits.specs.declared.usage.NotUsed.{NotUsed}
 use Rattle.mb_layout_edits.specs.declared.usage.NotUsed.TheVariants.{NoKey, Spent}
 
--- If the old bytes stood for a region, the new ones are those that are written for it after its fate, provided that can
--- be written.
+-- If the old bytes spell a region, the new ones are those that are written for that region after its fate, provided
+-- that it can be written.
 abbrev pub IsFated : Fate → List ℕ → List ℕ → Type 0
 IsFated fate old new =
     (region : Region) → SpellsRegion old region → CanBeWritten (region_after_fate fate region)
@@ -35,7 +35,7 @@ pub record IsSpent (region : Region) (number : ℕ) : Type 0 where
   pub found : find (has_number number) region.keys ≡ Some key
   pub spent : KEY_USES ≤ key.uses
 
--- what using a key of a region comes to
+-- the result of using a key of a region
 abbrev pub UseOf : Region → ℕ → Result RegionKey NotUsed → List ℕ → Type 0
 UseOf region number (Ok key) new = IsUsed region number key new
 UseOf region number (Err NoKey) new = find (has_number number) region.keys ≡ None

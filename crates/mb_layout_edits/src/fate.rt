@@ -51,8 +51,8 @@ fn fated_region<'a>(fate: &Fate, stored: StoredRegion<'a>) -> StoredRegion<'a>
 }
 
 /// Replaces `out` by the record, of version 2, of the stored region after its fate, or by no bytes if it is then empty.
-/// Nothing is said if the bytes stand for no region, or if the region afterwards cannot be written, as one with nine
-/// keys. `out` has room for any record of a region.
+/// Nothing is said if the bytes spell no region, or if the region afterwards cannot be written, as one with nine keys.
+/// `out` has room for any record of a region.
 pub fn fate_record(bytes: &[u8], fate: &Fate, out: &mut Vec<u8>)
     requires room { REGION_LIMIT ≤ vec_capacity out.old }
     requires short { length bytes.now ≤ FILE_LIMIT }

@@ -24,7 +24,7 @@ pub struct StoredRegion<'a> {
     pub keys: KeyRow,
 }
 
-/// Moves the cursor past the secrets, at most so many, without copying them, and returns their number.
+/// Moves the cursor past the secrets, at most `most`, without copying them, and returns their number.
 #[tactic(auto, unfolding(mb_model::specs::RegionFormat::secrets_format))]
 fn pass_secrets(cursor: &mut Cursor<'_>, most: u8) -> Result<u8, BadRecord>
     ensures { PassesOver (secrets_format most) cursor.old result cursor.new }
@@ -36,7 +36,7 @@ fn pass_secrets(cursor: &mut Cursor<'_>, most: u8) -> Result<u8, BadRecord>
     Ok(count)
 }
 
-/// The least number of keys beside so many secrets.
+/// The least number of keys beside `count` secrets.
 fn least_beside(count: u8) -> u8
     ensures { (secrets : List Secret) → length secrets ≡ count → result ≡ least_keys secrets }
 {
@@ -74,7 +74,7 @@ pub fn no_region() -> StoredRegion<'static>
     }
 }
 
-/// The region for which the bytes stand; `None` only if they stand for none.
+/// The region that the bytes spell; `None` only if they spell none.
 pub fn stored_region(bytes: &[u8]) -> Option<StoredRegion<'_>>
     requires { length bytes.now ≤ FILE_LIMIT }
     ensures { TakesApart bytes.now result }
@@ -88,7 +88,7 @@ pub fn stored_region(bytes: &[u8]) -> Option<StoredRegion<'_>>
     }
 }
 
-/// Counts the keys of the region for which the bytes stand; `None` only if they stand for none.
+/// Counts the keys of the region that the bytes spell; `None` only if they spell none.
 pub fn count_keys(bytes: &[u8]) -> Option<u32>
     requires { length bytes.now ≤ FILE_LIMIT }
     ensures { CountsKeys bytes.now result }

@@ -21,7 +21,7 @@ pub enum NotUsed {
 
 /// Uses the first key of this number in the stored region once: returns the key as it was before, and replaces `out` by
 /// the record of the region, of version 2, with one more use of it. `NoKey` exactly if the region has no key of that
-/// number, and `Spent` if that key has no index left; `out` is then empty. Nothing is said if the bytes stand for no
+/// number, and `Spent` if that key has no index left; `out` is then empty. Nothing is said if the bytes spell no
 /// region. `out` has room for any record of a region.
 pub fn use_in_record(bytes: &[u8], number: u32, out: &mut Vec<u8>) -> Result<RegionKey, NotUsed>
     requires room { REGION_LIMIT ≤ vec_capacity out.old }

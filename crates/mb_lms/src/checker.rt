@@ -41,7 +41,7 @@ impl Checker {
         self.hasher.update(piece);
     }
 
-    /// Whether the signature, the one that `begin` was given, is a signature of the text that was fed.
+    /// Whether `sig`, the signature that `begin` was given, is a signature of the text that was fed.
     pub fn finish(self, sig: &[u8]) -> bool
         ensures { (key : PublicKey) (text : List ℕ) → IsChecking self key sig.now text → (IsTrue result ↔ Verifies key text sig.now) }
     {

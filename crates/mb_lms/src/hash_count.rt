@@ -8,8 +8,8 @@ use std::alloc::Global;
 use std::marker::Model;
 use std::sync::ledger::{Blank, Book, Ledger, Share};
 
-/// The hashes that a leaf of a key's tree takes: 67 draws of a chain's start, 15 steps of each chain, and one hash each
-/// of the one-time key and of the leaf (RFC 8554, sections 4.3 and 5.3).
+/// The hashes that a leaf of a key's tree takes: the starts of 67 chains, 15 steps of each chain, and one hash each for
+/// the one-time key and the leaf (RFC 8554, sections 4.3 and 5.3).
 pub const LEAF_HASHES: u64 = 1_074;
 
 /// The hashes that a key's tree takes: its 32 leaves and the 31 nodes above them.
@@ -38,8 +38,8 @@ impl<L: Ledger> Model for HashCount<L> {
 
 impl<L: Ledger> HashCount<L> {
     /// A count of no hashes, over a ledger of at least one part. It takes no memory. The allocator is a permission,
-    /// which a function has only if its caller gives it: no call that hashes is given one, here or in `mb_signer`, so
-    /// that none can begin a count of its own beside its caller's.
+    /// which a function has only if its caller gives it. No call that hashes is given one, here or in `mb_signer`, so
+    /// none can begin a count of its own beside its caller's.
     pub fn begin(_permission: Global, blank: Blank) -> HashCount<L>
         requires name { blank.name ≡ L.name }
         requires parts { blank.parts ≡ L.parts }

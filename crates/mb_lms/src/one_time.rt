@@ -91,7 +91,7 @@ fn chain_step(prefix: &[u8; 22], step: u8, value: &[u8; 32]) -> [u8; 32]
     Sha256::digest(text)
 }
 
-/// The value of a chain after the steps from `first` on and before `last`.
+/// The value of a chain after the steps from `first` up to, but not including, `last`.
 #[tactic(auto, using(crate::proofs::Digits::chain_rules))]
 fn chain_end(prefix: &[u8; 22], first: u8, last: u8, value: [u8; 32]) -> [u8; 32]
     requires { first ≤ last }

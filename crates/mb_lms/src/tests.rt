@@ -27,27 +27,27 @@ fn verifies(key: &PublicKey, text: &[u8], sig: &[u8]) -> bool {
     verify(key, head, body, sig)
 }
 
-/// Turns the lowest bit of the byte at an offset.
+/// Flips the lowest bit of the byte at an offset.
 fn turn(rt: &impl Abort, bytes: &mut [u8], at: usize) {
     assert!(rt; at < bytes.len());
     bytes[at] ^= 1;
 }
 
-/// With one bit of the text turned, the signature does not verify.
+/// With one bit of the text flipped, the signature does not verify.
 fn refuses_turned_text(rt: &impl Abort, key: &PublicKey, text: &mut [u8], sig: &[u8], at: usize) {
     turn(rt, text, at);
     assert!(rt; !verifies(key, text, sig), "the text turned at {at}");
     turn(rt, text, at);
 }
 
-/// With one bit of itself turned, the signature does not verify.
+/// With one of its own bits flipped, the signature does not verify.
 fn refuses_turned_bit(rt: &impl Abort, key: &PublicKey, text: &[u8], sig: &mut [u8], at: usize) {
     turn(rt, sig, at);
     assert!(rt; !verifies(key, text, sig), "the signature turned at {at}");
     turn(rt, sig, at);
 }
 
-/// With one bit of q, of a type number, of C, of a chain value or of the path turned, the signature does not verify.
+/// With one bit of q, of a type number, of C, of a chain value or of the path flipped, the signature does not verify.
 fn refuses_turned_bits(rt: &impl Abort, key: &PublicKey, text: &[u8], sig: &mut [u8]) {
     let path_at = sig.len().saturating_sub(32 * height(key.tree) as usize);
     let last = sig.len().saturating_sub(1);
@@ -116,7 +116,7 @@ fn expect_signatures(rt: &impl Abort, alloc: Global, vectors: &[Vector]) -> Resu
     Ok(())
 }
 
-/// The key of these bytes is written as them, and has this hash.
+/// The key that these bytes spell is written as the same bytes, and has this hash.
 fn expect_key(rt: &impl Abort, spelling: &str, hash: &str) -> Result<(), Fail> {
     let key = key_of(spelling)?;
     assert_eq!(rt; key_bytes(&key), <[u8; 56] as FromHex>::from_hex(spelling)?);
@@ -146,7 +146,7 @@ fn keys_are_spelled(rt: HostRuntime) -> Result<(), Fail> {
     )
 }
 
-/// Bytes in the form of a signature of these types: leaf 3, the types, and any other bytes.
+/// Bytes in the form of a signature of these types: leaf 3, the type numbers, and otherwise arbitrary bytes.
 fn any_signature(alloc: Global, tree: Tree, chains: Chains) -> Result<Vec<u8>, Fail> {
     let path_at = 44 + 32 * usize::from(chain_count(chains));
     let mut sig = Vec::new(alloc);
@@ -199,7 +199,7 @@ fn all_pairs_of_types(rt: HostRuntime) -> Result<(), Fail> {
     expect_chains(&rt, alloc, Tree::H25)
 }
 
-/// The bytes of a key with these type numbers; the first of them has this high byte.
+/// The key of bytes with these type numbers, if there is one; the first of the bytes is `high`.
 fn key_typed(high: u8, tree: u8, chains: u8) -> Option<PublicKey> {
     let mut bytes = [0; 56];
     bytes[0] = high;

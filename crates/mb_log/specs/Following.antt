@@ -6,7 +6,7 @@ use Rattle.mb_model.specs.declared.state.Follow.{Follow}
 use Rattle.mb_model.specs.declared.state.Follow.TheVariants.{Yes, Order, Rules}
 use Rattle.mb_model.specs.Log.{Ordered, Ruled}
 
--- an entry after others stands in its place, and its signature has this index; those of the first are free
+-- an entry after others has the right position, and its signature the right index; those of the first are free
 abbrev pub InOrder : Figures → Entry → ℕ → Type 0
 InOrder before entry index = before.length ≢ 0 → Ordered before entry index
 

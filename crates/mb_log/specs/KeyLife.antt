@@ -7,11 +7,11 @@ use Rattle.mb_model.specs.Acceptance.{KeyEntry, key_of, is_alive}
 use Rattle.mb_log.specs.declared.life.BornKey.{BornKey}
 use Rattle.mb_log.specs.declared.life.Life.{Life}
 
--- what the entry says by which a key was born
+-- what the entry that made a key says of it
 abbrev pub as_entry : BornKey → KeyEntry
 as_entry born = record { layer = born.layer; kind = born.kind; key = born.key }
 
--- this is the life of the key with the number n, by the entries
+-- the life of the key with the number n is this one, by the entries
 pub record IsLifeOf (log : List Entry) (n : ℕ) (life : Life) : Type 0 where
   pub number : life.number ≡ n
   pub born : key_of log n ≡ option_map as_entry life.born

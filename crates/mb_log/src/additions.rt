@@ -70,7 +70,7 @@ pub fn bodies<L: Ledger>(
     })
 }
 
-/// Whether the fact makes the next device key: if it is an ordinary load of layer 1.
+/// Whether the fact makes the next device key: it does if it is an ordinary load of layer 1.
 fn names_next(fact: &Fact) -> bool
     ensures { result ≡ names_next fact.now }
 {
@@ -93,7 +93,7 @@ fn put(entries: &mut Vec<Entry>, entry: Entry)
 }
 
 /// The view in which the device key has an index for the fact's own entry. If a succession is needed, it is the view
-/// after that, and the entry of the succession is put into the list.
+/// after the succession, whose entry is put into the list.
 fn make_ready<L: Ledger>(
     view: &View,
     names_next: bool,

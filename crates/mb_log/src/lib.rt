@@ -2,8 +2,8 @@
 //! configurations in which a key lived.
 //!
 //! This crate owns how many entries an order needs and which they are, how a device derives its keys from the draw of
-//! an event, the figures and the serial of a log, the tests by which an entry follows, and the life of one key by the
-//! entries of a log.
+//! an event, the figures and the serial of a log, the tests of whether an entry may follow, and the life of one key by
+//! the entries of a log.
 #![tactic(auto)]
 
 mod additions;

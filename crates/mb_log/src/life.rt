@@ -114,7 +114,7 @@ impl Life {
 
 /// The configurations in which the key `key` lived, by a log of at most 128 entries.
 ///
-/// Each entry of the log has to obey the rules, as those do for which `follows` answers `Yes`. The list is then empty
+/// Each entry of the log has to obey the rules, as entries do if `follows` answers `Yes`. The list is then empty
 /// exactly if no entry makes such a key.
 pub fn lives(alloc: Global, log: &[SignedEntry], key: u32) -> Result<Lives, NoMemory>
     requires { length log.now ≤ ENTRY_LIMIT }

@@ -4,11 +4,11 @@ use Rattle.mb_format.specs.Format.{IsBytes}
 use Rattle.mb_model.specs.Faults.{Fault}
 use Rattle.mb_model.specs.Migration.{IsMigrated, CannotMigrate, MeansTheSame}
 
--- an image of bytes is migrated to one image
+-- an image of bytes is migrated to one image only
 abbrev pub MigratesToOne : Type 0
 MigratesToOne = (image a b : List ℕ) → IsBytes image → IsMigrated image a → IsMigrated image b → a ≡ b
 
--- what a migration makes stands for the state for which the image stood
+-- a migrated image means the state that the original image means, or meant in the form before
 abbrev pub MigrationKeepsState : Type 0
 MigrationKeepsState = (image out : List ℕ) → IsMigrated image out → MeansTheSame image out
 
@@ -17,7 +17,7 @@ abbrev pub MigratedStaysSo : Type 0
 MigratedStaysSo =
     (image out again : List ℕ) → IsBytes out → IsMigrated image out → IsMigrated out again → again ≡ out
 
--- no image of bytes can be migrated and cannot
+-- no image of bytes both can and cannot be migrated
 abbrev pub MigratesOrCannot : Type 0
 MigratesOrCannot =
     (image out : List ℕ) (fault : Fault) → IsBytes image → IsMigrated image out → CannotMigrate image fault → ⊥

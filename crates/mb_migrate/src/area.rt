@@ -1,4 +1,4 @@
-//! The record with which an area of the flash begins: after its length, and before arbitrary bytes.
+//! The record that an area of the flash begins with: after its length, and before arbitrary bytes.
 
 ghost use Rattle.std.specs.Prelude.{◌≡◌, ◌≤◌, length, IfOk};
 ghost use Rattle.mb_model.specs.PublicRecord.{public_format};
@@ -13,7 +13,7 @@ use std::alloc::Global;
 /// The longest record in an area of the flash, in bytes.
 const PUBLIC_LIMIT: usize = 470_000;
 
-/// The record with which an area of the flash begins, after its length in four bytes and before arbitrary ones. `None`
+/// The record that an area of the flash begins with, after its length in four bytes and before arbitrary ones. `None`
 /// if it has more than 470,000 bytes or more than the area.
 pub fn record_at_start(area: &[u8]) -> Option<&[u8]>
     ensures { FindsBy (λ bytes. bytes.now) (BeginsArea area.now) result }
@@ -26,7 +26,7 @@ pub fn record_at_start(area: &[u8]) -> Option<&[u8]>
     Some(&rest[..length])
 }
 
-/// The public record with which an area of the flash begins; `None` exactly if it begins with none; `NoMemory` if an
+/// The public record that an area of the flash begins with; `None` exactly if it begins with none; `NoMemory` if an
 /// allocation fails.
 pub fn public_at_start(alloc: Global, flash_area: &[u8]) -> Result<Option<Public>, NoMemory>
     ensures { IfOk result (λ found. FindsBy (λ stored. stored)

@@ -32,8 +32,8 @@ pub fn migrate<L: Ledger>(
     Ok(write_image(alloc, &state)?)
 }
 
-/// The state that the image means in the present form or, if it means none in that, the state that it meant in the form
-/// before; if it is well formed in neither, the fault of the present form.
+/// The state that the image means in the present form or, if it means none in that form, the state that it meant in the
+/// form before; if it is well formed in neither, its fault in the present form.
 #[tactic(auto, using(crate::proofs::Migrations::cannot_migrate))]
 fn either_stand_for<L: Ledger>(
     alloc: Global,
@@ -63,7 +63,7 @@ enum Reading {
     Fault(ImageEnd),
 }
 
-/// What the image is by a form of the flash.
+/// What the image is found to be by a form of the flash.
 fn read_by<F: FlashForm, L: Ledger>(
     alloc: Global,
     image: &[u8],

@@ -22,9 +22,9 @@ use Rattle.mb_model.specs.SignedTexts.{entry_text, statement_text, IsSignedBy}
 pub data ChainRefusal : Type 0 where
   -- the bytes are no chain: they fail at this offset
   bad_form : ℕ → ChainRefusal
-  -- this entry, from 0, was not signed by the key in charge
+  -- this entry, counted from 0, was not signed by the key in charge
   bad_signature : ℕ → ChainRefusal
-  -- this entry does not stand in its place, or its signature has not the next index
+  -- this entry is not in its place, or its signature does not have the next index
   bad_order : ℕ → ChainRefusal
   -- this entry breaks the rules of the log
   breaks_rules : ℕ → ChainRefusal
@@ -32,12 +32,12 @@ pub data ChainRefusal : Type 0 where
   key_unknown : ChainRefusal
   -- the key did not sign the statement
   bad_statement : ChainRefusal
-  -- the statement names one configuration number, and the last of the chain is another
+  -- the statement names one configuration number, and the chain ends at another
   wrong_number : ℕ → ℕ → ChainRefusal
   -- the key has ended
   key_ended : ChainRefusal
 
--- the number by which it is told
+-- the number that is printed for a refusal
 abbrev pub refusal_code : ChainRefusal → ℕ
 refusal_code (bad_form offset) = 20
 refusal_code (bad_signature index) = 21
@@ -48,32 +48,32 @@ refusal_code bad_statement = 25
 refusal_code (wrong_number named last) = 26
 refusal_code key_ended = 27
 
--- ---- the entries, each by those before it
+-- ---- the entries, each verified against those before it
 
--- the key in charge of the next entry: at the birth the maker's key, and then the device key named last
+-- the key in charge of the next entry: the maker's key for the birth, afterwards the device key named last
 abbrev pub in_charge : PublicKey → Figures → Option PublicKey
 in_charge maker before = if before.length == 0 then Some maker else before.device
 
 abbrev pub IsCertified : PublicKey → Figures → SignedEntry → Type 0
 IsCertified maker before signed = IsSignedBy (in_charge maker before) (entry_text signed.entry) signed.signature
 
--- an entry after others stands in its place; that of the first, and its index, is free
+-- an entry after others stands in its place and is signed with the next index; neither is required of the first
 abbrev pub IsInPlace : Figures → SignedEntry → Type 0
 IsInPlace before signed = before.length ≢ 0 → Ordered before signed.entry (leaf_number signed.signature)
 
--- the entry follows from a log with these figures
+-- an entry may follow a log with these figures: signed by the key in charge, in its place, and allowed by the rules
 pub record IsGood (maker : PublicKey) (before : Figures) (signed : SignedEntry) : Type 0 where
   pub certified : IsCertified maker before signed
   pub in_place : IsInPlace before signed
   pub ruled : Ruled before signed.entry
 
--- each entry of a list follows from those before it
+-- each entry of a list may follow those before it
 abbrev pub AreGood : PublicKey → List SignedEntry → Type 0
 AreGood maker log =
     (before : List SignedEntry) (signed : SignedEntry) (rest : List SignedEntry) → log ≡ before ++ signed ∷ rest
     → IsGood maker (figures_of (entries_of before)) signed
 
--- the entry at this place of a list, where all before it are good
+-- the entry at this place of a list, counted from 0; all entries before it are good
 pub record IsNext
     (maker : PublicKey)
     (log : List SignedEntry)
@@ -85,7 +85,7 @@ pub record IsNext
   pub index : place ≡ length before
   pub good : AreGood maker before
 
--- the maker signed the birth
+-- the first entry, if there is one, verifies under the maker's key
 abbrev pub IsBornOf : PublicKey → List SignedEntry → Type 0
 IsBornOf maker log =
     (birth : SignedEntry) (rest : List SignedEntry) → log ≡ birth ∷ rest
@@ -93,7 +93,7 @@ IsBornOf maker log =
 
 -- ---- the key and the statement
 
--- what the entry that makes a key of a region says of it
+-- what an entry that makes a region's key says of the key
 pub record KeyEntry : Type 0 where
   pub layer : ℕ
   pub kind : KeyKind
@@ -106,26 +106,26 @@ key_in asked (NewKey position number key_number layer kind key) =
     if key_number == asked then Some (record { layer = layer; kind = kind; key = key }) else None
 key_in asked (Succession position key) = None
 
--- the region's key with this number, of which no good chain has two
+-- the region's key with this number, the last that an entry makes; no good chain has two
 unfoldable pub key_of : List Entry → ℕ → Option KeyEntry
 key_of log key_number = last_of (key_in key_number) log
 
--- the region's key with this number is alive by the log: it is one of the keys that are
+-- whether the key with this number is alive by the log, as one of the `alive_keys` of this layer
 unfoldable pub is_alive : List Entry → ℕ → ℕ → Bool
 is_alive log key_number layer = list_any (λ made. made.number == key_number) (alive_keys log layer)
 
--- the key signed the statement, as the chain's device
+-- the statement verifies under the key, with the serial that the log names and this key number
 abbrev pub IsStated : List Entry → ℕ → PublicKey → Statement → Type 0
 IsStated log key_number key statement =
     IsSomeAnd (serial_of log)
     (λ serial. Verifies key (statement_text serial key_number statement.number statement.message) statement.signature)
 
--- what holds of a statement, and of none
+-- the property holds of the statement, if there is one
 abbrev pub IfStatement : Option Statement → (Statement → Type 0) → Type 0
 IfStatement None Holds = Unit {0}
 IfStatement (Some statement) Holds = Holds statement
 
--- a statement is of the chain's last configuration, and of a key that is alive
+-- the key signed the statement, its configuration number is that of the log, and the key is alive
 pub record IsCurrent (log : List Entry) (key_number : ℕ) (made : KeyEntry) (statement : Statement) : Type 0 where
   pub signed : IsStated log key_number made.key statement
   pub number : statement.number ≡ number_of log
@@ -148,7 +148,7 @@ report_of chain key_number made = record {
   message = message_of chain.statement;
 }
 
--- The bytes are accepted under the maker's key, for the key with this number, and say this of it.
+-- The bytes are accepted under the maker's key, with this report on the key with this number.
 pub record Accepts (maker : PublicKey) (bytes : List ℕ) (key_number : ℕ) (report : Report) : Type 0 where
   pub chain : Chain
   pub spelled : Spells chain_format bytes chain
@@ -158,7 +158,7 @@ pub record Accepts (maker : PublicKey) (bytes : List ℕ) (key_number : ℕ) (re
   pub current : IfStatement chain.statement (IsCurrent (entries_of chain.entries) key_number made)
   pub report_is : report ≡ report_of chain key_number made
 
--- A chain whose entries are good, the entry of the key with this number, and the statement.
+-- The bytes spell a chain with this statement. Its entries are good, and one of them makes the key with this number.
 pub record IsGoodFor
     (maker : PublicKey)
     (bytes : List ℕ)
@@ -173,7 +173,7 @@ pub record IsGoodFor
   pub named : key_of log key_number ≡ Some made
   pub stated : chain.statement ≡ Some statement
 
--- The bytes are refused for this, and for nothing that is tried before it.
+-- The bytes are refused for this reason, and for none that is checked before it.
 abbrev pub IsRefused : PublicKey → List ℕ → ℕ → ChainRefusal → Type 0
 IsRefused maker bytes key_number (bad_form offset) = FailsWhole chain_format bytes offset
 IsRefused maker bytes key_number (bad_signature index) =
@@ -204,7 +204,7 @@ IsRefused maker bytes key_number key_ended =
     × IsStated log key_number made.key statement × (statement.number ≡ number_of log)
     × (is_alive log key_number made.layer ≡ false)
 
--- what a verifier says of bytes: it accepts them, and says this of the key, or refuses them for this
+-- what a verifier says of bytes: it accepts them, with a report on the key, or refuses them for a reason
 pub data Verdict : Type 0 where
   chain_acceptance : Report → Verdict
   chain_rejection : ChainRefusal → Verdict
@@ -215,9 +215,9 @@ IsVerdict maker bytes key_number (chain_rejection why) = IsRefused maker bytes k
 
 -- ---- chains without forged entries
 
--- A chain has no forged entry of the device with the log: a birth that verifies under the maker's key is the log's,
--- and each later entry that verifies under a device key that the log names is an entry of it. Signatures do not count
--- here.
+-- A chain has no forged entry of the device with this log: its first entry is the log's first if it verifies under the
+-- maker's key, and each later entry is one of the log's if it verifies under a device key that the log names. Entries
+-- are compared without their signatures.
 pub record Honest (entries : List SignedEntry) (maker : PublicKey) (log : List Entry) : Type 0 where
   pub first : (signed : SignedEntry) (rest : List SignedEntry)
       → entries ≡ signed ∷ rest

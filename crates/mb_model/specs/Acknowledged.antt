@@ -1,4 +1,4 @@
--- When a board takes an answer. Is what a device acknowledges already stored, and nothing more than it says?
+-- When a board takes an answer. Is what a device acknowledges already stored, and nothing beyond it?
 use Rattle.std.specs.Prelude.{◌≡◌, ◌≢◌, ◌⊎◌, List, ◌∷◌, ◌++◌, All}
 use Rattle.mb_model.specs.declared.event.Answered.{Answered}
 use Rattle.mb_model.specs.declared.event.Event.{Event}
@@ -12,8 +12,7 @@ use Rattle.mb_model.specs.Meaning.{StandsFor}
 use Rattle.mb_model.specs.Regions.{KeptRightly}
 use Rattle.mb_model.specs.Valid.{Valid}
 
--- what a board holds shows this world: the state for which its memory stands, its phase, and whether a power loss is
--- armed
+-- what a board holds shows this world: the state that its memory means, its phase, and whether a power loss is armed
 pub record Shows (held : Held) (world : World) : Type 0 where
   pub stands : StandsFor held.memory.flash held.memory.bbram world.state
   pub phase : world.phase ≡ held.phase
@@ -21,23 +20,23 @@ pub record Shows (held : Held) (world : World) : Type 0 where
 
 -- ---- what may lie in battery-backed memory
 
--- no secret lies in a board's battery-backed memory but those of the state that the board shows
+-- a board's battery-backed memory holds no secrets but those of the state that the board shows
 pub record HoldsNoOther (held : Held) : Type 0 where
   pub world : World
   pub shown : Shows held world
   pub clean : Clean held.memory.bbram world.state
 
--- When no secret may lie in battery-backed memory after an answer but those of the state. The board held the one at the
--- answer before, and holds the other now.
+-- When battery-backed memory may hold no secrets after an answer but those of the state. The board held `standing` at
+-- the answer before, and holds `now`.
 pub data HasToBeClean (standing now : Held) (event : Event) (reply : Reply) : Type 0 where
   -- power is on
   power_is_on : now.phase ≢ off → HasToBeClean standing now event reply
   -- the device was tampered with
   device_was_tampered : event ≡ Tamper → HasToBeClean standing now event reply
-  -- no other secret lay there before, and power did not fail
+  -- battery-backed memory held no other secrets before, and power did not fail
   nothing_was_left : HoldsNoOther standing → reply ≢ Stopped → HasToBeClean standing now event reply
 
--- The device booted, or was tampered with, and no power loss has stopped it since the last time.
+-- The device has booted or been tampered with, and no power loss has stopped it since.
 pub record AreWiping (answered : List Answered) : Type 0 where
   pub sooner : List Answered
   pub wiping : Answered
@@ -48,9 +47,9 @@ pub record AreWiping (answered : List Answered) : Type 0 where
 
 -- ---- an answer
 
--- An event may be answered so, where the board held the one at the answer before and holds the other now: one step
--- leads from the world before to the world now, which a device can have. Each secret and key of the state was kept
--- rightly, and no other lies in battery-backed memory where it has to be clean.
+-- A board that held `standing` at the answer before, and holds `now`, may answer the event with this reply: one step
+-- leads from the world before to the world now, whose state a device can have; each secret and key of that state was
+-- kept rightly; and battery-backed memory is clean if it has to be.
 pub record MayAnswer (standing now : Held) (event : Event) (reply : Reply) : Type 0 where
   pub before : World
   pub after : World

@@ -16,25 +16,25 @@ use Rattle.mb_model.specs.Commands.{Command, read, find, either_command, print, 
 use Rattle.mb_model.specs.Inputs.{image_input, root_input, chain_bytes_input}
 use Rattle.mb_model.specs.VerifyCommand.{chain_refusal_line}
 
--- the names of the files, and the number of the key that is asked for
+-- the names of the files, and the number of the key
 pub record AuditNames : Type 0 where
   pub image : List ℕ
   pub root : List ℕ
   pub chain : List ℕ
   pub key : ℕ
 
--- the configurations in which the device held the key with this number, by the first entries of its own log
+-- the configurations in which the device held the key with this number, by the first `count` entries of its own log
 abbrev pub own_lives : State → ℕ → ℕ → List Configuration
 own_lives state count key_number = lives_of (take count (entries_of state.log)) key_number
 
--- The chain tells of this device: its entries are the first of the device's log, and the verifier's list is that of the
--- device up to there.
+-- The chain describes this device: its entries are a prefix of the device's log, and the verifier's list of
+-- configurations is the device's own list up to there.
 pub record TellsOfDevice (state : State) (key_number : ℕ) (chain : Chain) (report : Report) : Type 0 where
   pub later : List Entry
   pub begins : entries_of state.log ≡ entries_of chain.entries ++ later
   pub lists : report.lives ≡ own_lives state report.entries key_number
 
--- What an audit finds: the verdict on the chain. Where it is accepted, and no entry of it was forged, it tells of the
+-- What an audit finds: the verdict on the chain. If the chain is accepted and has no forged entry, it describes the
 -- device.
 pub record IsAudited
     (state : State)
@@ -47,7 +47,7 @@ pub record IsAudited
       → verdict ≡ chain_acceptance report → Spells chain_format bytes chain
       → Honest chain.entries maker (entries_of state.log) → TellsOfDevice state key_number chain report
 
--- the lists are compared, or the chain is refused
+-- compares an accepted chain's list with the device's own; refuses any other chain for the verifier's reason
 abbrev pub compare : State → ℕ → Verdict → Command
 compare state key_number (chain_acceptance report) =
     either_command (report.lives ≡ own_lives state report.entries key_number)
@@ -55,7 +55,7 @@ compare state key_number (chain_acceptance report) =
     (refuse (codes "differs"))
 compare state key_number (chain_rejection why) = refuse (chain_refusal_line why)
 
--- a dead device has no log, whatever the chain is
+-- audits the chain; refuses a dead device, which has no log
 abbrev pub audit_chain : AuditNames → Option State → PublicKey → List ℕ → Command
 audit_chain names None maker bytes = refuse (codes "zeroised")
 audit_chain names (Some state) maker bytes =
@@ -67,6 +67,6 @@ audit_under names state maker = read (chain_bytes_input names.chain) (audit_chai
 abbrev pub audit_device : AuditNames → Option State → Command
 audit_device names state = read (root_input names.root) (audit_under names state)
 
--- the device's image, the maker's public key and the chain are read, and the chain is judged
+-- reads the device's image, the maker's public key and the chain, and audits the chain
 unfoldable pub audit : AuditNames → Command
 audit names = read (image_input names.image) (audit_device names)

@@ -26,11 +26,11 @@ pub record AttachNames : Type 0 where
   pub statement : List ℕ
   pub out : List ℕ
 
--- the line that tells how many entries a chain has
+-- the line that reports how many entries a chain has
 abbrev pub entries_text : ℕ → List ℕ
 entries_text count = line_with_lf (codes "entries " ++ decimal count)
 
--- bytes that spell a chain are written, and the number of its entries is printed
+-- writes bytes that spell the chain, and prints the number of its entries
 unfoldable pub write_entries : List ℕ → Chain → Command
 write_entries out chain = find (λ bytes. Spells chain_format bytes chain) (λ bytes.
     write (record { role = role.Out; name = out; bytes = bytes })
@@ -38,8 +38,8 @@ write_entries out chain = find (λ bytes. Spells chain_format bytes chain) (λ b
 
 -- ---- chain
 
--- The chain is the whole log of a device. Under the key that signed its birth no entry is refused, and it is accepted
--- for each key that was born in a region.
+-- The chain is the whole log of a device, without a statement. Under each key that signed the device's birth, no entry
+-- is refused, and the chain is accepted for each key that was born in a region.
 pub record IsChainOf (state : State) (chain : Chain) : Type 0 where
   pub is : chain ≡ bare_chain state.log
   pub good : (maker : PublicKey) → IsBornOf maker state.log → AreGood maker chain.entries
@@ -48,7 +48,7 @@ pub record IsChainOf (state : State) (chain : Chain) : Type 0 where
       → key_of (entries_of state.log) key_number ≡ Some made
       → Accepts maker bytes key_number (report_of chain key_number made)
 
--- a dead device has no log
+-- writes the chain of a live device; refuses a dead one, which has no log
 abbrev pub chain_of : ChainNames → Option State → Command
 chain_of names None = refuse (codes "zeroised")
 chain_of names (Some state) = find (IsChainOf state) (write_entries names.out)
@@ -58,7 +58,7 @@ chain names = read (image_input names.image) (chain_of names)
 
 -- ---- attach
 
--- the statement is attached, unless the chain has one
+-- attaches the statement, unless the chain has one already
 unfoldable pub attach_statement : AttachNames → Chain → Statement → Command
 attach_statement names chain statement =
     either_command (chain.statement ≢ None) (refuse (codes "has statement"))

@@ -14,7 +14,7 @@ statement_format = as_record (pair (number w32) (pair (sized (between w8 0 MESSA
     (λ (number, (message, signature)). record { number = number; message = message; signature = signature })
     (λ statement. (statement.number, (statement.message, statement.signature)))
 
--- the word by which a chain is known: MBC1
+-- the word that a chain begins with: MBC1
 abbrev pub chain_word : List ℕ
 chain_word = 0x4D ∷ 0x42 ∷ 0x43 ∷ 0x31 ∷ []
 

@@ -6,12 +6,12 @@ use Rattle.mb_model.specs.declared.stored.Root.{Root}
 use Rattle.mb_model.specs.Memory.{area_of_slot, inactive_area_of_slot, IsBlank}
 use Rattle.mb_model.specs.Meaning.{RootIn, HoldsRegion}
 
--- the root of a state, with no work pending, where the public record is in this area of the flash
+-- the root record of a state, with no pending work and with this area of the flash current
 abbrev pub root_of : State → ℕ → Root
 root_of state area =
     record { area = area; serial = state.serial; device = state.device; uses = state.uses; pending = None }
 
--- the areas in force hold the state's records, and all else is zero, but the life byte and the selectors
+-- the current areas hold the state's records, and all else is zero but for the life byte and the selectors
 pub record IsCleanFor (bbram : List ℕ) (state : State) : Type 0 where
   pub sized : length bbram ≡ BBRAM_LENGTH
   pub area : ℕ
@@ -22,7 +22,7 @@ pub record IsCleanFor (bbram : List ℕ) (state : State) : Type 0 where
   pub other_two : IsBlank (inactive_area_of_slot bbram 2)
   pub other_three : IsBlank (inactive_area_of_slot bbram 3)
 
--- the memory is clean for a state; for a dead device it is all zero
+-- battery-backed memory is clean for a state; for a dead device it is all zero
 abbrev pub Clean : List ℕ → Option State → Type 0
 Clean bbram None = (length bbram ≡ BBRAM_LENGTH) × IsBlank bbram
 Clean bbram (Some state) = IsCleanFor bbram state

@@ -1,5 +1,4 @@
--- What a command comes to, whichever it is. What has been read, written and printed when it ends, in which order, and
--- with which status?
+-- What any command does. What has been read, written and printed when it ends, in which order, and with which status?
 use Rattle.std.specs.Prelude.{◌≡◌, ◌≢◌, ℕ, ◌≤◌, ◌⊎◌, Bool, true, false, List, [], ◌++◌, length, codes, Option, Some}
 use Rattle.std.specs.Fmt.{decimal}
 use Rattle.mb_format.specs.Format.{IsBytes}
@@ -50,8 +49,8 @@ place_words fault.State = codes "state"
 
 -- ---- what a command does
 
--- An input: its role, the name of its file, for which value its bytes stand, and at which place they are at fault where
--- they stand for none.
+-- An input: its role, the name of its file, which value its bytes mean, and at which place they are at fault if they
+-- mean none.
 pub record Input (A : Type 0) : Type 1 where
   pub role : Role
   pub name : List ℕ
@@ -66,23 +65,23 @@ pub record Output : Type 0 where
 
 -- What a command does, step by step.
 pub data Command : Type 1 where
-  -- it reads an input, and goes on with the value for which that stands
+  -- reads an input, and goes on with the value that its bytes mean
   read : {A : Type 0} → Input A → (A → Command) → Command
-  -- it goes on with some value of which this holds
+  -- goes on with some value for which this holds
   find : {A : Type 0} → (A → Type 0) → (A → Command) → Command
-  -- where this holds it does the first, and else the second
+  -- does the first if this holds, and else the second
   either_command : Type 0 → Command → Command → Command
-  -- it serves the board's events, so that this holds of what was answered and of what the board held at the last answer
+  -- serves the board's events, so that this holds of what was answered and of what the board held at the last answer
   serve : (List Answered → Held → Type 0) → (List Answered → Held → Command) → Command
-  -- it serves events in the same way, and then loads the board anew, so that what the board answered before is gone
+  -- serves events as `serve` does, and then loads the board anew, so that what the board answered before is gone
   rehearse : (List Answered → Held → Type 0) → (List Answered → Held → Command) → Command
-  -- it writes an output
+  -- writes an output
   write : Output → Command → Command
-  -- it prints a text and is done
+  -- prints a text and is done
   print : List ℕ → Command
-  -- it refuses with a line, and changes nothing
+  -- refuses: prints a line, and does nothing else
   refuse : List ℕ → Command
-  -- it lacks memory, which was wanted while it served events
+  -- ends for lack of memory, which was wanted while it served events
   lack : Command
 
 -- ---- how a command ends
@@ -104,11 +103,11 @@ pub record Ended : Type 0 where
   pub final : Held
   pub status : ℕ
 
--- the same, seen from a later step
+-- the end as seen from a later step, with `mid` outside before that step
 abbrev pub end_seen_from : Outside → Ended → Ended
 end_seen_from mid ending = record ending { before = mid }
 
--- the line is printed; where that fails, some of the first of its bytes are
+-- the line is printed; if that fails, a prefix of it is, which may be empty or all of it
 abbrev pub SaysLine : List ℕ → Outside → Outside → Type 0
 SaysLine line before after = Prints (line_with_lf line) before after ⊎ FailsToPrint (line_with_lf line) before after
 
@@ -118,16 +117,16 @@ pub record Stops (line : List ℕ) (status : ℕ) (past : Past) (ending : Ended)
   pub answered : ending.answered ≡ past.answered
   pub status_is : ending.status ≡ status
 
--- 6: an allocation failed. But for `lack`, this is so only while no file has been written.
+-- Status 6: an allocation failed. Except at `lack`, this can happen only while no file has been written.
 pub record WantsMemory (past : Past) (ending : Ended) : Type 0 where
   pub first : past.wrote ≡ false
   pub stops : Stops (codes "no memory") 6 past ending
 
--- the line that tells what is wrong with an input
+-- the line that reports what is wrong with an input
 abbrev pub input_line : Role → List ℕ → List ℕ
 input_line role what = codes "input " ++ role_word role ++ codes " " ++ what
 
--- The file of this name was read: where the host tells its files it holds these bytes, and they are not too many.
+-- The file of this name was read: it holds these bytes, if the host shows its files. They are at most `FILE_LIMIT`.
 pub record HasRead (outside : Outside) (name bytes : List ℕ) : Type 0 where
   pub held : HoldsFile outside name bytes
   pub are_bytes : IsBytes bytes
@@ -135,23 +134,23 @@ pub record HasRead (outside : Outside) (name bytes : List ℕ) : Type 0 where
 
 -- the command ends at an input
 pub data InputEnds {A : Type 0} (input : Input A) (past : Past) (ending : Ended) : Type 0 where
-  -- 3: it is too long
+  -- status 3: the input is too long
   input_is_too_long : HoldsTooMuch ending.before input.name
       → Stops (input_line input.role (codes "too long")) 3 past (end_seen_from (read_once ending.before) ending)
       → InputEnds input past ending
-  -- 3: it is at fault
+  -- status 3: the input is at fault
   input_is_faulty : (bytes : List ℕ) → HasRead ending.before input.name bytes → (place : Place)
       → input.FaultyAt bytes place
       → Stops (input_line input.role (place_words place)) 3 past (end_seen_from (read_once ending.before) ending)
       → InputEnds input past ending
-  -- 4: it could not be read
+  -- status 4: the input could not be read
   input_is_not_read : (mid : Outside) → FailsToRead input.name ending.before mid
       → Stops (codes "read failed " ++ role_word input.role) 4 past (end_seen_from mid ending)
       → InputEnds input past ending
-  -- 6: there was no memory for it
+  -- status 6: there was no memory for the input
   memory_lacks : WantsMemory past (end_seen_from (read_once ending.before) ending) → InputEnds input past ending
 
--- 5: the output could not be written, and what its file holds is not known
+-- status 5: the output could not be written, and what its file holds is not known
 pub record WriteEnds (output : Output) (past : Past) (ending : Ended) : Type 0 where
   pub mid : Outside
   pub fails : FailsToWrite output.name ending.before mid
@@ -159,15 +158,16 @@ pub record WriteEnds (output : Output) (past : Past) (ending : Ended) : Type 0 w
 
 -- the command ends with its text
 pub data PrintEnds (text : List ℕ) (past : Past) (ending : Ended) : Type 0 where
-  -- 0: done
+  -- status 0: done
   text_is_printed : Prints text ending.before ending.after → ending.answered ≡ past.answered → ending.status ≡ 0
       → PrintEnds text past ending
-  -- 5: the text could not be printed whole
+  -- status 5: the call that prints the text failed
   text_is_not_printed : (mid : Outside) → FailsToPrint text ending.before mid
       → Stops (codes "write failed output") 5 past (end_seen_from mid ending) → PrintEnds text past ending
 
 -- How a command can end. Each step begins with what the step before has left outside. So each input is read once and
--- each output written once, in this order, and what is printed is one text or one line.
+-- each output written once, in this order. What is printed is one text or one line; a line follows a text only if the
+-- call that prints the text failed.
 unfoldable pub CommandEnds : Command → Past → Ended → Type 0
 CommandEnds (read {A = A} input rest) past ending =
     InputEnds input past ending
@@ -198,12 +198,12 @@ CommandEnds lack past ending = Stops (codes "no memory") 6 past ending
 
 -- ---- when a command is done
 
--- no read and no write or print has failed
+-- no fault of a read, a write or a print was counted; a name that is not there is no fault
 pub record IsFaultless (before after : Outside) : Type 0 where
   pub read : HasRisen before.read_faults after.read_faults → ⊥
   pub write : HasRisen before.write_faults after.write_faults → ⊥
 
--- Among these files is each input to which the command can come, short enough and not at fault.
+-- These files have each input that the command can come to, short enough and not at fault.
 unfoldable pub HasInputsFor : Command → (List ℕ → Option (List ℕ)) → Type 0
 HasInputsFor (read {A = A} input rest) files =
     (bytes : List ℕ) × (files input.name ≡ Some bytes) × (length bytes ≤ FILE_LIMIT)

@@ -32,7 +32,7 @@ abbrev pub kind_word : KeyKind → List ℕ
 kind_word kinds.Epoch = codes "epoch"
 kind_word kinds.Configuration = codes "configuration"
 
--- the words of the first line, after which nothing stands: what is ordered of which layer
+-- the words of the whole first line: what is ordered, and for which layer
 abbrev pub order_words : Act → ℕ → List (List ℕ)
 order_words (act.Establish owner trust) layer = codes "order" ∷ codes "establish" ∷ decimal layer ∷ []
 order_words act.Surrender layer = codes "order" ∷ codes "surrender" ∷ decimal layer ∷ []
@@ -40,7 +40,7 @@ order_words (act.Load payload) layer = codes "order" ∷ codes "load" ∷ decima
 order_words (act.Emergency payload) layer = codes "order" ∷ codes "emergency" ∷ decimal layer ∷ []
 order_words (act.NewKey kind) layer = codes "order" ∷ codes "newkey" ∷ decimal layer ∷ kind_word kind ∷ []
 
--- the line of a target
+-- the line gives this target
 abbrev pub SaysTarget : List ℕ → Target → Type 0
 SaysTarget line (target.Serial serial) =
     (length serial ≡ 16) × EndsInHex line (codes "target" ∷ codes "serial" ∷ []) serial
@@ -53,15 +53,15 @@ SaysTarget line (target.Code layer hash) =
     IsTrue (is_layer_number layer) × (length hash ≡ 32)
     × EndsInHex line (codes "target" ∷ codes "code" ∷ decimal layer ∷ []) hash
 
--- the line of one trust, in changes of layer 1 and of layer 2 alike
+-- the line of one trust, for changes of layer 1 and of layer 2 alike
 abbrev pub trust_line : Trust → List ℕ
 trust_line trust = spaced_words (codes "trust" ∷ trust_word trust ∷ [])
 
--- the line of two trusts: in changes of layer 1, and in changes of layer 2
+-- the line of two trusts: for changes of layer 1, and for changes of layer 2
 abbrev pub trusts_line : Trusts → List ℕ
 trusts_line trusts = spaced_words (codes "trust" ∷ trust_word trusts.one ∷ trust_word trusts.two ∷ [])
 
--- The line gives these trusts, by two words or, where they are equal, by one. Two equal words are allowed too.
+-- The line gives these trusts, by two words or, if they are equal, by one. Two equal words are allowed too.
 abbrev pub SaysTrusts : List ℕ → Trusts → Type 0
 SaysTrusts line trusts =
     (line ≡ trusts_line trusts) ⊎ ((line ≡ trust_line trusts.one) × (trusts ≡ equal_trusts trusts.one))
@@ -89,7 +89,7 @@ pub record AreOwnerLines (lines : List (List ℕ)) (owner : PublicKey) (trust : 
   pub trusted : SaysTrusts line_of_trusts trust
   pub spelled : lines ≡ owner_line ∷ line_of_trusts ∷ []
 
--- the lines after the targets, by what is ordered
+-- the lines after the targets say what goes with this act
 abbrev pub SayAct : List (List ℕ) → Act → Type 0
 SayAct lines (act.Establish owner trust) = AreOwnerLines lines owner trust
 SayAct lines act.Surrender = lines ≡ []
@@ -97,7 +97,7 @@ SayAct lines (act.Load payload) = AreLoadLines lines payload
 SayAct lines (act.Emergency payload) = AreLoadLines lines payload
 SayAct lines (act.NewKey kind) = lines ≡ []
 
--- The lines are the draft of an order, which nobody has signed yet: what is ordered of which layer, the targets, and
+-- The lines are the draft of an order that nobody has signed yet: what is ordered for which layer, the targets, and
 -- what goes with the order.
 pub record IsDraft (lines : List (List ℕ)) (order : Order) : Type 0 where
   pub target_lines : List (List ℕ)

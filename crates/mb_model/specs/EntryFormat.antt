@@ -18,7 +18,7 @@ use Rattle.mb_model.specs.declared.entry.SignedEntry.{SignedEntry}
 use Rattle.mb_model.specs.KeyFormat.{public_key_format}
 use Rattle.mb_model.specs.LayerFormat.{layers_format}
 
--- the kind of a change
+-- the byte of a change's kind
 abbrev pub change_byte : ChangeKind → ℕ
 change_byte changes.Establish = 1
 change_byte changes.Surrender = 2
@@ -28,7 +28,7 @@ change_byte changes.Emergency = 4
 abbrev pub change_rows : List (ℕ × ChangeKind)
 change_rows = (1, changes.Establish) ∷ (2, changes.Surrender) ∷ (3, changes.Load) ∷ (4, changes.Emergency) ∷ []
 
--- the kind of a region's key
+-- the byte of the kind of a region's key
 abbrev pub key_kind_byte : KeyKind → ℕ
 key_kind_byte kinds.Epoch = 0
 key_kind_byte kinds.Configuration = 1
@@ -39,7 +39,7 @@ key_kind_rows = (0, kinds.Epoch) ∷ (1, kinds.Configuration) ∷ []
 unfoldable pub key_kind_format : Format KeyKind
 key_kind_format = table w8 key_kind_rows key_kind_byte
 
--- some of layers or regions 2 and 3: bit 0 for 2, bit 1 for 3
+-- the byte of a subset of layers or regions 2 and 3: bit 0 for 2, bit 1 for 3
 abbrev pub pair_byte : Pair → ℕ
 pair_byte some = flag_byte some.two + 2 * flag_byte some.three
 
@@ -54,12 +54,12 @@ pair_rows =
 unfoldable pub pair_format : Format Pair
 pair_format = table w8 pair_rows pair_byte
 
--- an entry begins with a tag, which gives the version of a birth or change as well
+-- the tag that an entry begins with; that of a birth or change gives its version too
 pub data EntryTag : Type 0 where
   birth_tag change_tag : ℕ → EntryTag
   new_key_tag succession_tag : EntryTag
 
--- the byte of a tag; a version other than 1 and 2 has no row below, so no entry of such a version is spelled
+-- the byte of a tag; a version other than 1 and 2 has no row in `entry_rows`, so no entry of such a version is spelled
 abbrev pub entry_byte : EntryTag → ℕ
 entry_byte (birth_tag version) = if version == 1 then 0 else 16
 entry_byte (change_tag version) = if version == 1 then 1 else 17
@@ -82,27 +82,27 @@ entry_tag (Change version position number kind layer cosigned layers kept next) 
 entry_tag (NewKey position number key_number layer kind key) = new_key_tag
 entry_tag (Succession position key) = succession_tag
 
--- a birth
+-- the fields of an entry that is a birth
 abbrev pub birth_in : Entry → Option (ℕ × (List ℕ × (PublicKey × Layers)))
 birth_in (Birth version serial key layers) = Some (version, (serial, (key, layers)))
 birth_in _ = None
 
--- its serial, the first device key, and the layers; the tag gave its version
+-- a birth: its serial, the first device key, and the layers; the tag gave its version
 unfoldable pub birth_format : ℕ → Format Entry
 birth_format version = as_value
     (pair (nothing version) (pair (raw 16) (pair public_key_format (layers_format version))))
     (λ (its_version, (serial, (key, layers))). Birth its_version serial key layers)
     birth_in
 
--- a change
+-- the fields of an entry that is a change
 abbrev pub change_in : Entry
     → Option (ℕ × (ℕ × (ℕ × (ChangeKind × (ℕ × (Pair × (Pair × (Layers × Option PublicKey))))))))
 change_in (Change version position number kind layer cosigned layers kept next) =
     Some (version, (position, (number, (kind, (layer, (cosigned, (kept, (layers, next))))))))
 change_in _ = None
 
--- its position and number, its kind and layer, who countersigned, which regions are kept, the layers afterwards, and
--- the next device key after a byte that says whether there is one; the tag gave its version
+-- a change: its position and number, its kind and layer, who countersigned, which regions are kept, the layers
+-- afterwards, and the next device key after a byte that says whether there is one; the tag gave its version
 unfoldable pub change_format : ℕ → Format Entry
 change_format version = as_value
     (pair (nothing version)  -- version
@@ -118,13 +118,13 @@ change_format version = as_value
     Change its_version position number kind layer cosigned layers kept next)
     change_in
 
--- a new key
+-- the fields of an entry that makes a new key
 abbrev pub new_key_in : Entry → Option (ℕ × (ℕ × (ℕ × (ℕ × (KeyKind × PublicKey)))))
 new_key_in (NewKey position number key_number layer kind key) =
     Some (position, (number, (key_number, (layer, (kind, key)))))
 new_key_in _ = None
 
--- its entry's position and number, the key's number, its layer and kind, the key
+-- a new key: the position and number of its entry, the key's number, its layer and kind, the key
 unfoldable pub new_key_format : Format Entry
 new_key_format = as_value
     (pair (number w32)  -- position
@@ -136,12 +136,12 @@ new_key_format = as_value
     (λ (position, (number, (key_number, (layer, (kind, key))))). NewKey position number key_number layer kind key)
     new_key_in
 
--- a succession
+-- the fields of an entry that is a succession
 abbrev pub succession_in : Entry → Option (ℕ × PublicKey)
 succession_in (Succession position key) = Some (position, key)
 succession_in _ = None
 
--- its position and the next device key
+-- a succession: its position and the next device key
 unfoldable pub succession_format : Format Entry
 succession_format = as_value (pair (number w32) public_key_format)
     (λ (position, key). Succession position key)

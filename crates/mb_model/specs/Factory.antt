@@ -1,4 +1,4 @@
--- The image of a new device. With whose keys, code and owner does a device come into the world?
+-- The image of a new device. Which keys, code and owner does a device begin with?
 use Rattle.std.specs.Prelude.{ℕ, List, [], ◌∷◌, take, None, Some, true}
 use Rattle.sha2.specs.Sha256.{sha256}
 use Rattle.mb_model.specs.declared.key.KeySeed.{KeySeed}
@@ -17,7 +17,7 @@ use Rattle.mb_model.specs.Signing.{public_of}
 use Rattle.mb_model.specs.OrderEffects.{entry_signed_by}
 use Rattle.mb_model.specs.WrittenImage.{IsWrittenFor}
 
--- layer 1 has its owner, this code and both trusts always, and nobody owns what is above
+-- the layers at birth: layer 1 has this owner, this code and both trusts always; nobody owns the layers above
 abbrev pub layers_at_birth : PublicKey → List ℕ → Layers
 layers_at_birth owner code = record {
   one = record {
@@ -30,10 +30,11 @@ layers_at_birth owner code = record {
   three = layer_without_owner;
 }
 
--- the device's first key, made of the first 32 bytes of the noise, and its serial, the 16 bytes after them
+-- the device's serial: the 16 bytes of the noise after the first 32
 abbrev pub serial_from : List ℕ → List ℕ
 serial_from noise = part 32 16 noise
 
+-- the device's first key, derived from the first 32 bytes of the noise and the serial
 abbrev pub first_key : List ℕ → KeySeed
 first_key noise = born_key (take 32 noise) (serial_from noise) 0
 
@@ -42,11 +43,11 @@ abbrev pub birth_entry : PublicKey → List ℕ → List ℕ → Entry
 birth_entry owner code noise =
     Birth 2 (serial_from noise) (public_of (first_key noise)) (layers_at_birth owner code)
 
--- the code of layer 1 alone
+-- the codes at birth: that of layer 1 alone
 abbrev pub codes_at_birth : List ℕ → Codes
 codes_at_birth code = record { one = Some code; two = None; three = None }
 
--- the state of a new device, whose birth the maker's key signs with this index
+-- the state of a new device, whose birth the maker's key signs at this index
 unfoldable pub state_at_birth : KeySeed → ℕ → PublicKey → List ℕ → List ℕ → State
 state_at_birth maker index owner code noise = record {
   serial = serial_from noise;

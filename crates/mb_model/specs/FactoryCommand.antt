@@ -1,5 +1,5 @@
--- What the command `factory` does. Does a device come into the world with the owner, the code and the keys that were
--- given, and is the maker's index used up before its image is there?
+-- What the command `factory` does. Does a device begin with the owner, the code and the keys that were given, and is
+-- the maker's index used up before the image is there?
 use Rattle.std.specs.Prelude.{◌≡◌, List, ℕ, ◌++◌, codes}
 use Rattle.hex.specs.Hex.{encode_lower}
 use Rattle.mb_model.specs.declared.key.PublicKey.{PublicKey}
@@ -20,17 +20,17 @@ pub record FactoryNames : Type 0 where
   pub code : List ℕ
   pub image : List ℕ
 
--- the line that tells the serial of a device that was made of this noise
+-- the line that reports the serial of a device made from this noise
 abbrev pub serial_text : List ℕ → List ℕ
 serial_text noise = line_with_lf (codes "serial " ++ encode_lower (serial_from noise))
 
--- the maker's key is written with one index more used, then the image, and the serial is told
+-- writes the maker's key with its index advanced, then the image, and prints the serial
 unfoldable pub write_device : FactoryNames → List ℕ → Keyfile → List ℕ → Command
 write_device names noise key image =
     write (record { role = role.Key; name = names.key; bytes = keyfile_format.spelling (keyfile_after_use key) })
     (write (record { role = role.Image; name = names.image; bytes = image }) (print (serial_text noise)))
 
--- the image of the new device, whose birth the maker's key signs, unless its 32 indices are used
+-- makes and writes the new device, whose birth the maker's key signs, unless the key's 32 indices are used
 unfoldable pub make_device : FactoryNames → List ℕ → Keyfile → PublicKey → List ℕ → Command
 make_device names noise key owner code =
     either_command (key.next ≡ 32) (refuse (codes "spent"))

@@ -1,4 +1,4 @@
--- What is wrong with an image for which no state stands. Is it told of each image, and the first thing first?
+-- What is wrong with an image that no device can have. Is a fault found in each such image, and always the first one?
 use Rattle.std.specs.Prelude.{◌≢◌, ℕ, List, length, Some}
 use Rattle.mb_model.specs.declared.limits.TheConstants.{IMAGE_LENGTH}
 use Rattle.mb_model.specs.declared.entry.Entry.{Entry}
@@ -15,7 +15,7 @@ use Rattle.mb_model.specs.Meaning.{RootIn, HoldsRegion, Contents, FlashForm, Hol
 pub data Fault : Type 0 where
   bad_length bad_root bad_public bad_region_two bad_region_three bad_state : Fault
 
--- the flash holds some codes and entries, as the root says
+-- the flash, by this form, holds some codes and entries for the root record
 abbrev pub SomePublicBy : FlashForm → List ℕ → Root → Type 0
 SomePublicBy Form flash root =
     (codes : Codes) × (signed : List SignedEntry) × (unsigned : List Entry)

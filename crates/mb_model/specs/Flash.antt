@@ -1,5 +1,5 @@
 -- What a flash in segments holds: the code of each layer, the signed entries of the log, and those not signed yet.
--- What of a device may anyone read?
+-- Which part of a device may anyone read?
 use Rattle.std.specs.Prelude.{◌≡◌, ◌≢◌, ℕ, ◌*◌, List, [], ◌∷◌, ◌++◌, length, take, Option, None, Some}
 use Rattle.mb_format.specs.Format.{Spells}
 use Rattle.mb_model.specs.declared.limits.TheConstants.{SECTOR_LENGTH, CODE_LIMIT}
@@ -15,29 +15,29 @@ use Rattle.mb_model.specs.HeaderFormat.{header_format, log_format}
 use Rattle.mb_model.specs.Sectors.{header_sector, code_sector, log_sector, BeginsAs}
 use Rattle.mb_model.specs.StoredLog.{AreCounted}
 
--- ---- where it stands
+-- ---- sectors and code slots
 
 -- a sector of the flash, by its number
 unfoldable pub sector : List ℕ → ℕ → List ℕ
 sector flash number = part (SECTOR_LENGTH * number) SECTOR_LENGTH flash
 
--- a code slot, the whole of its eight sectors
+-- a code slot of a layer: all of its eight sectors
 unfoldable pub code_slot : List ℕ → ℕ → ℕ → List ℕ
 code_slot flash layer slot = part (SECTOR_LENGTH * code_sector layer slot) CODE_LIMIT flash
 
 -- ---- what each place holds
 
--- A header area, 0 or 1, holds the header that it begins with.
+-- The header area, 0 or 1, begins with this header.
 abbrev pub HoldsHeader : List ℕ → ℕ → Header → Type 0
 HoldsHeader flash area header = BeginsAs header_format (sector flash (header_sector area)) header
 
--- A layer has code exactly if a slot is named for it. The code is what that slot begins with, of the length named.
+-- The layer has code exactly if a slot is named for it. The code is the prefix of that slot of the length named.
 abbrev pub HoldsCode : List ℕ → ℕ → Slot → Option (List ℕ) → Type 0
 HoldsCode flash layer slot None = slot.which ≡ 0
 HoldsCode flash layer slot (Some code) =
     (slot.which ≢ 0) × (code ≡ take slot.length (code_slot flash layer slot.which))
 
--- A sector of the log begins with the text of an entry, and the signature of that entry.
+-- A sector of the log begins with the text of this entry, and then its signature.
 pub record HoldsEntry (bytes : List ℕ) (signed : SignedEntry) : Type 0 where
   pub text : List ℕ
   pub begins : BeginsAs log_format bytes (text, signed.signature)
@@ -58,8 +58,9 @@ AreBytesOf first second entries = ⊥
 
 -- ---- what all of it holds
 
--- The header of the area that the root names counts: its slots hold the codes, the log's sectors below its count hold
--- the signed entries, and its texts spell the unsigned ones, as many as the root says.
+-- The flash holds these codes and entries, by the header of the area that the root record names: its slots hold the
+-- codes, the log's sectors below its count hold the signed entries, and its texts spell the unsigned ones, as many as
+-- the root record says.
 pub record HoldsPublic
     (flash : List ℕ) (root : Root) (codes : Codes) (signed : List SignedEntry) (unsigned : List Entry) : Type 0 where
   pub header : Header

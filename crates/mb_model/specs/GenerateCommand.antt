@@ -27,14 +27,14 @@ pub record GenerateNames : Type 0 where
   pub script : List ℕ
   pub noise : List ℕ
 
--- A workload that can be served: its files, the state for which its image stands, and the events of its script with the
--- draws that its noise gives them.
+-- A workload that can be served: its files, the state that its image means, and the events of its script with the draws
+-- that its noise gives them.
 pub record Prepared : Type 0 where
   pub files : Workload
   pub state : Option State
   pub events : List Event
 
--- the files are those of the workload of this number with so many rounds, and stand for this state and these events
+-- the files are those of the workload of this number with this many rounds, and mean this state and these events
 pub record IsPrepared (number rounds : ℕ) (made : Prepared) : Type 0 where
   pub generated : IsWorkload number rounds made.files
   pub image : IsWellFormed made.files.image made.state
@@ -47,20 +47,20 @@ abbrev pub log_length : Option State → ℕ
 log_length None = 0
 log_length (Some state) = length state.log
 
--- what the board holds shows a device whose log has so many entries
+-- what the board holds shows a device whose log has this many entries
 pub record ShowsLog (final : Held) (entries : ℕ) : Type 0 where
   pub last : World
   pub shown : Shows final last
   pub entries_is : entries ≡ log_length last.state
 
--- The summary is printed, with the length of the log and the hash of the image as the board holds them then. Where
--- memory was wanted while the events were served, there is none.
+-- Prints the summary, with the length of the log and the hash of the image as the board held them at the last answer.
+-- If an event was answered `NoMemory`, there is no summary.
 abbrev pub summarise : List Answered → Held → Command
 summarise answered final =
     either_command (Any (λ each. each.reply ≡ reply.NoMemory) answered) lack
     (find (ShowsLog final) (λ entries. print (text_of (summary answered entries (sha256 (image_of final.memory))))))
 
--- the three files are written, and then the events are served
+-- writes the three files, and then serves the events
 abbrev pub serve_workload : GenerateNames → Prepared → Command
 serve_workload names made =
     write (record { role = role.Image; name = names.image; bytes = made.files.image })

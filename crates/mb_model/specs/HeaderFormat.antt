@@ -1,5 +1,5 @@
 -- How the header of a flash in segments is spelled, and an entry of the log in a sector of its own. Where does each
--- layer's code stand, and which entries are signed? Entries are bytes here, of which nothing but their length is asked.
+-- layer's code stand, and which entries are signed? Entries are bytes here: only their length is checked.
 use Rattle.std.specs.Prelude.{◌+◌, ℕ, ◌-◌, ◌==◌, nat_le, List, [], ◌∷◌, Option, None, Some, if◌then◌else◌}
 use Rattle.std.specs.Int.{w8, w16, w32}
 use Rattle.mb_format.specs.Format.{Format}
@@ -28,7 +28,7 @@ slot_format = as_record (both (between w8 0 2) code_length_format)
 unfoldable pub entry_bytes_format : Format (List ℕ)
 entry_bytes_format = sized (between w16 1 ENTRY_TEXT_LIMIT)
 
--- how many entries may be unsigned beside so many signed ones: at most two, and at most 128 of both together
+-- how many entries may be unsigned beside this many signed ones: at most two, and at most 128 of both together
 abbrev pub unsigned_limit : ℕ → ℕ
 unsigned_limit signed = if nat_le (signed + 2) ENTRY_LIMIT then 2 else ENTRY_LIMIT - signed
 
@@ -57,7 +57,7 @@ unsigned_format signed = as_value (counted (between w8 0 (unsigned_limit signed)
 
 -- ---- headers
 
--- the word by which a header is known: MBH1
+-- the word that a header begins with: MBH1
 abbrev pub header_word : List ℕ
 header_word = 0x4D ∷ 0x42 ∷ 0x48 ∷ 0x31 ∷ []
 

@@ -1,5 +1,5 @@
--- The inputs of commands: for which value the bytes of each stand, and at which place they are at fault. Is each input
--- read in one way only?
+-- The inputs of commands: which value the bytes of each mean, and at which place they are at fault. Is each input read
+-- in one way only?
 use Rattle.std.specs.Prelude.{◌≡◌, ℕ, ◌<◌, ◌≤◌, List, length, take, Option}
 use Rattle.mb_format.specs.Format.{Format, IsBytes, Spells, FailsWhole}
 use Rattle.mb_model.specs.declared.limits.TheConstants.{DRAW_LENGTH, CODE_LIMIT}
@@ -25,7 +25,7 @@ use Rattle.mb_model.specs.Faults.{Fault, HasFault, bad_length, bad_root, bad_pub
 use Rattle.mb_model.specs.Faults.{bad_region_three, bad_state}
 use Rattle.mb_model.specs.Commands.{Input}
 
--- A value and a fault exclude each other, so that an input that is at fault ends its command.
+-- No bytes both mean a value and are at fault, so an input at fault ends its command.
 abbrev pub IsClearInput : {A : Type 0} → Input A → Type 0
 IsClearInput {A} input =
     (bytes : List ℕ) (value : A) (place : Place) → IsBytes bytes
@@ -43,7 +43,7 @@ binary_input role format name = record {
   FaultyAt = λ bytes place. (offset : ℕ) × (place ≡ fault.At offset) × FailsWhole format bytes offset;
 }
 
--- a text in the lines of a grammar: it is at fault at the first line that is wrong
+-- a text whose lines follow a grammar; it is at fault at the first line that is wrong
 abbrev pub text_input : {A : Type 0} → Role → (List (List ℕ) → A → Type 0) → List ℕ → Input A
 text_input role Grammar name = record {
   role = role;
@@ -52,7 +52,7 @@ text_input role Grammar name = record {
   FaultyAt = λ bytes place. (line : ℕ) × (place ≡ fault.Line line) × TextFailsAtLine Grammar bytes line;
 }
 
--- any bytes, of which the first `count` are used and have to be there
+-- arbitrary bytes; the first `count` are used, and have to be there
 abbrev pub leading_input : Role → ℕ → List ℕ → Input (List ℕ)
 leading_input role count name = record {
   role = role;
@@ -61,7 +61,7 @@ leading_input role count name = record {
   FaultyAt = λ bytes place. (length bytes < count) × (place ≡ fault.Length);
 }
 
--- any bytes, but no more than `most` of them
+-- arbitrary bytes, at most `most` of them
 abbrev pub bounded_input : Role → ℕ → List ℕ → Input (List ℕ)
 bounded_input role most name = record {
   role = role;
@@ -72,7 +72,7 @@ bounded_input role most name = record {
 
 -- ---- the inputs
 
--- the noise of which an officer's key is made
+-- the noise that an officer's key is derived from
 abbrev pub key_noise_input : List ℕ → Input (List ℕ)
 key_noise_input name = leading_input role.Noise DRAW_LENGTH name
 
@@ -80,7 +80,7 @@ key_noise_input name = leading_input role.Noise DRAW_LENGTH name
 abbrev pub key_input : List ℕ → Input Keyfile
 key_input name = binary_input role.Key keyfile_format name
 
--- the noise of which a device's first key and its serial are made
+-- the noise that gives a device its first key and its serial
 abbrev pub birth_noise_input : List ℕ → Input (List ℕ)
 birth_noise_input name = leading_input role.Noise 48 name
 
@@ -96,7 +96,7 @@ code_input name = bounded_input role.Code CODE_LIMIT name
 abbrev pub draft_input : List ℕ → Input Order
 draft_input name = text_input role.Draft IsDraft name
 
--- an order that was signed, as a line
+-- a signed order, as a line
 abbrev pub order_input : List ℕ → Input Order
 order_input name = text_input role.Order IsOrderLine name
 
@@ -109,7 +109,7 @@ fault_place bad_region_two = fault.Region 2
 fault_place bad_region_three = fault.Region 3
 fault_place bad_state = fault.State
 
--- the image of a device, which stands for its state
+-- the image of a device; its bytes mean the device's state
 abbrev pub image_input : List ℕ → Input (Option State)
 image_input name = record {
   role = role.Image;
@@ -118,7 +118,7 @@ image_input name = record {
   FaultyAt = λ bytes place. (faulty : Fault) × (place ≡ fault_place faulty) × HasFault bytes faulty;
 }
 
--- a script, which stands for events
+-- a script; its text means a list of events
 abbrev pub script_input : List ℕ → Input (List Event)
 script_input name = text_input role.Script IsScript name
 
@@ -130,7 +130,7 @@ root_input name = binary_input role.Root public_key_format name
 abbrev pub chain_input : List ℕ → Input Chain
 chain_input name = binary_input role.Chain chain_format name
 
--- the bytes of a chain that is to be judged: whether they spell one is the verifier's to say
+-- the bytes of a chain to verify; the verifier says whether they spell one
 abbrev pub chain_bytes_input : List ℕ → Input (List ℕ)
 chain_bytes_input name = record {
   role = role.Chain;
@@ -139,7 +139,7 @@ chain_bytes_input name = record {
   FaultyAt = λ bytes place. ⊥;
 }
 
--- what a region's key signed, as a line
+-- a statement by a region's key, as a line
 abbrev pub statement_input : List ℕ → Input Statement
 statement_input name = text_input role.Statement IsStatementLine name
 

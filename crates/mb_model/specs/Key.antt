@@ -37,14 +37,14 @@ digit_bits W2 = 2
 digit_bits W4 = 4
 digit_bits W8 = 8
 
--- p, how many digits and so how many chains there are (4.1)
+-- p, the number of digits, and so of chains (4.1)
 abbrev pub chain_count : Chains → ℕ
 chain_count W1 = 265
 chain_count W2 = 133
 chain_count W4 = 67
 chain_count W8 = 34
 
--- ls, how far the checksum is shifted (4.1)
+-- ls, by how many bits the checksum is shifted left (4.1)
 abbrev pub checksum_shift : Chains → ℕ
 checksum_shift W1 = 7
 checksum_shift W2 = 6

@@ -14,10 +14,11 @@ use Rattle.mb_model.specs.declared.key.KeySeed.{KeySeed}
 use Rattle.mb_model.specs.declared.tools.Keyfile.{Keyfile}
 use Rattle.mb_model.specs.Key.{tree_type, chains_type}
 
--- the LMS types (5.1) and the LM-OTS types (4.1)
+-- the LMS type numbers (5.1)
 abbrev pub tree_rows : List (ℕ × Tree)
 tree_rows = (5, H5) ∷ (6, H10) ∷ (7, H15) ∷ (8, H20) ∷ (9, H25) ∷ []
 
+-- the LM-OTS type numbers (4.1)
 abbrev pub chains_rows : List (ℕ × Chains)
 chains_rows = (1, W1) ∷ (2, W2) ∷ (3, W4) ∷ (4, W8) ∷ []
 
@@ -39,11 +40,11 @@ key_seed_format = as_record (pair (raw 16) (raw 32))
     (λ (identifier, seed). record { identifier = identifier; seed = seed })
     (λ key. (key.identifier, key.seed))
 
--- the word by which a key file is known: MBK1
+-- the word that a key file begins with: MBK1
 abbrev pub keyfile_word : List ℕ
 keyfile_word = 0x4D ∷ 0x42 ∷ 0x4B ∷ 0x31 ∷ []
 
--- a key file: its word, the key's seed, and the next index of the 32
+-- a key file: its word, the key's seed, and the next index, which is 32 if all are used
 unfoldable pub keyfile_format : Format Keyfile
 keyfile_format = then_value (mark keyfile_word) (as_record (pair key_seed_format (between w32 0 KEY_USES))
     (λ (seed, next). record { seed = seed; next = next })

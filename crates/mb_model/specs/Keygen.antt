@@ -19,15 +19,15 @@ pub record KeygenNames : Type 0 where
   pub key : List ℕ
   pub public : List ℕ
 
--- an officer's new key, made of 32 bytes of noise, which has signed nothing
+-- an officer's new key, derived from 32 bytes of noise; it has signed nothing
 unfoldable pub new_key : List ℕ → Keyfile
 new_key noise = record { seed = officer_key noise; next = 0 }
 
--- the line that tells the hash of a public key
+-- the line that reports the hash of a public key
 abbrev pub owner_text : List ℕ → List ℕ
 owner_text public = line_with_lf (codes "owner " ++ encode_lower (sha256 public))
 
--- a new key is written, then its public key, and the public key's hash is told
+-- writes a new key, then its public key, and prints the public key's hash
 abbrev pub write_key : KeygenNames → Keyfile → List ℕ → Command
 write_key names key public =
     write (record { role = role.Key; name = names.key; bytes = keyfile_format.spelling key })

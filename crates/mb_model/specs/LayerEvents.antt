@@ -27,14 +27,14 @@ Outcome = Reply × State
 abbrev pub has_name : List ℕ → Secret → Bool
 has_name name secret = same_bytes secret.name name
 
--- the secrets with this one in place of the one that has its name, or after the others where none has
+-- the secrets with this one in place of the one that has its name, or at the end if none has
 unfoldable pub with_secret : Secret → List Secret → List Secret
 with_secret new secrets =
     if list_any (has_name new.name) secrets
     then map (λ old. if has_name new.name old then new else old) secrets
     else secrets ++ new ∷ []
 
--- a secret is kept with the present configuration number, where the region has room
+-- a secret is kept with the current configuration number, unless its name is new and the region is full
 unfoldable pub put_event : ℕ → List ℕ → List ℕ → State → Outcome
 put_event layer name value state =
     let region = region_of state layer in
@@ -47,11 +47,11 @@ abbrev pub value_reply : Option Secret → Reply
 value_reply None = reply.Absent
 value_reply (Some secret) = reply.Value secret.value
 
--- a secret is told
+-- a secret is read
 unfoldable pub get_event : ℕ → List ℕ → State → Outcome
 get_event layer name state = (value_reply (find (has_name name) (region_of state layer).secrets), state)
 
--- a secret is forgotten
+-- a secret is dropped
 unfoldable pub drop_event : ℕ → List ℕ → State → Outcome
 drop_event layer name state =
     let region = region_of state layer in
@@ -64,11 +64,11 @@ drop_event layer name state =
 abbrev pub has_number : ℕ → RegionKey → Bool
 has_number number key = key.number == number
 
--- the keys, of which the one with this number has been used once more
+-- the keys, with one more use of the key with this number
 unfoldable pub with_use : ℕ → List RegionKey → List RegionKey
 with_use number keys = map (λ key. if has_number number key then record key { uses = key.uses + 1 } else key) keys
 
--- what a key of a region signs of a message
+-- the statement of a message by a key of a region
 unfoldable pub statement_of : State → RegionKey → List ℕ → Statement
 statement_of state key message =
     let number = number_of (entries_of state.log) in
@@ -78,7 +78,7 @@ statement_of state key message =
       signature = signature_of key.seed key.uses (statement_text state.serial key.number number message);
     }
 
--- the key signs with its next index; it has 32
+-- the key, if there is one, signs with its next index, unless its 32 indices are used
 abbrev pub sign_with : ℕ → Option RegionKey → List ℕ → State → Outcome
 sign_with layer None message state = (refusal_reply NoSuchKey, state)
 sign_with layer (Some key) message state =
@@ -94,7 +94,7 @@ unfoldable pub sign_event : ℕ → ℕ → List ℕ → State → Outcome
 sign_event layer number message state =
     sign_with layer (find (has_number number) (region_of state layer).keys) message state
 
--- An event on the region of a layer at a ratchet is refused where control is past its layer, or the layer may not run.
+-- An event on the region of a layer is refused if control is past that layer, or if the layer may not run.
 abbrev pub on_region : ℕ → ℕ → (State → Outcome) → State → Outcome
 on_region ratchet layer event state =
     if nat_lt layer ratchet || not (is_runnable state.layers layer) then (refusal_reply WrongLayer, state)

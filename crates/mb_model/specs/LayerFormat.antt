@@ -25,7 +25,7 @@ trust_rows = (0, Always) ∷ (1, Never) ∷ (2, Countersigned) ∷ []
 unfoldable pub trust_format : Format Trust
 trust_format = table w8 trust_rows trust_byte
 
--- one trust, which stands for two equal ones
+-- one trust, which means two equal ones
 abbrev pub one_trust : Format Trust → Format Trusts
 one_trust format = led format (λ trusts. trusts.one) (λ trust. nothing (equal_trusts trust))
 
@@ -45,8 +45,8 @@ code_name_format = as_record (pair (raw 32) (number w32))
     (λ (hash, version). record { hash = hash; version = version })
     (λ name. (name.hash, name.version))
 
--- What a layer has, as a byte: bit 0 for an owner, bit 1 for code, bit 2 for code to be relied on. Each needs those
--- before it.
+-- What a layer has, as a byte: bit 0 for an owner, bit 1 for code, bit 2 for code to be relied on. A bit is set only if
+-- those before it are.
 pub data Has : Type 0 where
   has_nothing has_owner has_code has_reliable_code : Has
 
@@ -93,7 +93,8 @@ reliable_by has_owner = nothing false
 reliable_by has_code = nothing false
 reliable_by has_reliable_code = nothing true
 
--- after that byte: its trusts, and its owner and its code name where it has them; that code is reliable takes no byte
+-- what follows the byte of what a layer has: its trusts, and its owner and code name if it has them; that code is
+-- reliable takes no byte
 abbrev pub layer_by : ℕ → Has → Format Layer
 layer_by version has = as_record
     (pair (trusts_of version (trust_by has)) (pair (owner_by has) (pair (code_by has) (reliable_by has))))

@@ -37,7 +37,7 @@ layer_without_owner = record { owner = None; code = None; reliable = false; trus
 abbrev pub unowned_layers : Layers
 unowned_layers = record { one = layer_without_owner; two = layer_without_owner; three = layer_without_owner }
 
--- the layer with this number: 1, 2 or 3; any other is as good as unowned
+-- the layer with this number, 1 to 3; any other number gives a layer without an owner
 abbrev pub layer_of : Layers → ℕ → Layer
 layer_of layers number =
     if number == 1 then layers.one
@@ -53,7 +53,7 @@ is_owned layers number = is_some (layer_of layers number).owner
 abbrev pub is_layer_number : ℕ → Bool
 is_layer_number number = number == 1 || number == 2 || number == 3
 
--- this is the number of a layer that stands over another and has a region
+-- this is the number of a layer that stands on another and has a region: 2 or 3
 abbrev pub is_upper : ℕ → Bool
 is_upper number = number == 2 || number == 3
 

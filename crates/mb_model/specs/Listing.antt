@@ -36,7 +36,7 @@ abbrev pub code_words : Option CodeName → List (List ℕ)
 code_words None = codes "-" ∷ codes "-" ∷ []
 code_words (Some code) = hex_word code.hash ∷ decimal code.version ∷ []
 
--- the words for a layer's trusts: one word where they are equal, else both
+-- the words for a layer's trusts: one word if they are equal, else both
 abbrev pub trust_words : Trusts → List (List ℕ)
 trust_words trusts =
     if are_equal trusts then trust_word trusts.one ∷ []
@@ -87,7 +87,7 @@ replies_that test answered = count_by (λ each. test each.reply) answered
 abbrev pub number_line : List ℕ → ℕ → List ℕ
 number_line name number = spaced_words (name ∷ decimal number ∷ [])
 
--- the lines of the summary: of the answered events, of the length of the log at the end, and of the image's hash
+-- the lines of the summary: counts of the answered events, the length of the log at the end, the hash of the image
 unfoldable pub summary : List Answered → ℕ → List ℕ → List (List ℕ)
 summary answered log_length image_hash =
     number_line (codes "events") (length answered)

@@ -12,8 +12,8 @@ use Rattle.mb_model.specs.declared.state.Configuration.{Configuration}
 use Rattle.mb_model.specs.Layers.{layer_without_owner, is_in}
 use Rattle.mb_model.specs.Log.{layers_of}
 
--- The entry ends each key of this kind and layer that was born before it: an epoch key, where a change does not keep
--- the region; a configuration key, where a change is at the layer or beneath it.
+-- The entry ends each key of this kind and layer that was born before it: an epoch key if it is a change that does not
+-- keep the region, a configuration key if it is a change of the layer or of one beneath it.
 abbrev pub ends_keys : KeyKind → ℕ → Entry → Bool
 ends_keys kinds.Epoch key_layer (Change version position number kind layer cosigned layers kept next) =
     not (is_in key_layer kept)
@@ -23,8 +23,8 @@ ends_keys key_kind key_layer (Birth version serial key layers) = false
 ends_keys key_kind key_layer (NewKey position number key_number layer kind key) = false
 ends_keys key_kind key_layer (Succession position key) = false
 
--- The key with this number is born in the log, in the region of its layer, and no later entry ends it. This is what it
--- means that a key is alive. The laws of mb_model_laws say that the list `alive_keys` below has exactly these keys
+-- The key with this number is born in the log, in the region of its layer, and no later entry ends it: this is what it
+-- means for a key to be alive. The laws of mb_model_laws say that the list `alive_keys` below has exactly these keys
 -- (`alive_keys_are_alive`), that `is_alive` of a chain is true of them alone (`the_flag_is_life`), and that such a key
 -- lives in the last configuration of `lives_of` (`alive_keys_live_now`).
 pub record Alive (log : List Entry) (key_number key_layer : ℕ) (kind : KeyKind) (key : PublicKey) : Type 0 where
@@ -35,7 +35,7 @@ pub record Alive (log : List Entry) (key_number key_layer : ℕ) (kind : KeyKind
   pub split : log ≡ before ++ NewKey position number key_number key_layer kind key ∷ later
   pub lasts : All (λ entry. ends_keys kind key_layer entry ≡ false) later
 
--- the layers up to that of the key; each layer above stands as unowned
+-- the layers up to that of the key; each layer above appears as unowned
 abbrev pub layers_upto : ℕ → Layers → Layers
 layers_upto key_layer layers = record {
   one = layers.one;
@@ -54,7 +54,7 @@ pub record Split : Type 0 where
   pub entry : Entry
   pub later : List Entry
 
--- the same with one more entry at the front
+-- a split with one more entry at the front of its list
 abbrev pub with_front : Entry → Split → Split
 with_front entry split = record split { before = entry ∷ split.before }
 
@@ -72,7 +72,7 @@ configurations_opened_by key_layer (Change version position number kind layer co
 configurations_opened_by key_layer (NewKey position number key_number layer kind key) = []
 configurations_opened_by key_layer (Succession position key) = []
 
--- the configuration that a later entry opens for a key which it does not end, and which none since the key's own ended
+-- the configuration that a later entry opens for a key, if no entry from the key's own up to that one ends the key
 abbrev pub configurations_outlived_by : KeyKind → ℕ → Split → List Configuration
 configurations_outlived_by kind key_layer split =
     if list_all (λ entry. not (ends_keys kind key_layer entry)) split.before
@@ -80,7 +80,7 @@ configurations_outlived_by kind key_layer split =
     then configurations_opened_by key_layer split.entry
     else []
 
--- the configurations of the key with this number, where an entry makes it: that of its birth, and those that later
+-- the configurations of the key with this number, if the entry makes it: that of its birth, and those that later
 -- entries open while it lives
 abbrev pub lives_from : ℕ → List Entry → Entry → List Entry → List Configuration
 lives_from asked before (Birth version serial key layers) later = []
@@ -91,7 +91,7 @@ lives_from asked before (NewKey position number key_number layer kind key) later
     else []
 lives_from asked before (Succession position key) later = []
 
--- the configurations in which the key with this number lived; none where no entry makes such a key
+-- the configurations in which the key with this number lived; none if no entry makes such a key
 unfoldable pub lives_of : List Entry → ℕ → List Configuration
 lives_of log key_number = flat_map (λ split. lives_from key_number split.before split.entry split.later) (splits log)
 
@@ -101,7 +101,7 @@ pub record MadeKey : Type 0 where
   pub kind : KeyKind
   pub key : PublicKey
 
--- the key that an entry makes in the region of this layer, where no later entry ends it
+-- the key that an entry makes in the region of this layer, if no later entry ends it
 abbrev pub lasting_keys_of : ℕ → Entry → List Entry → List MadeKey
 lasting_keys_of key_layer (Birth version serial key layers) later = []
 lasting_keys_of key_layer (Change version position number kind layer cosigned layers kept next) later = []
@@ -111,6 +111,6 @@ lasting_keys_of key_layer (NewKey position number key_number layer kind key) lat
     else []
 lasting_keys_of key_layer (Succession position key) later = []
 
--- the keys of this layer that are alive by a log, in the order of their birth: exactly those that are Alive
+-- the keys of this layer that are alive according to a log, in the order of their birth: exactly those that are `Alive`
 unfoldable pub alive_keys : List Entry → ℕ → List MadeKey
 alive_keys log key_layer = flat_map (λ split. lasting_keys_of key_layer split.entry split.later) (splits log)

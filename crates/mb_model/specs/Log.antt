@@ -1,4 +1,4 @@
--- The log of a device: what its entries say together, and which entry may follow. Can a log tell of a change that the
+-- The log of a device: what its entries say together, and which entry may follow. Can a log record a change that the
 -- rules forbid?
 use Rattle.std.specs.Prelude.{◌≡◌, ◌≢◌, ℕ, ◌+◌, ◌==◌, ◌⊎◌, Bool, true, false, List, [], ◌∷◌, ◌++◌, length, map, reverse}
 use Rattle.std.specs.Prelude.{take_while, count_by, sum_by}
@@ -49,7 +49,7 @@ keys_in (Change version position number kind layer cosigned layers kept (Some ne
 keys_in (NewKey position number key_number layer kind key) = 1
 keys_in (Succession position key) = 1
 
--- the last that entries name of something
+-- what `named` gives for the last entry for which it gives anything
 unfoldable pub last_of : {X : Type 0} → (Entry → Option X) → List Entry → Option X
 last_of named [] = None
 last_of named (entry ∷ rest) = option_or (last_of named rest) (named entry)
@@ -66,7 +66,7 @@ layers_of log = unwrap_or (last_of layers_in log) unowned_layers
 unfoldable pub device_of : List Entry → Option PublicKey
 device_of log = last_of device_in log
 
--- how many entries stand after the one that names that key: those at the end that name none
+-- how many entries follow the one that names the device key: those at the end that name none
 unfoldable pub uses_of_device_key : List Entry → ℕ
 uses_of_device_key log = length (take_while (λ entry. is_none (device_in entry)) (reverse log))
 
@@ -81,11 +81,11 @@ is_version_two (Change version position number kind layer cosigned layers kept n
 is_version_two (NewKey position number key_number layer kind key) = false
 is_version_two (Succession position key) = false
 
--- whether some of the entries has version 2
+-- whether any of the entries has version 2
 unfoldable pub has_version_two : List Entry → Bool
 has_version_two log = list_any is_version_two log
 
--- the figures of a log: what its entries say together, and all by which the next entry is judged
+-- the figures of a log: what its entries say together, and all that the next entry is judged by
 abbrev pub figures_of : List Entry → Figures
 figures_of log = record {
   length = length log;
@@ -97,7 +97,7 @@ figures_of log = record {
   version_two = has_version_two log;
 }
 
--- the entry says that this many stand before it; a birth does not say
+-- the entry says that this many entries stand before it; a birth does not say
 abbrev pub StandsAt : ℕ → Entry → Type 0
 StandsAt count (Birth version serial key layers) = Unit {0}
 StandsAt count (Change version position number kind layer cosigned layers kept next) = position ≡ count
@@ -115,21 +115,21 @@ pub record HaveEqualTrusts (layers : Layers) : Type 0 where
   pub two : layers.two.trust.one ≡ layers.two.trust.two
   pub three : layers.three.trust.one ≡ layers.three.trust.two
 
--- A birth or change with these layers may have this version. Version 1 spells one trust a layer, so it can only name
--- layers whose trusts are equal. No entry of version 1 follows one of version 2.
+-- A birth or change with these layers may have this version. Version 1 spells one trust for each layer, so it can only
+-- name layers whose trusts are equal. No entry of version 1 follows one of version 2.
 pub record MayHaveVersion (after_version_two : Bool) (version : ℕ) (layers : Layers) : Type 0 where
   pub known : (version ≡ 1) ⊎ (version ≡ 2)
   pub equal_trusts : version ≡ 1 → HaveEqualTrusts layers
   pub rises : IsTrue after_version_two → version ≡ 2
 
--- the layers at a birth: layer 1 has an owner and is reliable, and nobody owns what is above
+-- the layers at a birth: layer 1 has an owner and is reliable, and layers 2 and 3 have no owner
 pub record AreFirst (layers : Layers) : Type 0 where
   pub owned : IsSome layers.one.owner
   pub reliable : IsTrue layers.one.reliable
   pub two : layers.two ≡ layer_without_owner
   pub three : layers.three ≡ layer_without_owner
 
--- A change of a layer counts on from the log before it, and names the next device key where it has to.
+-- A change of a layer has the next configuration number, and names the next device key exactly if it has to.
 pub record CountsRightly
     (before : Figures)
     (number : ℕ)
@@ -147,8 +147,8 @@ pub record MayAllCosign (layers : Layers) (kind : ChangeKind) (changed : ℕ) (c
   pub two : IsTrue cosigned.two → IsTrue (may_cosign layers kind changed 2)
   pub three : IsTrue cosigned.three → IsTrue (may_cosign layers kind changed 3)
 
--- A change of a layer turns the old layers into the new ones and keeps regions, both by the rules. Which owner, code
--- name and trusts it puts there, the changed layer says.
+-- A change of a layer turns the old layers into the new ones and keeps regions, both by the rules. The changed layer
+-- says which owner, code name and trusts are put there.
 pub record ChangesRightly
     (old : Layers)
     (kind : ChangeKind)
@@ -167,11 +167,11 @@ pub record MakesRightly (before : Figures) (number key_number layer : ℕ) : Typ
   pub counted : number ≡ before.number
   pub key_counted : key_number ≡ before.keys_made
   pub allowed : Condition before.layers None layer
-  -- the last index of a device key signs no new key
+  -- the last index of a device key signs no entry for a new key
   pub last_index : before.uses ≢ LAST_INDEX
 
--- By the rules the entry may stand after a log with these figures: a birth at first and nowhere else, and a succession
--- where the last index of a device key is left.
+-- By the rules the entry may follow a log with these figures: a birth as the first entry and nowhere else, and a
+-- succession if only the last index of the device key is left.
 abbrev pub Ruled : Figures → Entry → Type 0
 Ruled before (Birth version serial key layers) =
     (before.length ≡ 0) × AreFirst layers × MayHaveVersion before.version_two version layers

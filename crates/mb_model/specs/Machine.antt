@@ -16,13 +16,13 @@ use Rattle.mb_model.specs.Refusals.{refusal_reply}
 use Rattle.mb_model.specs.OrderStep.{OrderStep}
 use Rattle.mb_model.specs.LayerEvents.{Outcome, on_region, put_event, get_event, drop_event, sign_event}
 
--- where control is: power is off, or the device is on and dead, or the layer of this level runs, which is 1, 2 or 3
+-- where control is: power is off, the device is on and dead, or the layer with this number runs, which is 1, 2 or 3
 pub data Phase : Type 0 where
   off : Phase
   dead : Phase
   ratchet : ℕ → Phase
 
--- A device as the machine sees it: its state, none where it is dead; its phase; whether a power loss is armed.
+-- A device as the machine sees it: its state, none if it is dead; its phase; whether a power loss is armed.
 pub record World : Type 0 where
   pub state : Option State
   pub phase : Phase
@@ -32,7 +32,7 @@ pub record World : Type 0 where
 abbrev pub opening_world : Option State → World
 opening_world state = record { state = state; phase = off; armed = false }
 
--- what an event comes to in a world
+-- what an event comes to in a world: its reply, and the world afterwards
 abbrev pub Told : Type 0
 Told = Reply × World
 
@@ -43,7 +43,8 @@ boot_event world off None = (refusal_reply Zeroised, record world { phase = dead
 boot_event world dead state = (refusal_reply Zeroised, world)
 boot_event world (ratchet level) state = (refusal_reply WrongPhase, world)
 
--- The state of a device that is on and alive, and the layer that runs. All but boot, off, tamper and cut need one.
+-- The layer that runs, and the state of the device, if it is on and alive. Every event but boot, off, tamper and cut
+-- needs them.
 abbrev pub running_state : Phase → Option State → Result (ℕ × State) Refusal
 running_state off state = Err PoweredOff
 running_state dead state = Err Zeroised
@@ -53,7 +54,7 @@ running_state (ratchet level) (Some state) = Ok (level, state)
 abbrev pub running_state_in : World → Result (ℕ × State) Refusal
 running_state_in world = running_state world.phase world.state
 
--- what is told of how the device stands
+-- the reply that says how the device stands
 unfoldable pub status_of : State → Reply
 status_of state =
     let number = number_of (entries_of state.log) in
@@ -66,7 +67,7 @@ abbrev pub status_event : World → Result (ℕ × State) Refusal → Told
 status_event world (Err refusal) = (refusal_reply refusal, world)
 status_event world (Ok on) = (status_of on.1, world)
 
--- Control goes to the next layer, where there is one and it may run. There is no way back but a boot.
+-- Control goes to the next layer, if there is one and it may run. There is no way back but a boot.
 abbrev pub go_event : World → Result (ℕ × State) Refusal → Told
 go_event world (Err refusal) = (refusal_reply refusal, world)
 go_event world (Ok on) =
@@ -82,7 +83,7 @@ region_event world layer does (Ok on) =
     let outcome = on_region on.0 layer does on.1 in
     (outcome.0, record world { state = Some outcome.1 })
 
--- Orders are obeyed while layer 1 runs.
+-- Orders are obeyed only while layer 1 runs.
 abbrev pub CommandStep : World → List ℕ → List ℕ → Result (ℕ × State) Refusal → Reply → World → Type 0
 CommandStep world text draw (Err refusal) answer next = (answer ≡ refusal_reply refusal) × (next ≡ world)
 CommandStep world text draw (Ok on) answer next =
@@ -90,7 +91,7 @@ CommandStep world text draw (Ok on) answer next =
     × ((state : State) × OrderStep on.1 text draw answer state × (next ≡ record world { state = Some state })))
     ⊎ ((1 < on.0) × (answer ≡ refusal_reply WrongPhase) × (next ≡ world))
 
--- An event has this reply and leads to this world, where memory is found and power holds.
+-- An event has this reply and leads to this world, if no allocation fails and power holds.
 abbrev pub Machine : World → Event → Reply → World → Type 0
 Machine world event.Boot answer next = (answer, next) ≡ boot_event world world.phase world.state
 Machine world event.Off answer next = (answer ≡ reply.Off) × (next ≡ record world { phase = off })
@@ -109,7 +110,7 @@ Machine world (event.Drop layer name) answer next =
 Machine world (event.Sign layer key message) answer next =
     (answer, next) ≡ region_event world layer (sign_event layer key message) (running_state_in world)
 
--- the events for which memory may be wanted
+-- the events that may need to allocate memory
 abbrev pub may_want_memory : Event → Bool
 may_want_memory event.Boot = true
 may_want_memory event.Status = true
@@ -123,7 +124,7 @@ may_want_memory event.Tamper = false
 may_want_memory event.Go = false
 may_want_memory (event.Cut count tear) = false
 
--- the replies to events that write, in whose writes a power loss can fall
+-- the replies to events that write, so that a power loss can fall into the writes
 abbrev pub may_be_cut : Reply → Bool
 may_be_cut reply.Booted = true
 may_be_cut (reply.Done number size) = true
@@ -147,9 +148,9 @@ pub record LacksMemory (world : World) (event : Event) (answer : Reply) (next : 
   pub wanted : IsTrue (may_want_memory event)
   pub stays : next ≡ world
 
--- Power failed where a loss was armed: the event counts wholly or not at all.
+-- The power loss that was armed has happened: the event counts wholly or not at all.
 pub record LosesPower (world : World) (event : Event) (answer : Reply) (next : World) : Type 0 where
-  -- what the machine answers, and where it leads, where power holds
+  -- what the machine would answer, and where it would lead, if power held
   pub told : Reply
   pub whole : World
   pub machine : Machine world event told whole
@@ -161,14 +162,14 @@ pub record LosesPower (world : World) (event : Event) (answer : Reply) (next : W
   pub answered : answer ≡ reply.Stopped
   pub follows : next ≡ record { state = state; phase = off; armed = false }
 
--- One step: from a world, an event has this reply and leads to next. There is no other way.
+-- One step: from `world`, `event` has the reply `answer` and leads to `next`. There are no other steps.
 pub data Step (world : World) (event : Event) (answer : Reply) (next : World) : Type 0 where
   -- the machine's own answer
   machine_step : Machine world event answer next → Step world event answer next
   lacks_memory : LacksMemory world event answer next → Step world event answer next
   loses_power : LosesPower world event answer next → Step world event answer next
 
--- the answered events are steps, one after another, from a world to next
+-- the answered events are steps, one after another, from `world` to `next`
 abbrev pub Run : World → List Answered → World → Type 0
 Run world [] next = next ≡ world
 Run world (this ∷ rest) next = (mid : World) × Step world this.event this.reply mid × Run mid rest next

@@ -1,4 +1,4 @@
--- For which state a device's memory stands. What is a memory worth, as it lies, whatever work was broken off?
+-- Which state a device's memory means. What does a memory mean as it is, whatever work was interrupted?
 use Rattle.std.specs.Prelude.{◌≡◌, ℕ, List, [], ◌∷◌, ◌++◌, filter, Option, None, Some, if◌then◌else◌}
 use Rattle.std.specs.List.{list_any}
 use Rattle.mb_model.specs.declared.entry.Entry.{Entry}
@@ -17,21 +17,22 @@ use Rattle.mb_model.specs.Regions.{is_epoch}
 use Rattle.mb_model.specs.LayerEvents.{has_number}
 use Rattle.mb_model.specs.RootFormat.{root_format}
 use Rattle.mb_model.specs.RegionFormat.{SpellsRegion}
-use Rattle.mb_model.specs.Memory.{AreSized, IsImage, IsBlank, life_byte, spare_bytes, area_of_slot, HoldsInArea, HoldsRecord}
+use Rattle.mb_model.specs.Memory.{AreSized, IsImage, IsBlank, life_byte, spare_bytes, area_of_slot, HoldsInArea}
+use Rattle.mb_model.specs.Memory.{HoldsRecord}
 use Rattle.mb_model.specs.StoredLog.{HasIndex, log_completed_by}
 use Rattle.mb_model.specs.Flash.{HoldsPublic}
 use Rattle.mb_model.specs.Valid.{Valid}
 
 -- ---- what a memory holds
 
--- A memory is alive by its life byte, the bytes between its selectors and its areas are zero, and this area holds this
--- root.
+-- The life byte says that the device is alive, the bytes between the selectors and the areas are zero, and this area
+-- holds this root record.
 pub record HasRoot (life : ℕ) (between area : List ℕ) (root : Root) : Type 0 where
   pub alive : life ≡ 0xA5
   pub blank : IsBlank between
   pub holds : HoldsRecord root_format area root
 
--- so it is in this memory
+-- this battery-backed memory is that of a live device with this root record
 abbrev pub RootIn : List ℕ → Root → Type 0
 RootIn bbram root = HasRoot (life_byte bbram) (spare_bytes bbram) (area_of_slot bbram 1) root
 
@@ -50,7 +51,7 @@ pub record Contents : Type 0 where
   pub two : Region
   pub three : Region
 
--- A form of the flash: when it holds these codes, signed entries and unsigned entries for a root.
+-- A form of the flash: it says when a flash holds these codes, signed entries and unsigned entries for a root.
 abbrev pub FlashForm : Type 1
 FlashForm = List ℕ → Root → Codes → List SignedEntry → List Entry → Type 0
 
@@ -79,7 +80,7 @@ keys_after_fate Empty keys = []
 keys_after_fate DropConfiguration keys = filter (λ key. is_epoch key.kind) keys
 keys_after_fate (AddKey key) keys = if list_any (has_number key.number) keys then keys else keys ++ key ∷ []
 
--- a region after what is to be done to it
+-- a region once its fate has been carried out
 unfoldable pub region_after_fate : Fate → Region → Region
 region_after_fate fate region =
     record { secrets = secrets_after_fate fate region.secrets; keys = keys_after_fate fate region.keys }
@@ -108,8 +109,8 @@ state_of_contents contents =
       three = region_after_fate (fate_of_three root.pending) contents.three;
     }
 
--- These bytes stand for this state, by this form of the flash: for none where the battery-backed memory is all zero, as
--- a tamper event leaves it, whatever the flash holds.
+-- These bytes mean this state, with a flash in this form. If the battery-backed memory is all zero, as a tamper event
+-- leaves it, they mean none, whatever the flash holds.
 pub data HasMeaningBy (Form : FlashForm) (flash bbram : List ℕ) (state : Option State) : Type 0 where
   is_dead : IsBlank bbram → state ≡ None → HasMeaningBy Form flash bbram state
   is_live : (contents : Contents) → HoldsContentsBy Form flash bbram contents →
@@ -123,7 +124,7 @@ pub record StandsForBy (Form : FlashForm) (flash bbram : List ℕ) (state : Opti
   pub sized : AreSized flash bbram
   pub meaning : HasMeaningBy Form flash bbram state
 
--- The memory stands for this state.
+-- The memory has the right lengths and means this state.
 abbrev pub StandsFor : List ℕ → List ℕ → Option State → Type 0
 StandsFor flash bbram state = StandsForBy HoldsPublic flash bbram state
 
@@ -136,6 +137,6 @@ pub record IsWellFormedBy (Form : FlashForm) (image : List ℕ) (state : Option 
   pub stands : StandsForBy Form flash bbram state
   pub valid : Valid state
 
--- an image that a device can have, and the state for which it stands
+-- an image that a device can have, and the state that it means
 abbrev pub IsWellFormed : List ℕ → Option State → Type 0
 IsWellFormed image state = IsWellFormedBy HoldsPublic image state

@@ -1,4 +1,4 @@
--- Where things stand in a device's memory. Which bytes count, and which may be any?
+-- Where things stand in a device's memory. Which bytes count, and which are arbitrary?
 use Rattle.std.specs.Prelude.{◌≡◌, ℕ, ◌%◌, ◌≤◌, ◌==◌, List, ◌++◌, length, slice_index, All, if◌then◌else◌}
 use Rattle.std.specs.Int.{w16, to_be_bytes}
 use Rattle.mb_format.specs.Format.{Format, Spells}
@@ -20,20 +20,20 @@ IsBlank bytes = All (λ byte. byte ≡ 0) bytes
 
 -- ---- the table of the battery-backed memory
 
--- a slot, in which a record stands: the offset of its selector, a byte, and those of its first and its second area
+-- a slot, which holds one record: the offsets of its selector, a byte, and of its first and its second area
 pub record SlotOffsets : Type 0 where
   pub selector : ℕ
   pub first : ℕ
   pub second : ℕ
 
--- slot 1 is the root's, and slots 2 and 3 are those of regions 2 and 3
+-- slot 1 holds the root record, and slots 2 and 3 hold the records of regions 2 and 3
 abbrev pub slots : ℕ → SlotOffsets
 slots slot =
     if slot == 1 then record { selector = 1; first = 4096; second = 8192 }
     else if slot == 2 then record { selector = 2; first = 12288; second = 16384 }
     else record { selector = 3; first = 20480; second = 24576 }
 
--- the byte at offset 0 tells whether the device lives
+-- the byte at offset 0, which says whether the device is alive
 abbrev pub life_byte : List ℕ → ℕ
 life_byte bbram = slice_index bbram 0
 
@@ -52,7 +52,7 @@ first_area bbram slot = part (slots slot).first AREA_LENGTH bbram
 unfoldable pub second_area : List ℕ → ℕ → List ℕ
 second_area bbram slot = part (slots slot).second AREA_LENGTH bbram
 
--- the area in force, by the parity of the selector, and the other one
+-- the current area of a slot, by the parity of its selector; the other one is inactive
 unfoldable pub area_of_slot : List ℕ → ℕ → List ℕ
 area_of_slot bbram slot = if selector_of bbram slot % 2 == 0 then first_area bbram slot else second_area bbram slot
 

@@ -8,28 +8,27 @@ use Rattle.mb_model.specs.Pieces.{part}
 use Rattle.mb_model.specs.Key.{tree_type, chains_type, height, chain_count}
 use Rattle.mb_model.specs.Winternitz.{message_hash, digits_of, one_time_key}
 
--- D_LEAF and D_INTR, which keep the uses of the hash apart (7.1)
+-- D_LEAF and D_INTR, domain separators of the hash (7.1)
 abbrev pub leaf_mark : List ℕ
 leaf_mark = 0x82 ∷ 0x82 ∷ []
 
 abbrev pub inner_mark : List ℕ
 inner_mark = 0x83 ∷ 0x83 ∷ []
 
--- the node of a tree with this number, where it is the leaf of a one-time key (5.3)
+-- the node of a tree with this number, if it is a leaf: the hash of its one-time key (5.3)
 unfoldable pub leaf_node : List ℕ → ℕ → List ℕ → List ℕ
 leaf_node id number key = sha256 (id ++ to_be_bytes w32 number ++ leaf_mark ++ key)
 
--- the node of a tree with this number, where it stands over two nodes (5.3)
+-- the node of a tree with this number, if it is an inner one: the hash of the two nodes under it (5.3)
 unfoldable pub inner_node : List ℕ → ℕ → List ℕ → List ℕ → List ℕ
 inner_node id number left right = sha256 (id ++ to_be_bytes w32 number ++ inner_mark ++ left ++ right)
 
--- the node over the one with this number, which is the left one where the number is even, and its sibling
+-- the node above the one with this number and its sibling; a node with an even number is the left one
 unfoldable pub parent_node : List ℕ → ℕ → List ℕ → List ℕ → List ℕ
 parent_node id number node sibling =
     if number % 2 == 0 then inner_node id (number / 2) node sibling else inner_node id (number / 2) sibling node
 
--- the node that is reached by this many steps upward from a node, with the nodes of the path as siblings in turn
--- (5.4.2)
+-- the node this many levels above a node, with the nodes of the path as siblings in turn (5.4.2)
 unfoldable pub climb : List ℕ → ℕ → List ℕ → List ℕ → ℕ → List ℕ
 climb id number node path zero = node
 climb id number node path (suc levels) =
@@ -45,7 +44,7 @@ chains_type_in sig = from_be_bytes w32 (part 4 4 sig)
 abbrev pub randomizer : List ℕ → List ℕ
 randomizer sig = part 8 32 sig
 
--- the next three stand where they do for this count of chains
+-- the chain values, one for each of this many chains; the LMS type and the path follow them
 abbrev pub chain_values : ℕ → List ℕ → List ℕ
 chain_values count sig = part 40 (32 * count) sig
 
@@ -63,7 +62,7 @@ pub record HasForm (key : PublicKey) (sig : List ℕ) : Type 0 where
   pub tree : tree_type_in (chain_count key.chains) sig ≡ tree_type key.tree
   pub leaf : leaf_number sig < 2 ^ height key.tree
 
--- the top node, T[1], to which a signature leads from the hash of a text (5.4.2)
+-- T[1]: the top node that a signature gives for the hash of a text (5.4.2)
 unfoldable pub root_from : PublicKey → List ℕ → List ℕ → List ℕ
 root_from key hash sig =
     let count = chain_count key.chains in

@@ -1,4 +1,4 @@
--- What the command `migrate` does. Does OUT stand for the state for which IMAGE stands, whichever form that has?
+-- What the command `migrate` does. Does OUT mean the state that IMAGE means, whichever form IMAGE has?
 use Rattle.std.specs.Prelude.{◌≡◌, List, ℕ, ◌++◌, codes}
 use Rattle.hex.specs.Hex.{encode_lower}
 use Rattle.sha2.specs.Sha256.{sha256}
@@ -14,8 +14,8 @@ pub record MigrateNames : Type 0 where
   pub image : List ℕ
   pub out : List ℕ
 
--- An image that may have the form before: it stands for what a migration makes of it, and where it can't be migrated it
--- is at fault as in the present form.
+-- An image in the present form or the old one, read as what a migration makes of it. If it cannot be migrated, it is at
+-- fault as an image in the present form.
 abbrev pub old_image_input : List ℕ → Input (List ℕ)
 old_image_input name = record {
   role = role.Image;
@@ -24,7 +24,7 @@ old_image_input name = record {
   FaultyAt = λ bytes place. (faulty : Fault) × (place ≡ fault_place faulty) × CannotMigrate bytes faulty;
 }
 
--- the line that tells the hash of the image that is written
+-- the line with the hash of the image that is written
 abbrev pub migrated_text : List ℕ → List ℕ
 migrated_text image = line_with_lf (codes "migrated " ++ encode_lower (sha256 image))
 
@@ -32,6 +32,6 @@ abbrev pub write_migrated_image : MigrateNames → List ℕ → Command
 write_migrated_image names image =
     write (record { role = role.Out; name = names.out; bytes = image }) (print (migrated_text image))
 
--- an image is read, which may have the form before, and the image of the present form is written
+-- an image in the present form or the old one is read, and the image of the present form is written
 unfoldable pub migrate : MigrateNames → Command
 migrate names = read (old_image_input names.image) (write_migrated_image names)

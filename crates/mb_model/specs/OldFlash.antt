@@ -21,7 +21,7 @@ use Rattle.mb_model.specs.Faults.{Fault, HasFaultBy}
 unfoldable pub flash_area : List ℕ → ℕ → List ℕ
 flash_area flash number = part (524288 * number) 524288 flash
 
--- an area begins with these bytes, after their length; what follows them is any
+-- an area begins with these bytes, after their length; arbitrary bytes follow
 pub record BeginsArea (area bytes : List ℕ) : Type 0 where
   pub rest : List ℕ
   pub short : length bytes ≤ 470000
@@ -42,12 +42,12 @@ with_signature signed = record { entry = signed.entry; signature = Some signed.s
 abbrev pub without_signature : Entry → PublicEntry
 without_signature entry = record { entry = entry; signature = None }
 
--- the record of these codes, and of entries that are signed up to the last ones
+-- the record of these codes and of these entries, the signed ones first
 abbrev pub public_of_parts : Codes → List SignedEntry → List Entry → Public
 public_of_parts codes signed unsigned =
     record { codes = codes; entries = map with_signature signed ++ map without_signature unsigned }
 
--- The flash area that the root names holds these codes and entries, of which as many are unsigned as the root says.
+-- The flash area that the root names holds these codes and entries, and as many of them are unsigned as the root says.
 pub record HeldPublic
     (flash : List ℕ) (root : Root) (codes : Codes) (signed : List SignedEntry) (unsigned : List Entry) : Type 0 where
   pub begins : BeginsWithRecord public_format (flash_area flash root.area) (public_of_parts codes signed unsigned)
@@ -55,7 +55,7 @@ pub record HeldPublic
 
 -- ---- what an old image means
 
--- an image that a device could have, and the state for which it stood
+-- an image that a device could have, and the state that it meant
 abbrev pub WasWellFormed : List ℕ → Option State → Type 0
 WasWellFormed image state = IsWellFormedBy HeldPublic image state
 

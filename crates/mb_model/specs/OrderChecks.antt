@@ -21,7 +21,7 @@ use Rattle.mb_model.specs.declared.reply.Refusal.TheVariants.{RegionFull, NoSuch
 use Rattle.mb_model.specs.declared.reply.Refusal.TheVariants.{WrongState, WrongSignature, WrongCountersignature}
 use Rattle.mb_model.specs.declared.reply.Refusal.TheVariants.{LogFull, KeysFull}
 
--- the figures of a state by which its orders are judged
+-- the part of a state by which its orders are judged
 abbrev pub view_of : State → View
 view_of state = record {
   serial = state.serial;
@@ -41,7 +41,7 @@ region_keys view layer = if layer == 2 then view.keys_two else if layer == 3 the
 
 -- ---- the checks of an order, in the order in which they are tried
 
--- the change that the order makes: none where it makes a new key
+-- the change that the order makes: none if it makes a new key
 abbrev pub change_by : Order → Option ChangeKind
 change_by order = change_of (kind_of order.act)
 
@@ -59,12 +59,12 @@ abbrev pub IsSigned : View → Order → Type 0
 IsSigned view order =
     IsSignedBy (authority view.layers (change_by order) order.layer) (order_text (order_body order)) order.signature
 
--- the owner of its layer gave a countersignature
+-- the countersignature is by the owner of the layer that it names
 abbrev pub IsCountersigned : View → Order → Countersignature → Type 0
 IsCountersigned view order by =
     IsSignedBy (layer_of view.layers by.layer).owner (countersigned_text by.layer (order_body order)) by.signature
 
--- The last index of a device key signs no entry but one that names the next key: a succession stands before any other.
+-- The last index of a device key signs only an entry that names the next key: a succession is due before any other.
 abbrev pub succession_is_due : View → Bool → Bool
 succession_is_due view names_next = view.uses == LAST_INDEX && not names_next
 
@@ -78,7 +78,7 @@ entries_needed view order = if needs_succession view order then 2 else 1
 abbrev pub LogHasRoom : View → Order → Type 0
 LogHasRoom view order = view.length + entries_needed view order ≤ ENTRY_LIMIT
 
--- where the order makes a key, its region has room for it
+-- if the order makes a key, its region has room for it
 abbrev pub RegionHasRoom : View → ℕ → Act → Type 0
 RegionHasRoom view layer (act.NewKey key_kind) = region_keys view layer < KEY_LIMIT
 RegionHasRoom view layer (act.Establish owner trust) = Unit {0}
@@ -95,7 +95,7 @@ pub record Passes (view : View) (order : Order) : Type 0 where
   pub log : LogHasRoom view order
   pub keys : RegionHasRoom view order.layer order.act
 
--- The order passes every check before this one, and not this one.
+-- The order passes every check before that of this refusal, and fails that one.
 abbrev pub Fails : View → Order → Refusal → Type 0
 Fails view order (WrongTarget index) =
     (target : Target) × IsFirstFailing (TargetHoldsIn view) order.targets index target

@@ -1,4 +1,4 @@
--- What an order does that passes. What of the device has changed afterwards, and which entries tell of it?
+-- What an order that passes does. What of the device has changed afterwards, and which entries record it?
 use Rattle.std.specs.Prelude.{ℕ, ◌+◌, ◌==◌, Bool, false, if◌then◌else◌}
 use Rattle.std.specs.Prelude.{List, [], ◌∷◌, ◌++◌, Option, None, Some}
 use Rattle.std.specs.List.{list_any}
@@ -70,11 +70,11 @@ layers_after layers (fact.NewKey layer kind) = layers
 abbrev pub next_key : View → List ℕ → KeySeed
 next_key view draw = born_key draw view.serial view.keys_made
 
--- the next device key, where it is made
+-- the next device key, if one is made
 abbrev pub next_device_key : Bool → View → List ℕ → Option PublicKey
 next_device_key next view draw = if next then Some (public_of (next_key view draw)) else None
 
--- The entry that says what has been made true. That of a change has version 2.
+-- The entry that records a fact. That of a change has version 2.
 abbrev pub entry_of : View → Fact → List ℕ → Entry
 entry_of view (fact.Change kind layer cosigned layers kept) draw = Change
     2
@@ -104,7 +104,7 @@ uses_after next view = if next then 0 else view.uses + 1
 abbrev pub key_made : View → KeyKind → List ℕ → RegionKey
 key_made view kind draw = record { number = view.keys_made; kind = kind; seed = next_key view draw; uses = 0 }
 
--- ---- what an order leaves that passes
+-- ---- what an order that passes leaves
 
 -- an entry signed by a key at an index
 unfoldable pub entry_signed_by : KeySeed → ℕ → Entry → SignedEntry
@@ -114,7 +114,7 @@ entry_signed_by key index entry = record { entry = entry; signature = signature_
 abbrev pub log_with : State → Entry → List SignedEntry
 log_with state entry = state.log ++ entry_signed_by state.device (uses_of_device_key (entries_of state.log)) entry ∷ []
 
--- the device key has given way to the next, which it names with its last index
+-- the state after a succession: the device key gave way to the next, which it named with its last index
 unfoldable pub state_after_succession : State → List ℕ → State
 state_after_succession state draw = record state {
   log = log_with state (succession_entry (view_of state) draw);
@@ -122,7 +122,7 @@ state_after_succession state draw = record state {
   uses = 0;
 }
 
--- the code of its layer that an order leaves
+-- the code that an order leaves in its layer
 abbrev pub code_after : Option (List ℕ) → Act → Option (List ℕ)
 code_after old (act.Establish owner trust) = None
 code_after old act.Surrender = None
@@ -137,7 +137,7 @@ codes_after old changed order = record {
   three = if changed == 3 then code_after old.three order else old.three;
 }
 
--- a layer has been changed: layers and regions follow the rules, and the log tells of it
+-- the state after a change of a layer: layers and regions follow the rules, and the log records it
 unfoldable pub state_after_change : State → ChangeKind → Order → List ℕ → State
 state_after_change state kind order draw =
     let fact = change_fact state.layers kind order in
@@ -152,7 +152,7 @@ state_after_change state kind order draw =
       three = region_after state.layers kind order.layer (cosigners_of order) 3 state.three;
     }
 
--- a key has been made in the region of a layer, and the log tells of it
+-- the state after a new key: it stands in the region of a layer, and the log records it
 unfoldable pub state_after_new_key : State → ℕ → KeyKind → List ℕ → State
 state_after_new_key state layer kind draw =
     with_region
@@ -162,15 +162,15 @@ state_after_new_key state layer kind draw =
     })
     layer (with_key (key_made (view_of state) kind draw) (region_of state layer))
 
--- the state in which the device key has an index for the order: after a succession, where one is needed
+-- the state in which the device key has an index for the order: after a succession, if one is needed
 abbrev pub ready_for : State → Order → List ℕ → State
 ready_for state order draw = if needs_succession (view_of state) order then state_after_succession state draw else state
 
--- the order's own entry, by a state in which the device key has an index for it
+-- the order's own entry, from a state in which the device key has an index for it
 abbrev pub own_entry : State → Order → List ℕ → Entry
 own_entry ready order draw = entry_of (view_of ready) (fact_of ready.layers order order.act) draw
 
--- what the order does to such a state
+-- what the order does to a state in which the device key has an index for it
 abbrev pub state_after_act : State → Order → Act → List ℕ → State
 state_after_act ready order (act.Establish owner trust) draw = state_after_change ready Establish order draw
 state_after_act ready order act.Surrender draw = state_after_change ready Surrender order draw
@@ -178,6 +178,6 @@ state_after_act ready order (act.Load payload) draw = state_after_change ready L
 state_after_act ready order (act.Emergency payload) draw = state_after_change ready Emergency order draw
 state_after_act ready order (act.NewKey key_kind) draw = state_after_new_key ready order.layer key_kind draw
 
--- the state after an order that passes, with a draw of which its keys are made
+-- the state after an order that passes; its keys are derived from the draw
 unfoldable pub state_after_order : State → Order → List ℕ → State
 state_after_order state order draw = state_after_act (ready_for state order draw) order order.act draw

@@ -64,7 +64,7 @@ abbrev pub demanded_code : Target → Option (ℕ × List ℕ)
 demanded_code (Code layer hash) = Some (layer, hash)
 demanded_code _ = None
 
--- the serial; the length; or a layer and a hash
+-- what follows a target's tag: the serial, the length, or a layer and a hash
 abbrev pub target_by : TargetTag → Format Target
 target_by serial_tag = as_value (raw 16) Serial demanded_serial
 target_by length_tag = as_value (number w32) Length demanded_length
@@ -125,7 +125,7 @@ differing_trusts = as_record (both trust_format (λ one. listed w8 (other_rows o
     (λ (one, two). record { one = one; two = two })
     (λ trusts. (trusts.one, trusts.two))
 
--- the trusts that an act gives its layer: one trust where they are equal, else both
+-- the trusts that an act gives its layer: one trust if they are equal, else both
 abbrev pub given_trusts : Bool → Format Trusts
 given_trusts false = one_trust trust_format
 given_trusts true = differing_trusts
@@ -171,7 +171,7 @@ pub record Body : Type 0 where
 abbrev pub body_of : Order → Body
 body_of order = record { layer = order.layer; targets = order.targets; act = order.act }
 
--- after the form's byte: the layer, the targets, and what the order does
+-- what follows the form's byte: the layer, the targets, and what the order does
 abbrev pub body_by : OrderForm → Format Body
 body_by form = as_record
     (pair (between w8 (least_layer form.kind) 3)
@@ -182,7 +182,7 @@ body_by form = as_record
 unfoldable pub body_format : Format Body
 body_format = led (listed w8 form_rows form_byte) (λ body. form_of body.act) body_by
 
--- the bytes that an owner signs
+-- the body of an order as bytes, which each of its signatures covers
 abbrev pub order_body : Order → List ℕ
 order_body order = body_format.spelling (body_of order)
 
@@ -197,7 +197,7 @@ pub record Climb : Type 0 where
   pub below : ℕ
   pub left : ℕ
 
--- a countersignature leaves a layer to each that comes after it
+-- a countersignature: its layer, which leaves a higher one for each that follows, and its signature
 abbrev pub countersignature_format : Climb → Format Countersignature
 countersignature_format climb = as_record (pair (between w8 (climb.below + 1) (4 - climb.left)) sized_signature_format)
     (λ (layer, signature). record { layer = layer; signature = signature })
@@ -206,11 +206,11 @@ countersignature_format climb = as_record (pair (between w8 (climb.below + 1) (4
 abbrev pub climb_after : Climb → Countersignature → Climb
 climb_after climb by = record { below = by.layer; left = climb.left - 1 }
 
--- the owners above a load's layer may countersign it
+-- the most countersignatures of an order: one for each layer above its own if it is a load, else none
 abbrev pub countersignature_limit : OrderKind → ℕ → ℕ
 countersignature_limit order layer = if is_load (change_of order) then 3 - layer else 0
 
--- as many countersignatures as are announced, their layers ascending
+-- the number of countersignatures, and then these, their layers ascending
 unfoldable pub countersignatures_format : Body → Format (List Countersignature)
 countersignatures_format body = led (between w8 0 (countersignature_limit (kind_of body.act) body.layer)) length
     (λ count. items countersignature_format climb_after count (record { below = body.layer; left = count }))

@@ -29,7 +29,7 @@ pub record FailsCheck (state : State) (text : List ℕ) (answer : Reply) (next :
   pub answered : answer ≡ refusal_reply refusal
   pub stays : next ≡ state
 
--- The bytes spell an order that passes: it is obeyed. The answer tells the configuration number and the length of the
+-- The bytes spell an order that passes: it is obeyed. The answer gives the configuration number and the length of the
 -- log afterwards.
 pub record IsObeyed (state : State) (text draw : List ℕ) (answer : Reply) (next : State) : Type 0 where
   pub order : Order
@@ -38,7 +38,7 @@ pub record IsObeyed (state : State) (text draw : List ℕ) (answer : Reply) (nex
   pub follows : next ≡ state_after_order state order draw
   pub answered : answer ≡ reply.Done (number_of (entries_of next.log)) (length next.log)
 
--- From state, these bytes are answered so and lead to next.
+-- From `state`, the bytes `text` have the reply `answer` and lead to `next`.
 pub data OrderStep (state : State) (text draw : List ℕ) (answer : Reply) (next : State) : Type 0 where
   spells_none : SpellsNone state text answer next → OrderStep state text draw answer next
   fails_check : FailsCheck state text answer next → OrderStep state text draw answer next

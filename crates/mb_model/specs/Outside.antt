@@ -1,10 +1,10 @@
--- The world outside: what a host tells of its files and of what it printed, and how each of its calls changes that.
+-- The world outside: what a host shows of its files and of what it printed, and how each of its calls changes that.
 use Rattle.mb_model.specs.declared.limits.TheConstants.{FILE_LIMIT}
 use Rattle.std.specs.Prelude.{◌≡◌, ◌≢◌, ℕ, ◌+◌, ◌-◌, ◌^◌, ◌<◌, ◌≤◌, ◌⊎◌, nat_lt, List, ◌++◌, length, take, Option, None}
 use Rattle.std.specs.Prelude.{Some, if◌then◌else◌}
 
--- A host may tell its files by name, and the bytes that were printed. It counts its faults: reads that failed, reads of
--- names that are not there, and writes and prints that failed. And it counts its calls of each kind, failed or not.
+-- A host may show its files by name, and the bytes that were printed. It counts failed reads, reads of names that are
+-- not there, and failed writes and prints. It counts its calls of each kind too, failed or not.
 pub record Outside : Type 0 where
   pub files : Option (List ℕ → Option (List ℕ))
   pub printed : Option (List ℕ)
@@ -15,43 +15,43 @@ pub record Outside : Type 0 where
   pub writes : ℕ
   pub prints : ℕ
 
--- the last value of a count, which is a u64
+-- the highest value of a count, which is a u64
 abbrev pub count_limit : ℕ
 count_limit = 2 ^ 64 - 1
 
--- a count raised by one; it stays at its last value
+-- a count raised by one; it saturates
 unfoldable pub count_after_call : ℕ → ℕ
 count_after_call count = if nat_lt count count_limit then count + 1 else count
 
--- a count has risen; one that stands at its last value counts as risen
+-- a count has risen; a saturated one counts as risen
 abbrev pub HasRisen : ℕ → ℕ → Type 0
 HasRisen before after = (before < after) ⊎ (count_limit ≤ after)
 
 -- ---- files and printing
 
--- where the host tells its files, the file of this name holds these bytes
+-- if the host shows its files, the file of this name holds these bytes
 abbrev pub HoldsFile : Outside → List ℕ → List ℕ → Type 0
 HoldsFile outside name bytes =
     (files : List ℕ → Option (List ℕ)) → outside.files ≡ Some files → files name ≡ Some bytes
 
--- where the host tells its files, none has this name
+-- if the host shows its files, none has this name
 abbrev pub HasNoFile : Outside → List ℕ → Type 0
 HasNoFile outside name = (files : List ℕ → Option (List ℕ)) → outside.files ≡ Some files → files name ≡ None
 
--- where the host tells its files, the file of this name is longer than an input may be
+-- if the host shows its files, the file of this name is longer than an input may be
 abbrev pub HoldsTooMuch : Outside → List ℕ → Type 0
 HoldsTooMuch outside name =
     (files : List ℕ → Option (List ℕ)) → outside.files ≡ Some files
     → (bytes : List ℕ) × (files name ≡ Some bytes) × (FILE_LIMIT < length bytes)
 
--- where the host told its files, it tells them still, and all but the file of this name are as they were
+-- if the host showed its files, it still shows them, and all but the file of this name are as they were
 abbrev pub OtherFilesStay : Outside → Outside → List ℕ → Type 0
 OtherFilesStay before after name =
     (files : List ℕ → Option (List ℕ)) → before.files ≡ Some files
     → (now : List ℕ → Option (List ℕ)) × (after.files ≡ Some now)
     × ((other : List ℕ) → other ≢ name → now other ≡ files other)
 
--- where the host told what was printed, it tells it still, and these bytes have been added
+-- if the host showed what was printed, it still does, and these bytes have been added
 abbrev pub Adds : Outside → Outside → List ℕ → Type 0
 Adds before after bytes = (shown : List ℕ) → before.printed ≡ Some shown → after.printed ≡ Some (shown ++ bytes)
 
@@ -61,7 +61,7 @@ Adds before after bytes = (shown : List ℕ) → before.printed ≡ Some shown �
 abbrev pub read_once : Outside → Outside
 read_once before = record before { reads = count_after_call before.reads }
 
--- A read of this name failed. Either it counts as a fault, or the host has no such file, which it counts by itself.
+-- A read of this name failed. It counts as a fault, or the host has no such file and counts an absence.
 pub data FailsToRead (name : List ℕ) (before after : Outside) : Type 0 where
   by_fault : after ≡ record (read_once before) { read_faults = count_after_call before.read_faults }
       → FailsToRead name before after
@@ -70,7 +70,7 @@ pub data FailsToRead (name : List ℕ) (before after : Outside) : Type 0 where
 
 -- ---- a write
 
--- these bytes were made the whole file of this name
+-- these bytes were written as the whole file of this name
 pub record WritesFile (name bytes : List ℕ) (before after : Outside) : Type 0 where
   pub stays : after ≡ record before { files = after.files; writes = count_after_call before.writes }
   pub others : OtherFilesStay before after name

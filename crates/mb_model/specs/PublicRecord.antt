@@ -9,7 +9,7 @@ use Rattle.mb_model.specs.declared.state.Codes.{Codes}
 use Rattle.mb_model.specs.declared.stored.Public.{Public}
 use Rattle.mb_model.specs.EntryFormat.{entry_format, signature_format}
 
--- the code of a layer after its length, where it has some
+-- the code of a layer after its length, if it has any
 unfoldable pub code_format : Format (Option (List ℕ))
 code_format = optional (sized (between w32 0 CODE_LIMIT))
 
@@ -19,7 +19,7 @@ codes_format = as_record (pair code_format (pair code_format code_format))
     (λ (one, (two, three)). record { one = one; two = two; three = three })
     (λ codes. (codes.one, (codes.two, codes.three)))
 
--- an entry, and its signature where it is signed
+-- an entry, and its signature if it is signed
 unfoldable pub public_entry_format : Format PublicEntry
 public_entry_format = as_record (pair entry_format (optional signature_format))
     (λ (entry, signature). record { entry = entry; signature = signature })

@@ -7,7 +7,7 @@ use Rattle.mb_model.specs.declared.reply.Refusal.TheVariants.{WrongSignature, Wr
 use Rattle.mb_model.specs.declared.reply.Reply.{Reply}
 use Rattle.mb_model.specs.declared.reply.Reply.TheVariants as reply
 
--- the number by which a device tells of it
+-- the number by which a device reports a refusal
 abbrev pub refusal_number : Refusal → ℕ
 refusal_number PoweredOff = 1
 refusal_number WrongPhase = 2

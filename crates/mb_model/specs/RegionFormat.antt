@@ -12,7 +12,7 @@ use Rattle.mb_model.specs.declared.region.Region.{Region}
 use Rattle.mb_model.specs.Regions.{empty_region}
 use Rattle.mb_model.specs.RootFormat.{region_key_format}
 
--- the bytes of a name are those that print and are no space
+-- whether a byte may stand in a name: it is a printable character of ASCII, and no space
 abbrev pub is_name_byte : ℕ → Bool
 is_name_byte byte = nat_le 0x21 byte && nat_le byte 0x7E
 
@@ -41,24 +41,24 @@ most_secrets version = if version == 1 then SECRET_LIMIT_VERSION_1 else SECRET_L
 unfoldable pub secrets_format : ℕ → Format (List Secret)
 secrets_format most = counted (between w8 0 most) secret_format
 
--- what stands after the version of a record: the region's secrets, its keys
+-- what follows the version in a record: the region's secrets and its keys
 unfoldable pub region_by : ℕ → Format Region
 region_by version =
     as_record (both (secrets_format (most_secrets version)) (λ secrets. keys_format (least_keys secrets)))
     (λ (secrets, keys). record { secrets = secrets; keys = keys })
     (λ region. (region.secrets, region.keys))
 
--- The record of a region: its version, 1 or 2, and what stands after it. A region of at most 16 secrets has a record of
+-- The record of a region: its version, 1 or 2, and what follows it. A region of at most 16 secrets has a record of
 -- either version.
 unfoldable pub region_format : Format (ℕ × Region)
 region_format = both (between w8 1 REGION_VERSION) region_by
 
--- bytes are a record of a region, of one of the versions
+-- bytes are a record of a region, in one of the versions
 pub record IsRecordOf (bytes : List ℕ) (region : Region) : Type 0 where
   pub version : ℕ
   pub spelled : Spells region_format bytes (version, region)
 
--- bytes stand for a region: for the empty one where there are none, and else for the one whose record they are
+-- bytes mean a region: the empty one if there are none, else the one whose record they are
 abbrev pub SpellsRegion : List ℕ → Region → Type 0
 SpellsRegion bytes region = ((bytes ≡ []) × (region ≡ empty_region)) ⊎ IsRecordOf bytes region
 
@@ -68,7 +68,7 @@ SpellsRegion bytes region = ((bytes ≡ []) × (region ≡ empty_region)) ⊎ Is
 abbrev pub CanBeWritten : Region → Type 0
 CanBeWritten region = (region ≡ empty_region) ⊎ region_format.Allowed (REGION_VERSION, region)
 
--- what is written for a region: no bytes where it is empty, and else that record
+-- what is written for a region: no bytes if it is empty, else its record of the version that is written
 abbrev pub written_with : List Secret → List RegionKey → List ℕ
 written_with [] [] = []
 written_with secrets keys = region_format.spelling (REGION_VERSION, record { secrets = secrets; keys = keys })

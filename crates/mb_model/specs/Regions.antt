@@ -28,8 +28,8 @@ is_epoch kinds.Configuration = false
 abbrev pub without_configuration_keys : Region → Region
 without_configuration_keys region = record region { keys = filter (λ key. is_epoch key.kind) region.keys }
 
--- The region of a layer after a change of one, with the layers before the change: a change above leaves it; one that
--- its layer admits takes its configuration keys; any other empties it.
+-- The region of a layer after a change of the layer `changed`; `layers` are those before the change. A change above
+-- leaves the region as it is; one that its layer admits takes its configuration keys; any other empties it.
 abbrev pub region_after : Layers → ChangeKind → ℕ → Pair → ℕ → Region → Region
 region_after layers kind changed cosigned layer region =
     if nat_lt layer changed then region
@@ -49,8 +49,8 @@ AdmittedSince log since layer =
     → log ≡ before ++ Change version position number kind changed cosigned layers kept next ∷ later
     → since < number → changed ≤ layer → Admits (layers_of before) kind changed cosigned layer
 
--- The log tells of the birth of the key with this number, in the region of its layer, and says of each change since
--- then that the layer admitted it.
+-- The key with this number is born in the log, in the region of its layer, and the layer admitted each change of itself
+-- or beneath it since then.
 pub record KeyAdmitted (log : List Entry) (layer key_number : ℕ) : Type 0 where
   pub before : List Entry
   pub position : ℕ
@@ -61,7 +61,7 @@ pub record KeyAdmitted (log : List Entry) (layer key_number : ℕ) : Type 0 wher
   pub split : log ≡ before ++ NewKey position number key_number layer kind key ∷ later
   pub admitted : AdmittedSince log number layer
 
--- each secret and each key of a layer's region was admitted by its layer at each change since it came into the region
+-- since each secret and each key came into a layer's region, the layer has admitted each change of itself or beneath it
 pub record RegionKeptRightly (log : List Entry) (layer : ℕ) (region : Region) : Type 0 where
   pub secrets : All (λ secret. AdmittedSince log secret.born layer) region.secrets
   pub keys : All (λ key. KeyAdmitted log layer key.number) region.keys
@@ -79,7 +79,7 @@ KeptRightly (Some state) = BothKeptRightly state
 abbrev pub region_of : State → ℕ → Region
 region_of state layer = if layer == 2 then state.two else if layer == 3 then state.three else empty_region
 
--- the state with another region of layer 2 or 3
+-- the state with this region of layer 2 or 3
 abbrev pub with_region : State → ℕ → Region → State
 with_region state layer region = record state {
   two = if layer == 2 then region else state.two;

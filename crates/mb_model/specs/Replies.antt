@@ -36,7 +36,7 @@ refusal_words number =
     else if number == 16 then Some (codes "keys full")
     else None
 
--- Each reply has a line but a refusal whose number has no words.
+-- Every reply has a line, except a refusal whose number has no words.
 abbrev pub HasLine : Reply → Type 0
 HasLine (reply.Refused number) = IsSome (refusal_words number)
 HasLine _ = Unit {0}

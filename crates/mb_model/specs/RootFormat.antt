@@ -1,5 +1,5 @@
--- How the root record is spelled, in which a device keeps its own key and the work that is still to be done. What does
--- it know when power comes back?
+-- How the root record is spelled, where a device keeps its own key and its pending work. What does a device know when
+-- power comes back?
 use Rattle.std.specs.Prelude.{ℕ, List, [], ◌∷◌, Option, Some, None}
 use Rattle.std.specs.Int.{w8, w32}
 use Rattle.mb_format.specs.Format.{Format}
@@ -51,7 +51,7 @@ abbrev pub key_added_by : Fate → Option RegionKey
 key_added_by (AddKey key) = Some key
 key_added_by _ = None
 
--- the key that is added stands after its tag
+-- what follows a fate's tag: the key that is added, if one is
 abbrev pub fate_by : FateTag → Format Fate
 fate_by keep_tag = nothing Keep
 fate_by empty_tag = nothing Empty
@@ -61,7 +61,7 @@ fate_by add_tag = as_value region_key_format AddKey key_added_by
 unfoldable pub fate_format : Format Fate
 fate_format = led (table w8 fate_rows fate_byte) fate_tag fate_by
 
--- pending work: how many entries are unsigned, the outgoing key where there is one, what becomes of regions 2 and 3
+-- pending work: how many entries are unsigned, the outgoing key if there is one, what becomes of regions 2 and 3
 unfoldable pub pending_format : Format Pending
 pending_format = as_record (pair (between w8 1 2) (pair (optional outgoing_format) (pair fate_format fate_format)))
     (λ (unsigned, (outgoing, (two, three))). record {
@@ -74,8 +74,8 @@ pending_format = as_record (pair (between w8 1 2) (pair (optional outgoing_forma
 
 -- ---- the record
 
--- The root record: its version, the flash area in force, the serial, the device key and its uses, and the pending work
--- where there is some.
+-- The root record: its version, the current flash area, the serial, the device key and its uses, and the pending work
+-- if there is any.
 unfoldable pub root_format : Format Root
 root_format = then_value (mark (1 ∷ [])) (as_record
     (pair (between w8 0 1)  -- area

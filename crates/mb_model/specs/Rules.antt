@@ -19,7 +19,8 @@ use Rattle.mb_model.specs.declared.order.Act.TheVariants as act
 use Rattle.mb_model.specs.declared.order.Target.{Target}
 use Rattle.mb_model.specs.declared.order.Target.TheVariants as target
 use Rattle.mb_model.specs.Key.{key_bytes}
-use Rattle.mb_model.specs.Layers.{trust_for, layer_without_owner, layer_of, is_owned, is_layer_number, is_upper, is_in, is_runnable}
+use Rattle.mb_model.specs.Layers.{trust_for, layer_without_owner, layer_of, is_owned, is_layer_number, is_upper}
+use Rattle.mb_model.specs.Layers.{is_in, is_runnable}
 
 -- ---- kinds of orders
 
@@ -31,7 +32,7 @@ kind_of (act.Load payload) = kind.Load
 kind_of (act.Emergency payload) = kind.Emergency
 kind_of (act.NewKey key_kind) = kind.NewKey
 
--- the change that an order of this kind makes: none where it makes a new key
+-- the change that an order of this kind makes: none if it makes a new key
 abbrev pub change_of : OrderKind → Option ChangeKind
 change_of kind.Establish = Some Establish
 change_of kind.Surrender = Some Surrender
@@ -39,7 +40,7 @@ change_of kind.Load = Some Load
 change_of kind.Emergency = Some Emergency
 change_of kind.NewKey = None
 
--- the lowest layer that an order of this kind may be for: layer 1 takes its own loads alone
+-- the lowest layer that an order of this kind may be for: layer 1 takes ordinary loads alone
 abbrev pub least_layer : OrderKind → ℕ
 least_layer kind.Establish = 2
 least_layer kind.Surrender = 2
@@ -51,7 +52,7 @@ least_layer kind.NewKey = 2
 abbrev pub MayBeFor : OrderKind → ℕ → Type 0
 MayBeFor order layer = (least_layer order ≤ layer) × (layer ≤ 3)
 
--- the order, where it makes a change, puts code in place
+-- the order is a load, ordinary or emergency
 abbrev pub is_load : Option ChangeKind → Bool
 is_load (Some Establish) = false
 is_load (Some Surrender) = false
@@ -59,7 +60,7 @@ is_load (Some Load) = true
 is_load (Some Emergency) = true
 is_load None = false
 
--- the layer's own owner puts code in place
+-- the order is an ordinary load, by the layer's own owner
 abbrev pub is_own_load : Option ChangeKind → Bool
 is_own_load (Some Establish) = false
 is_own_load (Some Surrender) = false
@@ -73,8 +74,8 @@ renews change changed = is_own_load change && changed == 1
 
 -- ---- who may give an order, and when: by the change that it makes, or None for an order that makes a new key
 
--- Who has to sign an order for a layer: the owner of this layer. An owner is established, and code is loaded in an
--- emergency, from beneath; all else is up to the layer's own owner.
+-- The layer whose owner has to sign an order for a layer. The owner of the layer beneath establishes an owner and loads
+-- code in an emergency; all else is up to the layer's own owner.
 abbrev pub signing_layer : Option ChangeKind → ℕ → ℕ
 signing_layer (Some Establish) layer = layer - 1
 signing_layer (Some Surrender) layer = layer
@@ -82,11 +83,11 @@ signing_layer (Some Load) layer = layer
 signing_layer (Some Emergency) layer = layer - 1
 signing_layer None layer = layer
 
--- the key under which an order for a layer has to verify: none where the layer in charge is unowned
+-- the key under which an order for a layer has to verify: none if the layer in charge is unowned
 abbrev pub authority : Layers → Option ChangeKind → ℕ → Option PublicKey
 authority layers kind layer = (layer_of layers (signing_layer kind layer)).owner
 
--- how the layers have to stand for an order for a layer
+-- whether the layers stand as an order for a layer requires
 abbrev pub stands_for_order : Layers → Option ChangeKind → ℕ → Bool
 stands_for_order layers (Some Establish) layer =
     is_upper layer && not (is_owned layers layer) && is_owned layers (layer - 1)
@@ -99,8 +100,8 @@ stands_for_order layers None layer = is_upper layer && is_runnable layers layer
 abbrev pub Condition : Layers → Option ChangeKind → ℕ → Type 0
 Condition layers kind layer = IsTrue (stands_for_order layers kind layer)
 
--- A target holds of a device with this serial and these layers, whose log has this length. One on a layer without an
--- owner, or without code, does not.
+-- A target holds for a device with this serial and these layers, whose log has this length. A target for the owner or
+-- the code of a layer does not hold if the layer has none.
 abbrev pub TargetHolds : List ℕ → Layers → ℕ → Target → Type 0
 TargetHolds serial layers length (target.Serial named) = named ≡ serial
 TargetHolds serial layers length (target.Length named) = named ≡ length
@@ -109,7 +110,7 @@ TargetHolds serial layers length (target.Owner layer hash) =
 TargetHolds serial layers length (target.Code layer hash) =
     IsSomeAnd (layer_of layers layer).code (λ code. hash ≡ code.hash)
 
--- the item at this place of a list, from 0, is the first of which `Holds` does not hold
+-- the item at this index of a list, from 0, is the first for which `Holds` does not hold
 pub record IsFirstFailing {A : Type 0} (Holds : A → Type 0) (items : List A) (place : ℕ) (item : A) : Type 0 where
   pub before : List A
   pub rest : List A
@@ -120,14 +121,14 @@ pub record IsFirstFailing {A : Type 0} (Holds : A → Type 0) (items : List A) (
 
 -- ---- what is left after a change
 
--- a layer with this trust goes along with a load beneath it, which its owner has or has not countersigned
+-- a layer with this trust goes along with a load beneath it, given whether its owner has countersigned the load
 abbrev pub lets_load_in : Trust → Bool → Bool
 lets_load_in Always cosigned = true
 lets_load_in Never cosigned = false
 lets_load_in Countersigned cosigned = cosigned
 
--- A layer admits a change of itself or of one beneath it: its own ordinary load, and each load beneath it
--- that it trusts. The layers are those before the change.
+-- A layer admits a change of itself or of one beneath it: its own ordinary load, and each load beneath it that its
+-- trust lets in. The layers are those before the change.
 abbrev pub admits : Layers → ChangeKind → ℕ → Pair → ℕ → Bool
 admits layers kind changed cosigned layer =
     if layer == changed then is_own_load (Some kind)
@@ -136,7 +137,7 @@ admits layers kind changed cosigned layer =
 abbrev pub Admits : Layers → ChangeKind → ℕ → Pair → ℕ → Type 0
 Admits layers kind changed cosigned layer = IsTrue (admits layers kind changed cosigned layer)
 
--- a layer's region is kept over a change: the change is above it, or its layer admits it
+-- a layer's region is kept over a change: the change is above the layer, or the layer admits it
 abbrev pub is_kept : Layers → ChangeKind → ℕ → Pair → ℕ → Bool
 is_kept layers kind changed cosigned layer = nat_lt layer changed || admits layers kind changed cosigned layer
 
@@ -145,7 +146,7 @@ abbrev pub kept_regions : Layers → ChangeKind → ℕ → Pair → Pair
 kept_regions layers kind changed cosigned =
     record { two = is_kept layers kind changed cosigned 2; three = is_kept layers kind changed cosigned 3 }
 
--- a layer may countersign a change: the change is a load, and the layer has an owner and stands above it
+-- a layer may countersign a change: the change is a load, and the layer has an owner and stands above the loaded one
 abbrev pub may_cosign : Layers → ChangeKind → ℕ → ℕ → Bool
 may_cosign layers kind changed cosigner = is_load (Some kind) && nat_lt changed cosigner && is_owned layers cosigner
 
@@ -167,14 +168,15 @@ layer_from_order old (act.Load payload) = loaded_layer old payload
 layer_from_order old (act.Emergency payload) = loaded_layer old payload
 layer_from_order old (act.NewKey key_kind) = old
 
--- what a change of a kind can put in place of its layer: some order of the kind does, with code of this name
+-- what a change of this kind can put in place of its layer: what some order of the kind puts there, with code of this
+-- name
 abbrev pub CanPlace : ChangeKind → Layer → Layer → Type 0
 CanPlace Establish old new = IsSome new.owner × (new.code ≡ None) × (new.reliable ≡ false)
 CanPlace Surrender old new = new ≡ layer_without_owner
 CanPlace Load old new = (new.owner ≡ old.owner) × IsSome new.code × (new.reliable ≡ true)
 CanPlace Emergency old new = (new.owner ≡ old.owner) × IsSome new.code × (new.reliable ≡ true)
 
--- a layer after a change of one that puts `new` there: a layer above stays reliable only where it admits the change
+-- a layer after a change that puts `new` in place of one: a layer above stays reliable only if it admits the change
 abbrev pub layer_after : Layers → ChangeKind → ℕ → Pair → Layer → ℕ → Layer
 layer_after layers kind changed cosigned new layer =
     if layer == changed then new
@@ -183,7 +185,7 @@ layer_after layers kind changed cosigned new layer =
       reliable = (layer_of layers layer).reliable && admits layers kind changed cosigned layer;
     }
 
--- the layers after a change of one that puts `new` there
+-- the layers after a change that puts `new` in place of one
 unfoldable pub after : Layers → ChangeKind → ℕ → Pair → Layer → Layers
 after layers kind changed cosigned new = record {
   one = layer_after layers kind changed cosigned new 1;

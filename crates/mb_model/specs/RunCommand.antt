@@ -1,4 +1,4 @@
--- What the command `run` does. Do the answers and the new image tell of one and the same run?
+-- What the command `run` does. Do the replies and the new image come from one and the same run?
 use Rattle.std.specs.Prelude.{◌≡◌, ◌≢◌, ◌⊎◌, ℕ, List, map, Option}
 use Rattle.mb_model.specs.declared.event.Event.{Event}
 use Rattle.mb_model.specs.declared.event.Answered.{Answered}
@@ -21,7 +21,7 @@ pub record RunNames : Type 0 where
   pub noise : List ℕ
 
 -- The events were answered, all and in order, by a run of the machine from the device's state. What the board held at
--- the last answer shows the world to which that run led.
+-- the last answer shows the world in which that run ended.
 pub record IsServed
     (first : Option State)
     (events : List Event)
@@ -35,7 +35,8 @@ pub record IsServed
   -- No secret lies in battery-backed memory but those of the state, while power is on, and also while it is off if no
   -- power loss has stopped the device since it last booted or was tampered with.
   pub clean : (final.phase ≢ off) ⊎ AreWiping answered → Clean final.memory.bbram last.state
-  -- each secret and key of the state was admitted by its layer at each change since it came into its region
+  -- since each secret and key of the state came into its region, its layer has admitted each change of itself or
+  -- beneath it
   pub kept : KeptRightly last.state
   pub sound : IsSoundRun (opening_world first) answered last run
   pub accepted : StatementsStayAccepted (opening_world first) answered last run

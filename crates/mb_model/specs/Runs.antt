@@ -1,5 +1,5 @@
 -- What can be relied on over a whole run of the machine, whatever power does. Does a device ever take back what its log
--- tells, or does a key sign twice with one index?
+-- says, or does a key sign twice with one index?
 use Rattle.std.specs.Prelude.{◌≡◌, ℕ, ◌<◌, ◌≤◌, IsTrue, List, [], ◌∷◌, ◌++◌, length, All, AllPairs, Any, Contains}
 use Rattle.std.specs.Prelude.{Option, None, Some, IsSome}
 use Rattle.mb_format.specs.Format.{Spells}
@@ -32,11 +32,11 @@ worlds_of world (this ∷ rest) next run = world ∷ worlds_of run.0 rest next r
 
 -- ---- the log
 
--- the later log has the earlier one as its beginning
+-- the earlier log is a prefix of the later one
 abbrev pub BeginsWith : List SignedEntry → List SignedEntry → Type 0
 BeginsWith later earlier = (more : List SignedEntry) × (later ≡ earlier ++ more)
 
--- a live state of the second world comes of a live state of the first, whose log is the beginning of its own
+-- if the second world has a live state, then so has the first, and the log of the first is a prefix of the second's
 abbrev pub LogGoesOn : World → World → Type 0
 LogGoesOn first second =
     (later : State) → second.state ≡ Some later
@@ -48,8 +48,8 @@ LogGoesOn first second =
 abbrev pub NamesDevice : SignedEntry → Type 0
 NamesDevice signed = IsSome (device_in signed.entry)
 
--- An entry of a log has a device key in charge: that of another entry before it, which no entry between them replaces.
--- These are the entries before the one that names the key, this entry, those between, and the entry itself.
+-- The device key in charge of `signed`, an entry of a log, is the one that an earlier entry, `namer`, names: none of
+-- the entries between the two names a device key. `front` are the entries before `namer`.
 pub record HasInCharge
     (log front : List SignedEntry)
     (namer : SignedEntry)
@@ -60,8 +60,7 @@ pub record HasInCharge
   pub names : NamesDevice namer
   pub none : All (λ other. device_in other.entry ≡ None) between
 
--- Two entries, one after the other, that have the key of one and the same entry in charge have different indices: the
--- later has the higher.
+-- Of two entries that have the key of one and the same entry in charge, the later has the higher index.
 abbrev pub SignsEntriesOnce : List SignedEntry → Type 0
 SignsEntriesOnce log =
     (front : List SignedEntry) (namer : SignedEntry) (sooner later : List SignedEntry)
@@ -71,11 +70,11 @@ SignsEntriesOnce log =
 
 -- ---- the keys of regions
 
--- the event was answered by a statement of the key with this number, signed at this index
+-- the event was answered with a statement of the key with this number, signed at this index
 abbrev pub IsSignedAt : ℕ → ℕ → Answered → Type 0
 IsSignedAt key_number index answered = (statement : List ℕ) × (answered.reply ≡ reply.Signed key_number index statement)
 
--- Of two statements of one key, the later has the higher index. So no two have one.
+-- Of two statements of one key, the later has the higher index, so no two have the same index.
 abbrev pub SignsStatementsOnce : List Answered → Type 0
 SignsStatementsOnce answered =
     AllPairs (λ sooner later. (key_number sooner_index later_index : ℕ) → IsSignedAt key_number sooner_index sooner
@@ -87,8 +86,8 @@ SignsAfterUses state answered =
     (live : State) (layer : ℕ) (key : RegionKey) → state ≡ Some live → Contains (region_of live layer).keys key
     → All (λ each. (index : ℕ) → IsSignedAt key.number index each → key.uses ≤ index) answered
 
--- A key of a layer stands in its region exactly where it is alive by the log. The last of the configurations in which
--- it lived has the layers that stand now.
+-- A key of a layer is in its region exactly if it is alive according to the log. The last of the configurations in
+-- which such a key lived has the current layers.
 pub record HoldsLivingKeys (live : State) (layer : ℕ) : Type 0 where
   pub alive : (key : RegionKey)
       → Contains (region_of live layer).keys key
@@ -103,8 +102,8 @@ pub record HoldsLivingKeys (live : State) (layer : ℕ) : Type 0 where
 
 -- ---- statements
 
--- The bytes spell a statement. Attached to the log it makes a chain that has a spelling, and that is accepted for the
--- key with this number.
+-- The bytes spell a statement. Attached to the log, it makes a chain that has a spelling and is accepted for the key
+-- with this number.
 pub record StaysAccepted (maker : PublicKey) (log : List SignedEntry) (key_number : ℕ) (bytes : List ℕ) : Type 0 where
   pub statement : Statement
   pub spelled : Spells statement_format bytes statement
@@ -113,13 +112,13 @@ pub record StaysAccepted (maker : PublicKey) (log : List SignedEntry) (key_numbe
   pub report : Report
   pub accepted : Accepts maker chain key_number report
 
--- in this world they are, wherever the maker signed the device's birth
+-- if the device of this world is alive and the maker signed its birth, the bytes stay accepted with its log
 abbrev pub IsAcceptedIn : ℕ → List ℕ → World → Type 0
 IsAcceptedIn key_number bytes world =
     (maker : PublicKey) (live : State) → world.state ≡ Some live → IsBornOf maker live.log
     → StaysAccepted maker live.log key_number bytes
 
--- each statement that a run answers is accepted with the log of each live state from then on
+-- each statement that is answered in a run is accepted with the log of each live state from then on
 abbrev pub StatementsStayAccepted :
     (world : World) (answered : List Answered) (next : World) → Run world answered next → Type 0
 StatementsStayAccepted world [] next run = Unit {0}
@@ -130,15 +129,15 @@ StatementsStayAccepted world (this ∷ rest) next run =
 
 -- ---- a history
 
--- A state that a device can have, whose regions hold the keys that are alive, and in whose log no two entries between
--- which the device key in charge stays the same have one index.
+-- A sound world: its state is one that a device can have, the regions hold exactly the living keys, and no two entries
+-- of the log with one and the same device key in charge have the same index.
 pub record IsSoundWorld (world : World) : Type 0 where
   pub valid : Valid world.state
   pub keys : (live : State) (layer : ℕ) → world.state ≡ Some live → IsTrue (is_upper layer) → HoldsLivingKeys live layer
   pub once : (live : State) → world.state ≡ Some live → SignsEntriesOnce live.log
 
--- What a run tells, whatever its events: each of its worlds is sound, each log begins each later one, and of two
--- statements for one key number the later has the higher index, which is not below the uses that a key with this number
+-- A sound run, whatever its events: each of its worlds is sound, each log is a prefix of each later one, and of two
+-- statements for one key number the later has the higher index. No statement has an index below the uses that its key
 -- had before the run.
 pub record IsSoundRun
     (world : World)

@@ -1,5 +1,4 @@
--- Which events a script stands for, and which draw each command gets. Does a script say all that happens, and nothing
--- else?
+-- Which events a script means, and which draw each command gets. Does a script say all that happens, and nothing else?
 use Rattle.std.specs.Prelude.{◌≡◌, ℕ, ◌*◌, ◌-◌, ◌<◌, ◌≤◌, ◌==◌, ◌⊎◌, Bool, true, false, not, List, [], ◌∷◌, ◌++◌}
 use Rattle.std.specs.Prelude.{length, map, replicate, codes, All, filter, count_by, IsTrue}
 use Rattle.std.specs.List.{AllZip}
@@ -26,8 +25,8 @@ pub record IsName (name : List ℕ) : Type 0 where
 abbrev pub FitsMessage : List ℕ → Type 0
 FitsMessage bytes = length bytes ≤ MESSAGE_LIMIT
 
--- The tear that keeps so many bytes and fills with these, at most 16. They stand first in its field of 16 bytes, and
--- zeros after them.
+-- The tear that keeps `keep` bytes and fills with the bytes `fill`, at most 16. They come first in its field of 16
+-- bytes, and zeros after them.
 abbrev pub tear_of : ℕ → List ℕ → Tear
 tear_of keep fill = record {
   keep = keep;
@@ -49,7 +48,7 @@ pub record IsCut (count : ℕ) (tear : Tear) (fill : List ℕ) : Type 0 where
   pub torn : IsTear tear fill
 
 -- An event that a line of a script can give, by the lengths and numbers that its words may have, with any draw of 32
--- bytes. The bytes of a command are any.
+-- bytes. The bytes of a command are arbitrary.
 abbrev pub IsScriptEvent : Event → Type 0
 IsScriptEvent event.Boot = Unit {0}
 IsScriptEvent event.Off = Unit {0}
@@ -65,7 +64,7 @@ IsScriptEvent (event.Sign region key message) = IsTrue (is_upper region) × (key
 
 -- ---- lines
 
--- how many bytes of the write are kept: said, or left out where it is none
+-- how many bytes of the write are kept: given, or left out if none are
 abbrev pub IsKept : List (List ℕ) → ℕ → Type 0
 IsKept words keep = (words ≡ codes "keep" ∷ decimal keep ∷ []) ⊎ ((words ≡ []) × (keep ≡ 0))
 
@@ -79,11 +78,11 @@ pub record IsCutLine (line : List ℕ) (count : ℕ) (tear : Tear) : Type 0 wher
   pub allowed : IsCut count tear fill
   pub spelled : line ≡ spaced_words (codes "cut" ∷ decimal count ∷ kept_words ++ codes "fill" ∷ fill_word ∷ [])
 
--- some word in hexadecimal stands for the bytes, and the line is these words with it at the end
+-- some word in hexadecimal means the bytes, and the line is these words and then that one
 abbrev pub EndsInHex : List ℕ → List (List ℕ) → List ℕ → Type 0
 EndsInHex line words bytes = (word : List ℕ) × IsHex word bytes × (line ≡ spaced_words (words ++ word ∷ []))
 
--- A line says an event. The draw of a command, which its noise gives later, is all zeros.
+-- A line means an event. The draw of a command is all zeros here; the noise gives it later.
 abbrev pub SaysEvent : List ℕ → Event → Type 0
 SaysEvent line event.Boot = line ≡ codes "boot"
 SaysEvent line event.Off = line ≡ codes "off"
@@ -108,7 +107,7 @@ abbrev pub is_skipped : List ℕ → Bool
 is_skipped [] = true
 is_skipped (byte ∷ rest) = byte == 35
 
--- The lines of a script stand for these events: one for each line that is not skipped, in order, at most 65,536.
+-- The lines of a script mean these events: one for each line that is not skipped, in order, at most 65,536.
 pub record IsScript (lines : List (List ℕ)) (events : List Event) : Type 0 where
   pub said : AllZip SaysEvent (filter (λ line. not (is_skipped line)) lines) events
   pub most : length events ≤ EVENT_LIMIT

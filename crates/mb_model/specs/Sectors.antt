@@ -2,7 +2,7 @@
 use Rattle.std.specs.Prelude.{ℕ, ◌+◌, ◌-◌, ◌*◌, List}
 use Rattle.mb_format.specs.Format.{Format, SpelledAt}
 
--- the sector of a header area, of which there are two, 0 and 1
+-- the sector of a header area; there are two, 0 and 1
 abbrev pub header_sector : ℕ → ℕ
 header_sector area = area
 

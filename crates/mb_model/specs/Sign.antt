@@ -24,11 +24,11 @@ pub record CountersignNames : Type 0 where
   pub order : List ℕ
   pub out : List ℕ
 
--- the line that tells an index
+-- the line that reports an index
 abbrev pub index_text : ℕ → List ℕ
 index_text index = line_with_lf (codes "index " ++ decimal index)
 
--- the key is written with one index more used, then the order that was signed with it, and the index is told
+-- the key is written with one more index used, then the order that was signed with it, and the index is printed
 unfoldable pub use_index : List ℕ → List ℕ → Keyfile → Order → Command
 use_index key_name out_name key order =
     write (record { role = role.Key; name = key_name; bytes = keyfile_format.spelling (keyfile_after_use key) })
@@ -47,7 +47,7 @@ sign_draft names key = read (draft_input names.draft) (λ order.
 unfoldable pub sign : SignNames → Command
 sign names = read (key_input names.key) (sign_draft names)
 
--- the key countersigns as the owner of a layer, unless the order cannot take that
+-- the key countersigns as the owner of a layer, if the order is countersignable for that layer
 abbrev pub countersign_by : CountersignNames → Keyfile → Order → Command
 countersign_by names key order =
     either_command (IsCountersignable order names.layer → ⊥) (refuse (codes "not countersignable"))

@@ -10,7 +10,7 @@ use Rattle.mb_model.specs.OrderChecks.{change_by}
 use Rattle.mb_model.specs.SignedTexts.{order_text, countersigned_text}
 use Rattle.mb_model.specs.Signing.{signature_of}
 
--- the key with one index more used
+-- the key with one more index used
 abbrev pub keyfile_after_use : Keyfile → Keyfile
 keyfile_after_use keyfile = record { seed = keyfile.seed; next = keyfile.next + 1 }
 
@@ -26,7 +26,7 @@ abbrev pub with_countersignature : Countersignature → List Countersignature �
 with_countersignature new list =
     filter (λ other. nat_lt other.layer new.layer) list ++ new ∷ filter (λ other. nat_lt new.layer other.layer) list
 
--- what the owner of the layer `cosigner` signs of the order, by the key, at the key's next index
+-- the countersignature of the order for the layer `cosigner`, by the key, at the key's next index
 abbrev pub countersignature_of : Keyfile → ℕ → Order → Countersignature
 countersignature_of keyfile cosigner order =
     record {
@@ -34,14 +34,14 @@ countersignature_of keyfile cosigner order =
       signature = signature_of keyfile.seed keyfile.next (countersigned_text cosigner (order_body order));
     }
 
--- the order with that countersignature
+-- the order with the key's countersignature for the layer `cosigner`
 abbrev pub countersigned_order : Keyfile → ℕ → Order → Order
 countersigned_order keyfile cosigner order = record order {
   countersignatures = with_countersignature (countersignature_of keyfile cosigner order) order.countersignatures;
 }
 
--- The owner of this layer may countersign the order: it is a load of a lower layer, and that owner's countersignature
--- is not there.
+-- The owner of this layer may countersign the order: it is a load of a lower layer, and has no countersignature for
+-- this layer yet.
 pub record IsCountersignable (order : Order) (layer : ℕ) : Type 0 where
   pub load : IsTrue (is_load (change_by order))
   pub above : order.layer < layer

@@ -7,11 +7,11 @@ use Rattle.mb_model.specs.declared.entry.Entry.{Entry}
 use Rattle.mb_model.specs.EntryFormat.{entry_format}
 use Rattle.mb_model.specs.Merkle.{Verifies}
 
--- what the owner in charge signs of an order: its body, the part before its signatures
+-- what the owner in charge signs of an order: a domain separator and the body, the part before the signatures
 unfoldable pub order_text : List ℕ → List ℕ
 order_text body = ORDER_TEXT ∷ body
 
--- what the owner of a layer above the order's signs of it
+-- what the owner of a layer above signs of an order: a domain separator, the number of that layer, and the body
 unfoldable pub countersigned_text : ℕ → List ℕ → List ℕ
 countersigned_text cosigner body = COUNTERSIGNED_TEXT ∷ cosigner ∷ body
 

@@ -1,5 +1,5 @@
--- Signing by a key of types 5 and 3, all of whose values are made of its seed (RFC 8554, sections 4, 5 and appendix A).
--- Which bytes are the one signature of a text at an index?
+-- Signing with a key of types 5 and 3, all of whose values are derived from its seed (RFC 8554, sections 4, 5 and
+-- appendix A). Which bytes are the one signature of a text at an index?
 use Rattle.std.specs.Prelude.{ℕ, zero, suc, ◌+◌, ◌-◌, ◌*◌, ◌/◌, ◌%◌, ◌^◌, ◌==◌, nat_lt, List, [], ◌∷◌, ◌++◌}
 use Rattle.std.specs.Prelude.{if◌then◌else◌}
 use Rattle.std.specs.Int.{w16, w32, to_be_bytes}
@@ -12,12 +12,12 @@ use Rattle.mb_model.specs.Key.{tree_type, chains_type, height, chain_count, digi
 use Rattle.mb_model.specs.Winternitz.{coef, digits_of, message_hash, value_after_steps, one_time_key_mark}
 use Rattle.mb_model.specs.Merkle.{leaf_node, inner_node}
 
--- the value that a leaf has of the seed for a chain, 0 to 66: x_q[i] for the leaf q and the chain i (appendix A)
+-- x_q[i]: the private value of the leaf q for the chain i, 0 to 66, derived from the seed (appendix A)
 unfoldable pub private_value : KeySeed → ℕ → ℕ → List ℕ
 private_value key leaf chain =
     sha256 (key.identifier ++ to_be_bytes w32 leaf ++ to_be_bytes w16 chain ++ 0xff ∷ key.seed)
 
--- C: the randomizer of a leaf is made as a private value is, with a number that no chain has
+-- C: the randomizer of a leaf, derived as a private value is, with a number that no chain has
 unfoldable pub randomizer_of : KeySeed → ℕ → List ℕ
 randomizer_of key leaf = private_value key leaf 0xfffd
 
@@ -33,8 +33,7 @@ unfoldable pub one_time_public : KeySeed → ℕ → List ℕ
 one_time_public key leaf =
     sha256 (key.identifier ++ to_be_bytes w32 leaf ++ one_time_key_mark ++ public_ends key leaf (chain_count W4))
 
--- a node on this level above the leaves: the leaf of its one-time key, or the hash of the two nodes under it
--- (5.3)
+-- a node on this level above the leaves: the leaf of its one-time key, or the hash of the two nodes under it (5.3)
 unfoldable pub node_above : KeySeed → ℕ → ℕ → List ℕ
 node_above key zero node = leaf_node key.identifier node (one_time_public key (node - 32))
 node_above key (suc level) node =
@@ -58,8 +57,7 @@ node_of key node = node_above key (levels_above node) node
 unfoldable pub public_of : KeySeed → PublicKey
 public_of key = record { tree = H5; chains = W4; identifier = key.identifier; root = node_of key 1 }
 
--- y[0] to y[count - 1]: the values of a leaf's first chains, each taken through as many steps as its digit says
--- (4.5)
+-- y[0] to y[count - 1]: the values of a leaf's first chains, each taken through as many steps as its digit says (4.5)
 unfoldable pub signed_values : KeySeed → ℕ → List ℕ → ℕ → List ℕ
 signed_values key leaf digits zero = []
 signed_values key leaf digits (suc count) =
@@ -71,7 +69,7 @@ signed_values key leaf digits (suc count) =
 unfoldable pub signed_digits : KeySeed → ℕ → List ℕ → List ℕ
 signed_digits key leaf text = digits_of W4 (message_hash key.identifier leaf (randomizer_of key leaf) text)
 
--- the other node under the same parent: the right one beside an even number, the left one beside an odd
+-- the other node under the same parent: the right one beside an even number, the left one beside an odd one
 abbrev pub sibling : ℕ → ℕ
 sibling node = if node % 2 == 0 then node + 1 else node - 1
 

@@ -1,4 +1,4 @@
--- When a state is one that a device can have. Does a device hold what its log tells, and nothing else?
+-- When a state is one that a device can have. Does a device hold what its log says, and nothing else?
 use Rattle.std.specs.Prelude.{◌≡◌, ◌≢◌, ℕ, ◌≤◌, false, List, ◌∷◌, ◌++◌, length, map}
 use Rattle.std.specs.Prelude.{All, AllPairs, Option, None, Some}
 use Rattle.sha2.specs.Sha256.{sha256}
@@ -21,7 +21,7 @@ use Rattle.mb_model.specs.Regions.{empty_region, RegionKeptRightly}
 use Rattle.mb_model.specs.Signing.{public_of}
 use Rattle.mb_model.specs.SignedTexts.{entry_text, IsSignedBy}
 
--- An entry follows from a log with these figures. Whether the birth is the factory's, the device cannot tell.
+-- An entry follows from a log with these figures. Whether the maker signed the birth, the device cannot know.
 pub record Follows (before : Figures) (signed : SignedEntry) : Type 0 where
   pub ruled : Ruled before signed.entry
   pub in_order : before.length ≢ 0 → Ordered before signed.entry (leaf_number signed.signature)
@@ -33,7 +33,7 @@ EachFollows log =
     (before : List SignedEntry) (signed : SignedEntry) (rest : List SignedEntry) → log ≡ before ++ signed ∷ rest
     → Follows (figures_of (entries_of before)) signed
 
--- code is there exactly where it has a name, and the name's hash is that of the code
+-- code is there exactly if it has a name, and the name's hash is that of the code
 abbrev pub IsNamed : Option CodeName → Option (List ℕ) → Type 0
 IsNamed None None = Unit {0}
 IsNamed (Some name) (Some code) = name.hash ≡ sha256 code
@@ -49,7 +49,7 @@ pub record AreNamed (layers : Layers) (codes : Codes) : Type 0 where
 abbrev pub as_made : RegionKey → MadeKey
 as_made key = record { number = key.number; kind = key.kind; key = public_of key.seed }
 
--- a region that a layer can have by a log, the layers being these
+-- a region that a layer can have with this log and these layers
 pub record IsValidRegion (log : List Entry) (layers : Layers) (layer : ℕ) (region : Region) : Type 0 where
   pub empty : (layer_of layers layer).reliable ≡ false → region ≡ empty_region
   pub names : AllPairs (λ one other. one.name ≢ other.name) region.secrets

@@ -10,13 +10,13 @@ use Rattle.mb_model.specs.Acceptance.{Verdict, chain_acceptance, chain_rejection
 use Rattle.mb_model.specs.Commands.{Command, read, find, print, refuse}
 use Rattle.mb_model.specs.Inputs.{root_input, chain_bytes_input}
 
--- the names of the files, and the number of the key that is asked for
+-- the names of the files, and the number of the key to report on
 pub record VerifyNames : Type 0 where
   pub root : List ℕ
   pub chain : List ℕ
   pub key : ℕ
 
--- where the chain is wrong: the offset at which its form fails, or the entry
+-- where the chain is wrong: the offset at which its form fails, or the index of the entry
 abbrev pub refusal_place_words : ChainRefusal → List ℕ
 refusal_place_words (bad_form offset) = codes " " ++ decimal offset
 refusal_place_words (bad_signature index) = codes " " ++ decimal index
@@ -24,7 +24,7 @@ refusal_place_words (bad_order index) = codes " " ++ decimal index
 refusal_place_words (breaks_rules index) = codes " " ++ decimal index
 refusal_place_words _ = []
 
--- the line that tells why a chain is not accepted
+-- the line that says why a chain is not accepted
 abbrev pub chain_refusal_line : ChainRefusal → List ℕ
 chain_refusal_line why = codes "refused " ++ decimal (refusal_code why) ++ refusal_place_words why
 
@@ -39,6 +39,6 @@ verify_chain names maker bytes = find (IsVerdict maker bytes names.key) (tell_ve
 abbrev pub verify_under : VerifyNames → PublicKey → Command
 verify_under names maker = read (chain_bytes_input names.chain) (verify_chain names maker)
 
--- the maker's public key and the chain are read, and the chain is judged
+-- the maker's public key and the chain are read, and the chain is verified
 unfoldable pub verify : VerifyNames → Command
 verify names = read (root_input names.root) (verify_under names)

@@ -6,7 +6,7 @@ use Rattle.sha2.specs.Sha256.{sha256}
 use Rattle.mb_model.specs.declared.key.Chains.{Chains}
 use Rattle.mb_model.specs.Key.{digit_bits, chain_count, checksum_shift}
 
--- D_MESG and D_PBLC, which keep the uses of the hash apart (7.1)
+-- D_MESG and D_PBLC, domain separators of the hash (7.1)
 abbrev pub message_mark : List ℕ
 message_mark = 0x81 ∷ 0x81 ∷ []
 
@@ -19,7 +19,7 @@ coef bytes number width =
     bit_and (2 ^ width - 1)
     (slice_index bytes (number * width / 8) / 2 ^ (8 - (width * (number % (8 / width)) + width)))
 
--- by how much the first digits, as many as `count` says, fall short of the greatest digit, in all
+-- how far the first digits, as many as `count` says, fall short of the greatest digit, in all
 unfoldable pub shortfall : List ℕ → ℕ → ℕ → ℕ
 shortfall bytes width zero = 0
 shortfall bytes width (suc count) = shortfall bytes width count + (2 ^ width - 1 - coef bytes count width)
@@ -41,18 +41,18 @@ message_hash id leaf randomizer text = sha256 (id ++ to_be_bytes w32 leaf ++ mes
 unfoldable pub chain_step : List ℕ → ℕ → ℕ → ℕ → List ℕ → List ℕ
 chain_step id leaf chain step value = sha256 (id ++ to_be_bytes w32 leaf ++ to_be_bytes w16 chain ++ step ∷ value)
 
--- a value taken through this count of steps of a chain, from step `first` on
+-- a value taken through this many steps of a chain, from step `first` on
 unfoldable pub value_after_count : List ℕ → ℕ → ℕ → ℕ → ℕ → List ℕ → List ℕ
 value_after_count id leaf chain first zero value = value
 value_after_count id leaf chain first (suc count) value =
     chain_step id leaf chain (first + count) (value_after_count id leaf chain first count value)
 
--- a value taken through the steps of a chain from `first` up to, and without, `end`; where `first` is not below `end`,
--- the value itself
+-- a value taken through the steps of a chain from `first` up to but not including `end`; the value itself if `first` is
+-- not below `end`
 abbrev pub value_after_steps : List ℕ → ℕ → ℕ → ℕ → ℕ → List ℕ → List ℕ
 value_after_steps id leaf chain first end value = value_after_count id leaf chain first (end - first) value
 
--- the value of 32 bytes with this number in a row of such values
+-- the value of 32 bytes with this number in a list of such values
 abbrev pub value_at : List ℕ → ℕ → List ℕ
 value_at values number = take 32 (drop (32 * number) values)
 

@@ -21,7 +21,7 @@ use Rattle.mb_model.specs.Fates.{change_fate, key_fate}
 
 -- ---- the entries and the keys
 
--- the figures after a succession
+-- the view of a state after a succession
 abbrev pub after_succession : View → List ℕ → View
 after_succession view draw = record view {
   length = view.length + 1;
@@ -30,11 +30,11 @@ after_succession view draw = record view {
   uses = 0;
 }
 
--- the figures with which the device key has an index for the fact's own entry
+-- the view with which the device key has an index for the fact's own entry
 abbrev pub ready_by : View → Bool → List ℕ → View
 ready_by view next draw = if succession_is_due view next then after_succession view draw else view
 
--- the entries before the fact's own
+-- the entries before the fact's own: a succession, if one is due
 abbrev pub first_by : View → Bool → List ℕ → List Entry
 first_by view next draw = if succession_is_due view next then succession_entry view draw ∷ [] else []
 
@@ -43,7 +43,8 @@ abbrev pub key_by : View → Fact → List ℕ → Option RegionKey
 key_by view (fact.Change kind layer cosigned layers kept) draw = None
 key_by view (fact.NewKey layer kind) draw = Some (key_made view kind draw)
 
--- the device key that gives way, by a succession or by the fact's own entry, with the index that it still signs with
+-- the device key that gives way, by a succession or by the fact's own entry; its uses include the index that it still
+-- signs with
 abbrev pub outgoing_by : View → Bool → Option Outgoing
 outgoing_by view next =
     if succession_is_due view next || next then Some (record { seed = view.device; uses = view.uses + 1 }) else None

@@ -1,4 +1,4 @@
--- The generated workload: an image, a script and its noise, all made of one number. Is any of it chosen by hand?
+-- The generated workload: an image, a script and its noise, all derived from one number. Is any of it chosen by hand?
 use Rattle.std.specs.Prelude.{◌≡◌, ℕ, ◌+◌, ◌*◌, ◌/◌, ◌%◌, ◌==◌, if◌then◌else◌}
 use Rattle.std.specs.Prelude.{List, [], ◌∷◌, ◌++◌, length, map, take, drop, replicate, codes, count_by, flat_map, zip}
 use Rattle.std.specs.List.{AllZip, concat}
@@ -29,16 +29,17 @@ use Rattle.mb_model.specs.Script.{with_before}
 -- ---- what is drawn
 
 -- The first words, as many as `count` says, of the generator ChaCha of 20 rounds. Its key is the number in four bytes,
--- the highest first, and 28 zeros.
+-- big-endian, and 28 zeros.
 unfoldable pub generator_words : ℕ → ℕ → List ℕ
 generator_words number count = first_words (next_word 10) count (of_seed (to_be_bytes w32 number ++ replicate 28 0))
 
--- these words are drawn for `size` bytes: each gives four, the highest first, and what the last has over is dropped
+-- these words are drawn for `size` bytes: each gives four, big-endian, and leftover bytes of the last word are dropped
 pub record DrawnBytes (size : ℕ) (words bytes : List ℕ) : Type 0 where
   pub count : length words ≡ (size + 3) / 4
   pub given : bytes ≡ take size (flat_map (to_be_bytes w32) words)
 
--- these words are drawn for bytes of a drawn number: the first word, and as many words as that number of bytes needs
+-- these words are drawn for bytes whose number is drawn too: the first word gives that number, and the others give the
+-- bytes
 pub record DrawnSized (size : ℕ → ℕ) (words bytes : List ℕ) : Type 0 where
   pub first : ℕ
   pub others : List ℕ
@@ -84,7 +85,7 @@ pub record Draws : Type 0 where
   pub rounds : List RoundDraws
   pub noise : List ℕ
 
--- these words are drawn for a workload of so many rounds, in this order
+-- these words are drawn for a workload of this many rounds, in this order
 pub record DrawnInOrder (words : List ℕ) (rounds : ℕ) (draws : Draws) : Type 0 where
   pub for_root : List ℕ
   pub for_one : List ℕ
@@ -127,7 +128,7 @@ pub record Plan : Type 0 where
 abbrev pub plan : ℕ → Act → List ℕ → Plan
 plan layer what countersigners = record { layer = layer; act = what; countersigners = countersigners }
 
--- what a load carries that lets the layer trust what is countersigned, whichever layer is changed
+-- what a load carries: a version, code, and the trust countersigned for every change beneath
 abbrev pub plan_payload : ℕ → List ℕ → Payload
 plan_payload version code = record { version = version; trust = equal_trusts Countersigned; code = code }
 
@@ -161,7 +162,7 @@ abbrev pub signatures_by : ℕ → List Plan → ℕ
 signatures_by officer orders =
     count_by (λ layer. layer == officer) (flat_map (λ order. signer order ∷ order.countersigners) orders)
 
--- The signature of an officer on an order that stands after these. No officer signs one order twice, so the next index
+-- The signature of an officer on an order that comes after these. No officer signs one order twice, so the next index
 -- of the key is the number of signatures that the officer gave for the orders before.
 abbrev pub signature_by : Draws → List Plan → ℕ → List ℕ → List ℕ
 signature_by draws before officer text = signature_of (key_of_officer draws officer) (signatures_by officer before) text
@@ -219,8 +220,8 @@ workload_lines draws =
 
 -- ---- the whole
 
--- The workload of a number and so many rounds: the words of the generator are drawn in order, none left out, and the
--- three files are made of what was drawn. The image is that of a new device.
+-- The workload of a number and this many rounds: the words of the generator are drawn in order, none left out, and the
+-- three files are made from what was drawn. The image is that of a new device.
 pub record IsWorkload (number rounds : ℕ) (workload : Workload) : Type 0 where
   pub words : List ℕ
   pub draws : Draws

@@ -1,5 +1,5 @@
--- A flash in segments that is written from nothing, for a device with these codes, this log and no pending work.
--- Which bytes does the factory write?
+-- A flash in segments that is written from scratch, for a device with these codes, this log and no pending work. Which
+-- bytes does the factory write?
 use Rattle.std.specs.Prelude.{ℕ, ◌*◌, ◌-◌, ◌≤◌, List, [], ◌∷◌, ◌++◌, length, All, IfSome, Option, None, Some}
 use Rattle.mb_model.specs.declared.limits.TheConstants.{SECTOR_LENGTH, CODE_LIMIT, ENTRY_LIMIT}
 use Rattle.mb_model.specs.declared.entry.SignedEntry.{SignedEntry}

@@ -1,4 +1,4 @@
--- The image of a device that is written from nothing, with no work pending. Which bytes does the factory write?
+-- The image of a device that is written from scratch, with no pending work. Which bytes does the factory write?
 use Rattle.std.specs.Prelude.{◌≡◌, ℕ, ◌-◌, List, [], ◌∷◌, ◌++◌, length, Option, None, Some}
 use Rattle.std.specs.Int.{w16, to_be_bytes}
 use Rattle.mb_model.specs.declared.limits.TheConstants.{AREA_LENGTH, BBRAM_LENGTH, FLASH_LENGTH, RECORD_LIMIT}
@@ -35,7 +35,7 @@ pub record FitsImage (state : State) : Type 0 where
   pub two : CanBeWritten state.two
   pub three : CanBeWritten state.three
 
--- An image was written from nothing, for a state that fits it.
+-- An image was written from scratch, for a state that fits it.
 pub record IsWrittenFor (state : State) (image : List ℕ) : Type 0 where
   pub fits : FitsImage state
   pub written : image ≡ written_image (Some state)

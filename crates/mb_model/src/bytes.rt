@@ -1,4 +1,4 @@
-//! A list of bytes that contracts see as a list.
+//! Bytes on the heap, which contracts see as a list.
 
 ghost use Rattle.std.specs.Prelude.{◌≡◌, List, ℕ, IfOk};
 
@@ -21,7 +21,7 @@ impl Model for Bytes {
 }
 
 impl Bytes {
-    /// A copy of the bytes. `NoMemory` where an allocation fails, of which no clause says when.
+    /// A copy of the bytes, or `NoMemory`.
     pub fn copy(alloc: Global, from: &[u8]) -> Result<Bytes, NoMemory>
         ensures { IfOk result (λ bytes. bytes ≡ from.now) }
     {
@@ -30,21 +30,21 @@ impl Bytes {
         })
     }
 
-    /// The same bytes; takes no memory.
+    /// The bytes of a vector; allocates nothing.
     pub fn from_vec(from: Vec<u8>) -> Bytes
         ensures { result ≡ from.items }
     {
         Bytes { bytes: from }
     }
 
-    /// The same bytes; takes no memory.
+    /// The bytes as a vector; allocates nothing.
     pub fn into_vec(self) -> Vec<u8>
         ensures { result.items ≡ self }
     {
         self.bytes
     }
 
-    /// The bytes themselves.
+    /// The bytes, as a slice.
     pub fn as_slice(&self) -> &[u8]
         ensures { result.now ≡ self.now }
     {

@@ -11,7 +11,7 @@ use crate::order::{ChangeKind, KeyKind};
 pub enum Entry {
     /// The device was made: its serial, its first device key, and its layers.
     Birth {
-        /// The version of its spelling: 1 spells one trust for each of its layers, 2 spells both.
+        /// The version of the entry's spelling: 1 spells one trust for each of its layers, 2 spells both.
         version: u8,
         serial: [u8; 16],
         key: PublicKey,
@@ -19,7 +19,7 @@ pub enum Entry {
     },
     /// A layer was changed.
     Change {
-        /// The version of its spelling: 1 spells one trust for each of its layers, 2 spells both.
+        /// The version of the entry's spelling: 1 spells one trust for each of its layers, 2 spells both.
         version: u8,
         /// How many entries stand before this one.
         position: u32,
@@ -34,7 +34,7 @@ pub enum Entry {
         layers: Layers,
         /// The regions that were kept.
         kept: Pair,
-        /// The next device key, where the change makes one.
+        /// The next device key, if the change makes one.
         next: Option<PublicKey>,
     },
     /// A key was made in a region.
@@ -43,14 +43,14 @@ pub enum Entry {
         position: u32,
         /// The configuration number.
         number: u32,
-        /// The number of the key in the row of all keys of the device.
+        /// The key's number among all keys of the device.
         key_number: u32,
         /// The region's layer, 2 or 3.
         layer: u8,
         kind: KeyKind,
         key: PublicKey,
     },
-    /// The device key that signed all it could gives way to the next.
+    /// The device key gives way to the next, and signs this entry with its last index.
     Succession {
         /// How many entries stand before this one.
         position: u32,
@@ -61,7 +61,7 @@ pub enum Entry {
 /// Entries in order.
 pub type Entries = Items<Entry>;
 
-/// An entry and the signature of a device key, or of the factory at the birth (RFC 8554, section 5.4).
+/// An entry and its signature: by the maker's key at the birth, by a device key otherwise (RFC 8554, section 5.4).
 #[derive(Clone, Copy, PartialEq, Eq)]
 pub struct SignedEntry {
     pub entry: Entry,
@@ -71,7 +71,7 @@ pub struct SignedEntry {
 /// The log of a device, at most 128 entries.
 pub type Log = Items<SignedEntry>;
 
-/// An entry as it is stored, where its signature may be missing yet.
+/// An entry as it is stored; its signature may still be missing.
 #[derive(Clone, Copy, PartialEq, Eq)]
 pub struct PublicEntry {
     pub entry: Entry,
@@ -92,7 +92,7 @@ pub struct Statement {
     pub signature: [u8; 2348],
 }
 
-/// A chain of certificates: the log of a device or the first entries of it, and maybe a statement.
+/// A chain of certificates: the log of a device or a prefix of it, and at most one statement.
 #[derive(Drop)]
 pub struct Chain {
     pub entries: Log,

@@ -1,4 +1,4 @@
-//! What happens to a device, and what it answered.
+//! What happens to a device, and what it answers.
 
 ghost use Rattle.std.specs.Prelude.{◌≡◌, IfOk};
 
@@ -35,7 +35,7 @@ pub enum Event {
         count: u32,
         tear: Tear,
     },
-    /// An owner's order as bytes, and the noise of which keys are made.
+    /// An owner's order as bytes, and the noise for the keys that it makes.
     Command {
         text: Bytes,
         draw: [u8; 32],
@@ -46,17 +46,17 @@ pub enum Event {
         name: Bytes,
         value: Bytes,
     },
-    /// Reads the secret of a name.
+    /// Reads the secret with this name.
     Get {
         region: u8,
         name: Bytes,
     },
-    /// Forgets the secret of a name.
+    /// Drops the secret with this name.
     Drop {
         region: u8,
         name: Bytes,
     },
-    /// Signs a message by the region's key of this number.
+    /// Signs a message with the region's key of this number.
     Sign {
         region: u8,
         key: u32,
@@ -67,7 +67,7 @@ pub enum Event {
 /// Events in order.
 pub type Events = Items<Event>;
 
-/// An event, and the reply that it got.
+/// An event and the reply to it.
 #[derive(Drop)]
 pub struct Answered {
     pub event: Event,
@@ -75,7 +75,7 @@ pub struct Answered {
 }
 
 impl Event {
-    /// A copy of the event. `NoMemory` where an allocation fails, of which no clause says when.
+    /// A copy of the event, or `NoMemory`.
     pub fn copy(&self, alloc: Global) -> Result<Event, NoMemory>
         ensures { IfOk result (λ event. event ≡ self.now) }
     {

@@ -1,4 +1,4 @@
-//! Laws of the formats: each is clear, and how long its spellings are.
+//! Laws of the formats: that each is clear, and how long its spellings can be.
 
 ghost use Rattle.std.specs.Prelude.{◌≡◌, ℕ};
 ghost use Rattle.mb_format.specs.Format.{IsClear, IsClearWhole, IsShort};
@@ -16,7 +16,7 @@ ghost use Rattle.mb_model.specs.PublicRecord.{public_entry_format, public_format
 ghost use Rattle.mb_model.specs.HeaderFormat.{slot_format, header_format, log_format};
 ghost use Rattle.mb_model.specs.declared.limits.TheConstants.{STATEMENT_LIMIT, REGION_LIMIT};
 
-/// At each place of any bytes one value of the format is spelled, or one place fails.
+/// At each offset of arbitrary bytes either one value of the format is spelled, or one offset fails.
 pub fn formats_are_clear()
     ensures public_key { IsClear public_key_format }
     ensures key_seed { IsClear key_seed_format }
@@ -42,8 +42,8 @@ pub fn formats_are_clear()
     ensures log_sector { IsClear log_format }
 {}
 
-/// Any bytes as a whole spell one value of the format, or fail at one place: one after the last field, where bytes are
-/// left there.
+/// Arbitrary bytes as a whole either spell one value of the format or fail at one offset: the one after the last field,
+/// if bytes are left there.
 pub fn whole_formats_are_clear()
     ensures public_key { IsClearWhole public_key_format }
     ensures keyfile { IsClearWhole keyfile_format }
@@ -70,7 +70,7 @@ pub fn formats_are_short()
     ensures log_sector { IsShort log_format 2750 }
 {}
 
-/// To read an order no more bytes are looked at than the longest order has.
+/// Reading an order looks at no more bytes than the longest order has.
 pub fn orders_are_local()
     ensures { IsLocal order_format 61034 }
 {}

@@ -30,14 +30,14 @@ pub struct File {
     pub bytes: Bytes,
 }
 
-/// Files by name; where two have one name the first counts.
+/// Files by name; if two have one name, the first counts.
 pub type Files = Items<File>;
 
 /// Numbers of calls, from 0.
 pub type Calls = Items<u64>;
 
 impl<T> Items<T> {
-    /// The empty list, which grows by `alloc`.
+    /// The empty list, which grows with memory from `alloc`.
     pub fn new(alloc: Global) -> Items<T>
         ensures { result ≡ [] }
     {
@@ -46,29 +46,28 @@ impl<T> Items<T> {
         }
     }
 
-    /// The same items; takes no memory.
+    /// The items of a vector; allocates nothing.
     pub fn from_vec(items: Vec<T>) -> Items<T>
         ensures { result ≡ items.items }
     {
         Items { items }
     }
 
-    /// The same items; takes no memory.
+    /// The items as a vector; allocates nothing.
     pub fn into_vec(self) -> Vec<T>
         ensures { result.items ≡ self }
     {
         self.items
     }
 
-    /// The items themselves.
+    /// The items, as a slice.
     pub fn as_slice(&self) -> &[T]
         ensures { result.now ≡ self.now }
     {
         self.items.as_slice()
     }
 
-    /// Adds an item at the end, or leaves the list as it was. `NoMemory` where an allocation fails, of which no clause
-    /// says when.
+    /// Adds an item at the end, or answers `NoMemory` and leaves the list as it was.
     pub fn push(&mut self, item: T) -> Result<(), NoMemory>
     where
         T: Drop,
@@ -79,7 +78,7 @@ impl<T> Items<T> {
         Ok(())
     }
 
-    /// Puts an item in a place, and gives back the old one.
+    /// Replaces the item at index `at`, and answers the old one.
     pub fn set(&mut self, at: u32, item: T) -> T
         requires { at < length self.old }
         ensures old { slice_get self.old at ≡ Some result }
@@ -88,7 +87,7 @@ impl<T> Items<T> {
         mem::replace(&mut self.items[at as usize], item)
     }
 
-    /// Takes an item out and closes up.
+    /// Removes the item at index `at`, closes the gap, and answers the item.
     pub fn remove(&mut self, at: u32) -> T
         requires { at < length self.old }
         ensures old { slice_get self.old at ≡ Some result }
@@ -97,7 +96,7 @@ impl<T> Items<T> {
         self.items.remove(at as usize)
     }
 
-    /// Keeps the first `length` items, or all where there are fewer.
+    /// Keeps the first `length` items, or all if there are fewer.
     pub fn truncate(&mut self, length: u32)
     where
         T: Drop,

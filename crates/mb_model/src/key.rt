@@ -33,7 +33,7 @@ pub struct PublicKey {
     pub root: [u8; 32],
 }
 
-/// A private key of LMS of types 5 and 3, from which each of its values is derived (RFC 8554, appendix A).
+/// The seed of a private key of LMS of types 5 and 3: all values of the key are derived from it (RFC 8554, appendix A).
 #[derive(Clone, Copy, PartialEq, Eq)]
 pub struct KeySeed {
     /// The identifier I of the key pair.
@@ -49,6 +49,6 @@ pub enum Trust {
     Always,
     /// At none.
     Never,
-    /// At a load that the layer's own owner has signed too.
+    /// At a load that the layer's own owner has countersigned.
     Countersigned,
 }

@@ -14,8 +14,8 @@ pub struct CodeName {
     pub version: u32,
 }
 
-/// The trusts of a layer in changes of the layers beneath it. A trust in a layer that is not beneath it is stored, and
-/// never asked.
+/// The trusts of a layer in changes of the layers beneath it. A trust in a layer that is not beneath it is stored and
+/// never used.
 #[derive(Clone, Copy, PartialEq, Eq)]
 pub struct Trusts {
     /// The trust in changes of layer 1.
@@ -57,7 +57,8 @@ pub struct Layer {
     pub code: Option<CodeName>,
     /// Whether its code is to be relied on.
     pub reliable: bool,
-    /// Which changes beneath it the layer goes along with: over others it loses its secrets and is not reliable.
+    /// Which loads beneath it the layer admits. Any other change beneath it empties its region and leaves it
+    /// unreliable.
     pub trust: Trusts,
 }
 
@@ -83,7 +84,7 @@ pub struct Layers {
     pub three: Layer,
 }
 
-/// Some of layers 2 and 3, or of their regions.
+/// A set of layers 2 and 3, or of their regions.
 #[derive(Clone, Copy, PartialEq, Eq)]
 pub struct Pair {
     pub two: bool,

@@ -1,9 +1,8 @@
 //! The types of a device with layered owners, and the definitions that contracts of every other crate cite.
 //!
-//! This crate owns the words: what a key, a layer, an order, a log and a region are, when a signature verifies,
-//! whose order is obeyed and what it leaves, how each record is spelled, what each event comes to, for which state
-//! a memory stands, when a chain is accepted, and what the texts say. The definitions stand in specs/, a file for
-//! each subject.
+//! This crate owns the words: what a key, a layer, an order, a log and a region are, when a signature verifies, whose
+//! order is obeyed and what it leaves, how each record is spelled, what each event comes to, which state a memory
+//! means, when a chain is accepted, and what the texts say. The definitions stand in specs/, one file for each subject.
 #![tactic(auto)]
 
 mod bytes;

@@ -56,13 +56,13 @@ pub const STATEMENT_LIMIT: usize = 2_481;
 /// The most bytes of the record of a region.
 pub const REGION_LIMIT: usize = 4_087;
 
-/// The version of the records of regions that are written.
+/// The version of the region records that are written.
 pub const REGION_VERSION: u8 = 2;
 
 /// The most secrets of a region.
 pub const SECRET_LIMIT: u8 = 22;
 
-/// The most secrets in the record of a region that is of version 1.
+/// The most secrets in a region's record of version 1.
 pub const SECRET_LIMIT_VERSION_1: u8 = 16;
 
 /// The most keys of a region.
@@ -77,7 +77,7 @@ pub const VALUE_LIMIT: u8 = 128;
 /// The longest message that a key of a region signs, in bytes.
 pub const MESSAGE_LIMIT: u8 = 128;
 
-/// How much noise a key is derived from, in bytes: the draw of an order, and the noise of an officer's key.
+/// The length of a draw, in bytes: the noise of an order, or of an officer's key.
 pub const DRAW_LENGTH: usize = 32;
 
 /// The most events of a script.

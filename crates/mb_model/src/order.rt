@@ -8,13 +8,13 @@ use crate::layer::Trusts;
 /// How long a key of a region lives.
 #[derive(Clone, Copy, PartialEq, Eq)]
 pub enum KeyKind {
-    /// Until a change that the region is not kept over.
+    /// Until a change over which the region is not kept.
     Epoch,
     /// Until any change of its layer or of one beneath it.
     Configuration,
 }
 
-/// What an order demands of the device: where it does not hold, the order is refused.
+/// What an order demands of the device: if it does not hold, the order is refused.
 #[derive(Clone, Copy, PartialEq, Eq)]
 pub enum Target {
     /// The device has this serial.
@@ -89,7 +89,7 @@ pub type Countersignatures = Items<Countersignature>;
 /// An order.
 #[derive(Drop)]
 pub struct Order {
-    /// The layer that it is for, 1 to 3.
+    /// The layer that the order is for, 1 to 3.
     pub layer: u8,
     pub targets: Targets,
     pub act: Act,

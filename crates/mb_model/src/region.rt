@@ -22,11 +22,11 @@ pub type Secrets = Items<Secret>;
 /// A key of a region.
 #[derive(Clone, Copy, PartialEq, Eq)]
 pub struct RegionKey {
-    /// Its number in the row of all keys of the device.
+    /// The key's number among all keys of the device.
     pub number: u32,
     pub kind: KeyKind,
     pub seed: KeySeed,
-    /// How many of its 32 indices are used.
+    /// How many of the key's 32 indices are used.
     pub uses: u32,
 }
 

@@ -8,13 +8,13 @@ use crate::bytes::Bytes;
 /// How a layer stands.
 #[derive(Clone, Copy, PartialEq, Eq)]
 pub enum Standing {
-    /// It has no owner.
+    /// The layer has no owner.
     Unowned,
-    /// It has an owner, and its code is not to be relied on.
+    /// The layer has an owner and is not reliable.
     Unreliable,
-    /// It is reliable, and a layer beneath it is not.
+    /// The layer is reliable, and a layer beneath it is not.
     Reliable,
-    /// It and each layer beneath it are reliable.
+    /// The layer and each layer beneath it are reliable.
     Runnable,
 }
 
@@ -72,7 +72,7 @@ pub enum Reply {
 pub enum Refusal {
     /// Power is off.
     PoweredOff,
-    /// Another layer runs than the one that the event is for.
+    /// The event does not fit the phase: a boot while a layer runs, a go from layer 3, or an order past layer 1.
     WrongPhase,
     /// The device has been opened, and keeps nothing.
     Zeroised,
@@ -84,7 +84,7 @@ pub enum Refusal {
     NoSuchKey,
     /// All indices of the key are used.
     KeySpent,
-    /// The bytes are no order.
+    /// The bytes spell no order.
     BadText,
     /// The target of the order at this index, from 0, does not hold.
     WrongTarget(u8),
@@ -101,7 +101,7 @@ pub enum Refusal {
 }
 
 impl Refusal {
-    /// The number by which a reply gives the reason.
+    /// The number that a reply gives for this reason.
     pub fn number(self) -> u8
         ensures { result ≡ refusal_number self }
     {

@@ -24,21 +24,21 @@ pub enum Role {
     Items,
 }
 
-/// Where an input is not in its form.
+/// Where an input is at fault.
 #[derive(Clone, Copy, Debug, PartialEq, Eq)]
 pub enum Place {
-    /// It is too short, or has another length than it has to have.
+    /// The input is too short, or does not have the length that it must have.
     Length,
     /// The field that begins at this offset, from 0, or the first byte after the last field.
     At(u32),
     /// The line with this number, from 1.
     Line(u32),
-    /// The root record of an image, or what tells whether the device lives.
+    /// The root record of an image, or the bytes that say whether the device is alive.
     Root,
     /// The public record of an image.
     Public,
     /// The record of region 2 or 3 of an image.
     Region(u8),
-    /// The state for which an image stands.
+    /// The state that an image means.
     State,
 }

@@ -1,36 +1,36 @@
-//! Domain separators: the first bytes of what is hashed or signed, which keep the uses of one hash or key apart.
+//! Domain separators: bytes in what is hashed or signed, which keep the uses of one hash or key apart.
 
-/// What the owner in charge signs of an order begins with this byte.
+/// Domain separator: the first byte of what the owner in charge signs of an order.
 pub const ORDER_TEXT: u8 = 0x01;
 
-/// What the owner of a higher layer signs of an order begins with this byte.
+/// Domain separator: the first byte of what the owner of a higher layer signs of an order.
 pub const COUNTERSIGNED_TEXT: u8 = 0x02;
 
-/// What a device key, or the maker's key, signs of a log entry begins with this byte.
+/// Domain separator: the first byte of what a device key, or the maker's key, signs of a log entry.
 pub const ENTRY_TEXT: u8 = 0x03;
 
-/// What a key of a region signs begins with this byte.
+/// Domain separator: the first byte of what a key of a region signs.
 pub const STATEMENT_TEXT: u8 = 0x04;
 
-/// What is hashed for the secret SEED of a device's key begins with this byte.
+/// Domain separator: the first byte of what is hashed for the secret SEED of a device's key.
 pub const KEY_SECRET: u8 = 0x10;
 
-/// What is hashed for the identifier I of a device's key begins with this byte.
+/// Domain separator: the first byte of what is hashed for the identifier I of a device's key.
 pub const KEY_IDENTIFIER: u8 = 0x11;
 
-/// What is hashed for the secret SEED of an officer's key begins with this byte.
+/// Domain separator: the first byte of what is hashed for the secret SEED of an officer's key.
 pub const OFFICER_SECRET: u8 = 0x12;
 
-/// What is hashed for the identifier I of an officer's key begins with this byte.
+/// Domain separator: the first byte of what is hashed for the identifier I of an officer's key.
 pub const OFFICER_IDENTIFIER: u8 = 0x13;
 
-/// What is hashed for the secret SEED of a key of a maker's level begins with this byte.
+/// Domain separator: the first byte of what is hashed for the secret SEED of a key of a maker's level.
 pub const LEVEL_SECRET: u8 = 0x14;
 
-/// What is hashed for the identifier I of a key of a maker's level begins with this byte.
+/// Domain separator: the first byte of what is hashed for the identifier I of a key of a maker's level.
 pub const LEVEL_IDENTIFIER: u8 = 0x15;
 
-/// What is hashed for the seed of a maker of HSS signatures begins with this byte.
+/// Domain separator: the first byte of what is hashed for the seed of a maker of HSS signatures.
 pub const MAKER_SECRET: u8 = 0x16;
 
 /// D_PBLC: these bytes stand in what is hashed for a one-time public key (RFC 8554, section 7.1).

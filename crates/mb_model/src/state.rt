@@ -1,4 +1,4 @@
-//! What a device is, and what of it an order is judged by.
+//! The state of a device, and the part of it by which an order is judged.
 
 use crate::bytes::Bytes;
 use crate::entry::{Entries, Log};
@@ -35,7 +35,7 @@ pub struct State {
     pub three: Region,
 }
 
-/// What the entries of a log say together: all by which the next entry is judged.
+/// What the entries of a log say together: all that the next entry is judged by.
 #[derive(Clone, Copy)]
 pub struct Figures {
     /// How many entries there are.
@@ -44,9 +44,9 @@ pub struct Figures {
     pub number: u32,
     /// The layers of the last birth or change.
     pub layers: Layers,
-    /// The device key that is named last.
+    /// The device key that the entries name last.
     pub device: Option<PublicKey>,
-    /// How many entries stand after the one that names it.
+    /// How many entries follow the one that names the device key.
     pub uses: u32,
     /// How many keys the entries name.
     pub keys_made: u32,
@@ -54,7 +54,7 @@ pub struct Figures {
     pub version_two: bool,
 }
 
-/// What of a state an order is judged by.
+/// The part of a state by which an order is judged.
 #[derive(Clone, Copy, PartialEq, Eq)]
 pub struct View {
     /// The device's serial.
@@ -76,7 +76,7 @@ pub struct View {
     pub keys_three: u32,
 }
 
-/// What an order makes true, for which its entry will stand.
+/// What an order makes true and its entry will record.
 #[derive(Clone, Copy, PartialEq, Eq)]
 pub enum Fact {
     /// A layer is changed.
@@ -106,9 +106,9 @@ pub struct Bodies {
     pub entries: Entries,
     /// The device key afterwards.
     pub device: KeySeed,
-    /// How many of its indices are used, those of the new entries included.
+    /// How many indices of that key are used, those of the new entries included.
     pub uses: u32,
-    /// The device key before, where it gives way.
+    /// The device key before, if it gives way.
     pub outgoing: Option<Outgoing>,
     /// The new key of a region.
     pub key: Option<RegionKey>,
@@ -118,9 +118,9 @@ pub struct Bodies {
 #[derive(Clone, Copy, PartialEq, Eq)]
 pub enum Follow {
     Yes,
-    /// It has a wrong position, or its signature a wrong index.
+    /// The entry has a wrong position, or its signature a wrong index.
     Order,
-    /// It breaks the rules of the log.
+    /// The entry breaks the rules of the log.
     Rules,
 }
 
@@ -131,14 +131,14 @@ pub struct Configuration {
     pub number: u32,
     /// The key's layer, 2 or 3.
     pub upto: u8,
-    /// The layers up to the key's. Each layer above stands as one without an owner.
+    /// The layers up to the key's. Each layer above appears as one without an owner.
     pub layers: Layers,
 }
 
 /// The configurations in which a key lived, in order.
 pub type Lives = Items<Configuration>;
 
-/// What a verifier finds out about a key of a region by a chain that it accepts.
+/// What a verifier learns about a key of a region from a chain that it accepts.
 #[derive(Drop)]
 pub struct Report {
     /// The key's layer, 2 or 3.
@@ -146,10 +146,10 @@ pub struct Report {
     pub kind: KeyKind,
     /// Whether the key is alive at the chain's end.
     pub alive: bool,
-    /// The configurations in which it lived.
+    /// The configurations in which the key lived.
     pub lives: Lives,
     /// How many entries the chain has.
     pub entries: u32,
-    /// The message of the chain's statement, where it has one.
+    /// The message of the chain's statement, if it has one.
     pub message: Option<Bytes>,
 }

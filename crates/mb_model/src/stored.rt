@@ -9,24 +9,24 @@ use crate::key::KeySeed;
 use crate::region::RegionKey;
 use crate::state::Codes;
 
-/// A device key that gives way, as long as what it signs last is not signed yet.
+/// A device key that gives way, until its last entry is signed.
 #[derive(Clone, Copy, PartialEq, Eq)]
 pub struct Outgoing {
     pub seed: KeySeed,
-    /// How many of its indices are used, 1 to 32, with that of the entry that is not signed yet.
+    /// How many of the key's indices are used, 1 to 32, that of its unsigned entry included.
     pub uses: u32,
 }
 
 /// What is still to be done to a region.
 #[derive(Clone, Copy, PartialEq, Eq)]
 pub enum Fate {
-    /// It stays.
+    /// The region stays as it is.
     Keep,
-    /// It becomes empty.
+    /// The region becomes empty.
     Empty,
-    /// It loses its configuration keys.
+    /// The region loses its configuration keys.
     DropConfiguration,
-    /// It gets this key, where it has none of that number.
+    /// The region gets this key, unless it has a key with that number.
     AddKey(RegionKey),
 }
 
@@ -35,7 +35,7 @@ pub enum Fate {
 pub struct Pending {
     /// How many entries at the log's end are not signed yet, 1 or 2.
     pub unsigned: u8,
-    /// The device key that signs the first of them, where it is not the present one.
+    /// The device key that signs the first unsigned entry, if it is not the current one.
     pub outgoing: Option<Outgoing>,
     /// What becomes of region 2.
     pub two: Fate,
@@ -46,7 +46,7 @@ pub struct Pending {
 /// The root record of the battery-backed memory.
 #[derive(Clone, Copy, PartialEq, Eq)]
 pub struct Root {
-    /// The area of the flash in force: 0 for the first, 1 for the second.
+    /// The current area of the flash: 0 for the first, 1 for the second.
     pub area: u8,
     /// The device's serial.
     pub serial: [u8; 16],
@@ -86,7 +86,7 @@ pub struct Public {
     pub entries: PublicEntries,
 }
 
-/// Where in the flash the code of a layer stands, and how much code it is. Each layer has two slots there, 1 and 2.
+/// Where in the flash the code of a layer stands, and how long the code is. Each layer has two slots there, 1 and 2.
 #[derive(Clone, Copy, PartialEq, Eq)]
 pub struct Slot {
     /// The slot, 1 or 2; 0 if the layer has no code.

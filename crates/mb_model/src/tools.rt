@@ -35,7 +35,7 @@ impl NextIndex {
         NextIndex { index: 0 }
     }
 
-    /// The index with this number; none if a key has no such index, and its last one is not before it.
+    /// The next index with this number, at most 32; none if the number is higher.
     pub fn new(number: u32) -> Option<NextIndex>
         ensures some { IfSome result (λ next. (next ≡ number) × (number ≤ KEY_USES)) }
         ensures none { IsNone result → KEY_USES < number }
@@ -54,7 +54,7 @@ impl NextIndex {
         self.index
     }
 
-    /// Takes the index for a signature, unless all are used.
+    /// Takes the index for a signature and goes on to the next; none if all are used.
     pub fn take(&mut self) -> Option<u32>
         ensures some { IfSome result (λ index. (index ≡ self.old) × (index < KEY_USES) × (self.new ≡ self.old + 1)) }
         ensures none { IsNone result → (self.old ≡ KEY_USES) × (self.new ≡ self.old) }
@@ -79,7 +79,7 @@ pub struct Keyfile {
 /// A record that is not in its form.
 #[derive(Clone, Copy, Debug, PartialEq, Eq)]
 pub struct BadRecord {
-    /// The place at which the first field begins that is not in its form, in bytes from 0.
+    /// The offset, from 0, of the first field that is not in its form.
     pub at: u32,
 }
 

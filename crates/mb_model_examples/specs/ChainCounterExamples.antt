@@ -20,9 +20,9 @@ use Rattle.mb_model.specs.Runs.{StaysAccepted}
 use Rattle.mb_model_examples.specs.RuleExamples.{life}
 use Rattle.mb_model_examples.specs.Device.{signed_with}
 
--- a chain is not accepted, or not refused for this
+-- chains that are not accepted, or not refused for one reason
 pub record ChainCounterExamples (maker : PublicKey) (n : ℕ) : Type 0 where
-  -- no bytes spell no chain: they are not accepted, and are not refused for want of the key
+  -- the empty list of bytes spells no chain: it is not accepted, and is not refused because the key is unknown
   pub no_bytes : (report : Report) → Accepts maker [] n report → ⊥
   pub no_bytes_for_key : IsVerdict maker [] n (chain_rejection key_unknown) → ⊥
   -- the entries of a log without its birth are not good
@@ -32,7 +32,7 @@ pub record ChainCounterExamples (maker : PublicKey) (n : ℕ) : Type 0 where
       → IsBytes bytes → Spells chain_format bytes chain → chain.statement ≡ Some statement
       → statement.number ≢ number_of (entries_of chain.entries) → Accepts maker bytes n report → ⊥
 
--- two verdicts that no bytes have both
+-- pairs of verdicts that no bytes have together
 pub record VerdictCounterExamples (maker : PublicKey) (n : ℕ) (bytes : List ℕ) : Type 0 where
   pub accepted_and_refused : (report : Report) → IsBytes bytes
       → IsVerdict maker bytes n (chain_acceptance report) → IsVerdict maker bytes n (chain_rejection key_ended) → ⊥
@@ -49,27 +49,27 @@ pub record StatementCounterExamples (maker : PublicKey) (n : ℕ) : Type 0 where
   -- a number of more than 32 bits has no spelling, though its last four bytes are those of another number
   pub large_number : (bytes : List ℕ) (statement : Statement) → 4294967296 ≤ statement.number
       → Spells statement_format bytes statement → ⊥
-  -- nor has a message of more than 128 bytes
+  -- a message of 300 bytes has no spelling: 128 are the most
   pub long_message : (bytes : List ℕ) (statement : Statement) → length statement.message ≡ 300
       → Spells statement_format bytes statement → ⊥
-  -- bytes that spell no statement, with any log
+  -- the empty list of bytes, which spells no statement, with any log
   pub no_statement : (log : List SignedEntry) → StaysAccepted maker log n [] → ⊥
   -- a statement of a key that no entry of the chain makes
   pub unmade : (log : List SignedEntry) (bytes : List ℕ) (stays : StaysAccepted maker log n bytes) → IsBytes stays.chain
       → key_of (entries_of (cut_at stays.statement.number log)) n ≡ None → ⊥
-  -- any bytes, where there is no log
+  -- arbitrary bytes, if there is no log
   pub no_log : (bytes : List ℕ) → StaysAccepted maker [] n bytes → ⊥
 
--- a chain does not tell of a device
+-- a chain that does not describe a device
 pub record AuditCounterExamples (state : State) (n : ℕ) (chain : Chain) (report : Report) : Type 0 where
-  -- it has more entries than the device's log
+  -- the chain has more entries than the device's log
   pub longer : length state.log < length chain.entries → TellsOfDevice state n chain report → ⊥
 
--- a chain has a forged entry
+-- chains with a forged entry, which are not honest
 pub record ForgedCounterExamples (maker : PublicKey) (birth forged : SignedEntry) : Type 0 where
-  -- a birth that the maker's key signed, and the device has no log
+  -- a birth that the maker's key signed, if the device has no log
   pub other_birth : Verifies maker (entry_text birth.entry) birth.signature → Honest (birth ∷ []) maker [] → ⊥
-  -- an entry that the device key of the birth signed, and the log has the birth alone
+  -- an entry that the device key of the birth signed, if the log has the birth alone
   pub later_entry : (key : PublicKey) → device_in birth.entry ≡ Some key
       → Verifies key (entry_text forged.entry) forged.signature → forged.entry ≢ birth.entry
       → Honest (birth ∷ forged ∷ []) maker (birth.entry ∷ []) → ⊥

@@ -13,7 +13,7 @@ use Rattle.mb_model.specs.ChainCommands.{ChainNames, AttachNames, chain, attach}
 use Rattle.mb_model.specs.AuditCommand.{AuditNames, audit}
 use Rattle.mb_model.specs.GenerateCommand.{GenerateNames, generate}
 
--- the command ends neither with status 1 nor with status 2, which tells that the words are no command
+-- the command ends neither with status 1 nor with status 2, which says that the words are no command
 abbrev pub EndsOtherwise : Past → Ended → Command → Type 0
 EndsOtherwise past e command = 1 ≤ e.status → e.status ≤ 2 → CommandEnds command past e → ⊥
 
@@ -35,16 +35,16 @@ pub record CommandCounterExamples (past : Past) (e : Ended) (text : List ℕ) : 
   -- a command that reads and prints ends with a refusal
   pub refused : (name : List ℕ) → e.status ≡ 7
       → CommandEnds (read (code_input name) (λ code. print text)) past e → ⊥
-  -- a command is done that has to find what is not there
+  -- a command that has to find what is not there is done
   pub found : e.status ≡ 0 → CommandEnds (find (λ (n : ℕ). ⊥) (λ n. print text)) past e → ⊥
   -- a command that writes and prints ends at an input
   pub not_read : (output : Output) → e.status ≡ 4 → CommandEnds (write output (print text)) past e → ⊥
   -- a command lacks memory after it has written a file
   pub late : past.wrote ≡ true → e.status ≡ 6 → CommandEnds (print text) past e → ⊥
-  -- a command is done that prints `a`, and `b` is printed
+  -- a command that prints `a` is done, and `b` is printed
   pub other_text : e.before.printed ≡ Some [] → e.after.printed ≡ Some (codes "b") → e.status ≡ 0
       → CommandEnds (print (codes "a")) past e → ⊥
-  -- a command is done that writes a byte, and the file is empty
+  -- a command that writes a byte is done, and the file is empty
   pub not_written : (output : Output) (files now : List ℕ → Option (List ℕ)) → e.status ≡ 0
       → output.bytes ≡ 7 ∷ [] → e.before.files ≡ Some files → e.after.files ≡ Some now → now output.name ≡ Some []
       → CommandEnds (write output (print text)) past e → ⊥
@@ -55,13 +55,13 @@ pub record FileCounterExamples (name text : List ℕ) (files : List ℕ → Opti
 
 -- what a call of a host does not do
 pub record HostCounterExamples (before after : Outside) (name bytes : List ℕ) : Type 0 where
-  -- it reads a file that is too long, other bytes than the file holds, or what are no bytes
+  -- a host reads a file that is too long, other bytes than the file holds, or what are no bytes
   pub too_long : length bytes ≡ 4194305 → HasRead before name bytes → ⊥
   pub other_bytes : (files : List ℕ → Option (List ℕ)) → before.files ≡ Some files → files name ≡ Some []
       → HasRead before name (7 ∷ []) → ⊥
   pub no_byte : get_or bytes 0 0 ≡ 300 → HasRead before name bytes → ⊥
-  -- it fails to read and counts no call
+  -- a host fails to read and counts no call
   pub uncounted : before.reads ≡ 0 → after.reads ≡ 0 → FailsToRead name before after → ⊥
-  -- it fails to print `a` and has printed `b`
+  -- a host fails to print `a` and has printed `b`
   pub other_text : before.printed ≡ Some [] → after.printed ≡ Some (codes "b")
       → FailsToPrint (codes "a") before after → ⊥

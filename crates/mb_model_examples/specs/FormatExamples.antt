@@ -13,7 +13,7 @@ use Rattle.mb_model.specs.OrderFormat.{body_format, order_format}
 use Rattle.mb_model.specs.ChainFormat.{chain_format}
 use Rattle.mb_model.specs.RegionFormat.{region_format}
 
--- the body of the surrender of layer 2, where the log has 7 entries
+-- the body of the surrender of layer 2, if the log has 7 entries
 abbrev pub surrender_bytes : List ℕ
 surrender_bytes = 2 ∷ 2 ∷ 1 ∷ 2 ∷ 0 ∷ 0 ∷ 0 ∷ 7 ∷ []
 
@@ -35,7 +35,7 @@ pub record SpellingExamples : Type 0 where
   })
       ≡ 3 ∷ 3 ∷ 0 ∷ 0 ∷ 0 ∷ 1 ∷ 2 ∷ 1 ∷ 0 ∷ 0 ∷ 0 ∷ 3 ∷ 0x61 ∷ 0x62 ∷ 0x63 ∷ []
 
--- a load of layer 1 without code or signature, with two countersignatures announced, and the first layer that is named
+-- a load of layer 1 without code or signature, which announces two countersignatures and names the layer of the first
 abbrev pub countersigned_first_by : ℕ → List ℕ
 countersigned_first_by m = 3 ∷ 1 ∷ 0 ∷ 0 ∷ 0 ∷ 0 ∷ 1 ∷ 0 ∷ 0 ∷ 0 ∷ 0 ∷ 0 ∷ 0 ∷ 0 ∷ 2 ∷ m ∷ []
 
@@ -45,7 +45,7 @@ pub record FailingExamples : Type 0 where
   pub countersigned_surrender : FailsWhole order_format (surrender_bytes ++ 0 ∷ 0 ∷ 1 ∷ []) 10
   -- nothing follows an order
   pub left_over : FailsWhole order_format (surrender_bytes ++ 0 ∷ 0 ∷ 0 ∷ 9 ∷ []) 11
-  -- where two countersign layer 1, the first is layer 2: with layer 3 it fails at that byte, with layer 2 after it
+  -- if two countersign layer 1, the first is layer 2: with layer 3 it fails at that byte, with layer 2 after it
   pub three_first : FailsWhole order_format (countersigned_first_by 3) 15
   pub two_first : FailsWhole order_format (countersigned_first_by 2) 16
   -- layer 1 takes no surrender

@@ -14,7 +14,7 @@ use Rattle.mb_model_examples.specs.RecordExamples.{with_byte}
 abbrev pub no_code : Slot
 no_code = record { which = 0; length = 0 }
 
--- layer 1 has 9 bytes of code in slot 1, and so many entries are signed
+-- layer 1 has 9 bytes of code in slot 1, and this many entries are signed
 abbrev pub header_of_one : ℕ → Option (List ℕ) → Option (List ℕ) → Header
 header_of_one signed first second = record {
   one = record { which = 1; length = 9 };

@@ -20,7 +20,7 @@ LeadsWorld r before event answer after = Machine (world_at (ratchet r) before) e
 
 -- ---- secrets
 
--- a secret more in region 2
+-- the device with one more secret in region 2
 abbrev pub with_seal : List ℕ → State
 with_seal signature =
     with_regions (with_secrets (pin ∷ token ∷ secret (codes "seal") [] 4 ∷ [])) (key_of_three 0) signature
@@ -32,7 +32,7 @@ pub record PutExamples (signature : List ℕ) : Type 0 where
       (with_regions (with_secrets (secret (codes "pin") (codes "99") 4 ∷ token ∷ [])) (key_of_three 0) signature)
   -- a new one goes last
   pub new : LeadsWorld 1 (alive signature) (event.Put 2 (codes "seal") []) reply.Kept (with_seal signature)
-  -- region 3 has its own
+  -- region 3 has secrets of its own
   pub above : LeadsWorld 2 (alive signature) (event.Put 3 (codes "pin") (codes "5")) reply.Kept
       (with_regions secrets_of_two
       (record { secrets = secret (codes "pin") (codes "5") 4 ∷ []; keys = key_one 0 ∷ [] }) signature)
@@ -40,7 +40,7 @@ pub record PutExamples (signature : List ℕ) : Type 0 where
   pub seventeenth : LeadsWorld 2 (with_regions (with_letters (codes "abcdefghijklmnop")) full_region signature)
       (event.Put 2 (codes "q") []) reply.Kept
       (with_regions (with_letters (codes "abcdefghijklmnopq")) full_region signature)
-  -- where there are 22, a new one is refused, and one with a name that is there is not
+  -- if there are 22, a new secret is refused, and one with a name that is there is not
   pub full : Refuses (world_at (ratchet 2) (with_regions full_region full_region signature))
       (event.Put 2 (codes "w") []) 5
   pub full_replaced : LeadsWorld 2 (with_regions full_region full_region signature) (event.Put 3 (codes "c") [])
@@ -57,25 +57,25 @@ pub record GetExamples (signature : List ℕ) : Type 0 where
 
 -- ---- statements
 
--- the bytes of the statement that the key signs then
+-- the bytes of the statement that the key signs after n uses
 abbrev pub stated : ℕ → List ℕ → List ℕ → List ℕ
 stated n message signature =
     statement_format.spelling (statement_of (after_uses n signature) (key_one n) message)
 
--- sign: the reply tells the key and the index that was used, and the key has used one more
+-- sign: the reply gives the key and the index that was used, and the key has used one more
 pub record SignExamples (message signature : List ℕ) : Type 0 where
   pub first : LeadsWorld 3 (after_uses 0 signature) (event.Sign 3 1 message)
       (reply.Signed 1 0 (stated 0 message signature)) (after_uses 1 signature)
   pub last : LeadsWorld 1 (after_uses 31 signature) (event.Sign 3 1 message)
       (reply.Signed 1 31 (stated 31 message signature)) (after_uses 32 signature)
   pub spent : Refuses (world_at (ratchet 3) (after_uses 32 signature)) (event.Sign 3 1 message) 7
-  -- a key that is not there is refused before one that is spent
+  -- a key that is not there is refused as such
   pub unknown : Refuses (world_at (ratchet 3) (after_uses 32 signature)) (event.Sign 3 2 message) 6
   pub of_another_region : Refuses (world_at (ratchet 2) (after_uses 32 signature)) (event.Sign 2 1 message) 6
 
--- ---- where control is past a layer, or it may not run
+-- ---- control past a layer, or a layer that may not run
 
--- while layer r runs, each event on region L is refused 4
+-- while layer r runs, each event on region L is refused with 4
 pub record IsClosed (r L : ℕ) (state : State) : Type 0 where
   pub put : (name value : List ℕ) → Refuses (world_at (ratchet r) state) (event.Put L name value) 4
   pub get : (name : List ℕ) → Refuses (world_at (ratchet r) state) (event.Get L name) 4

@@ -39,19 +39,19 @@ pub record AreaCounterExamples : Type 0 where
   -- a region with neither secret nor key has no record
   pub no_region : (region : Region) → SpellsRegion (1 ∷ 0 ∷ 0 ∷ []) region → ⊥
 
--- a memory does not stand for a state
+-- states that a memory does not stand for
 pub record MeaningCounterExamples (flash bbram : List ℕ) : Type 0 where
-  -- one that is neither all zero nor alive, as its life byte is torn, stands for none
+  -- a memory that is neither all zero nor alive, as its life byte is torn, stands for none
   pub torn : life_byte bbram ≡ 0xA4 → (state : Option State) → HasMeaning flash bbram state → ⊥
-  -- one that is all zero stands for no live state, and one that is alive for no dead one
+  -- a memory that is all zero stands for no live state, and one that is alive for no dead one
   pub blank : IsBlank bbram → (state : State) → StandsFor flash bbram (Some state) → ⊥
   pub alive : life_byte bbram ≡ 0xA5 → StandsFor flash bbram None → ⊥
-  -- one with a byte less stands for none
+  -- a memory with a byte less stands for none
   pub short : length bbram ≡ 28671 → (state : Option State) → StandsFor flash bbram state → ⊥
 
 -- an image is not well formed, or does not have a fault
 pub record ImageCounterExamples (image : List ℕ) : Type 0 where
-  -- an image with a byte more is not well formed, and has no other fault
+  -- an image with a byte more is not well formed, and has no fault but its length
   pub long : length image ≡ 1077249 → (state : Option State) → IsWellFormed image state → ⊥
   pub long_alone : length image ≡ 1077249 → (fault : Fault) → fault ≢ bad_length → HasFault image fault → ⊥
   -- an image of the right length does not have the fault of a wrong one
@@ -63,7 +63,7 @@ IsLeftOver bbram offset = slice_index (inactive_area_of_slot bbram 2) offset ≡
 
 -- a memory is not clean
 pub record CleanCounterExamples (bbram : List ℕ) : Type 0 where
-  -- that of a dead device has no life byte
+  -- the memory of a dead device has no life byte
   pub alive : life_byte bbram ≡ 0xA5 → Clean bbram None → ⊥
   -- one byte of an old region is left
   pub left : (offset : ℕ) → IsLeftOver bbram offset → (state : State) → Clean bbram (Some state) → ⊥
@@ -81,7 +81,7 @@ booted_and_stopped =
 abbrev pub stopped_in_boot : List Answered
 stopped_in_boot = record { event = event.Boot; reply = reply.Stopped } ∷ []
 
--- the memory does not have to be clean while power is off
+-- answers after which the memory does not have to be clean while power is off
 pub record WipingCounterExamples : Type 0 where
   pub nothing : AreWiping [] → ⊥
   pub stopped_later : AreWiping booted_and_stopped → ⊥

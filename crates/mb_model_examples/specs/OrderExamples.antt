@@ -1,5 +1,5 @@
 -- Orders on a small device; the checker computes each line. For which check is an order refused, and what does one that
--- passes come to?
+-- passes do?
 use Rattle.std.specs.Prelude.{◌≡◌, ℕ, zero, suc, ◌+◌, true, false, List, [], ◌∷◌, ◌++◌, length, replicate, codes}
 use Rattle.std.specs.Prelude.{None, Some}
 use Rattle.mb_format.specs.Format.{Spells}
@@ -40,11 +40,11 @@ plain layer does signature =
 abbrev pub surrender_two : Order
 surrender_two = plain 2 act.Surrender []
 
--- for layer 2, which has an owner
+-- an establish of layer 2, which has an owner already
 abbrev pub establish_two : Order
 establish_two = plain 2 (act.Establish (officer 4) (equal_trusts Never)) []
 
--- each with two targets, of which the first holds of the device and the second does not
+-- the order with two targets: the first holds of the device, and the second does not
 abbrev pub elsewhere : Order → Order
 elsewhere order = record order { targets = target.Length 6 ∷ target.Serial (replicate 16 8) ∷ [] }
 
@@ -65,7 +65,7 @@ empty_by layer = record { layer = layer; signature = [] }
 abbrev pub RefusesOrder : State → List ℕ → ℕ → Type 0
 RefusesOrder state text n = (draw : List ℕ) → OrderStep state text draw (reply.Refused n) state
 
--- A signature of no bytes is nobody's. Which check is the first that fails?
+-- Which check is the first that fails? A signature of no bytes is nobody's.
 pub record RefusedOrders (signature : List ℕ) : Type 0 where
   -- bytes that spell no order
   pub nothing : RefusesOrder (alive signature) [] 10
@@ -84,7 +84,7 @@ pub record RefusedOrders (signature : List ℕ) : Type 0 where
 abbrev pub with_eight_keys : List ℕ → State
 with_eight_keys signature = with_regions empty_region eight_keys signature
 
--- where the owner in charge signed the order
+-- refusals of an order that the owner in charge signed
 pub record LaterRefusals (signature by_owner : List ℕ) : Type 0 where
   -- neither layer countersigned: the lower is named
   pub countersignature : IsSigned (view_of (alive signature)) (load_of 1 by_owner)
@@ -103,7 +103,7 @@ pub record LaterRefusals (signature by_owner : List ℕ) : Type 0 where
 
 -- ---- orders that pass
 
--- where the owner in charge signed the order, it passes, and the answer tells this number and this length
+-- if the owner in charge signed the order, it passes, and the answer gives this number and this length
 pub record ObeysOrder (state : State) (order : Order) (number size : ℕ) : Type 0 where
   pub passes : IsSigned (view_of state) order → Passes (view_of state) order
   pub done : (text draw : List ℕ) → Spells order_format text order → Passes (view_of state) order
@@ -132,10 +132,10 @@ with_short_lived signature =
     with_regions secrets_of_two (with_keys (key_one 0 ∷ short_lived ∷ [])) signature
 
 pub record LeavingExamples (signature by_owner draw : List ℕ) : Type 0 where
-  -- a load of layer 3 leaves region 2, and takes the configuration keys of its own
+  -- a load of layer 3 leaves region 2, and drops the configuration keys of region 3
   pub load_three : LeavesRegions (state_after_order (with_short_lived signature) (load_of 3 by_owner) draw)
       secrets_of_two (key_of_three 0) by_both 6
-  -- a load of layer 2 empties region 3, which trusts what its owner countersigns, and so does not rely on its code
+  -- a load of layer 2 empties region 3, as layer 3 trusts what its owner countersigns, and leaves layer 3 unreliable
   pub load_two : LeavesRegions
       (state_after_order (alive signature) (load_of 2 by_owner) draw) secrets_of_two empty_region by_two 6
   -- a load of layer 1 that nobody countersigned empties both; the next device key has used no index
@@ -156,7 +156,7 @@ pub record LeavingExamples (signature by_owner draw : List ℕ) : Type 0 where
 
 -- ---- logs that are long
 
--- so many entries, from this position on
+-- this many entries, from this position on
 abbrev pub in_turn : (ℕ → Entry) → ℕ → ℕ → List Entry
 in_turn entry position zero = []
 in_turn entry position (suc n) = entry position ∷ in_turn entry (position + 1) n
@@ -164,7 +164,7 @@ in_turn entry position (suc n) = entry position ∷ in_turn entry (position + 1)
 abbrev pub two_run : Layers
 two_run = layers_with (running 1 Always) (running 2 Always) layer_without_owner
 
--- birth, and layer 2 gets an owner and code
+-- a birth, and entries that give layer 2 an owner and code
 abbrev pub beginning : List Entry
 beginning =
     Birth 2 (replicate 16 9) (officer 10) at_birth
@@ -173,22 +173,24 @@ beginning =
     ∷ Change 2 2 2 changes.Emergency 2 nobody two_run nobody None
     ∷ []
 
--- loads of layer 2, and loads of layer 1, each of which makes a device key
+-- loads of layer 2
 abbrev pub loads_of_two : ℕ → ℕ → List Entry
 loads_of_two position n = in_turn (λ at. Change 2 at at changes.Load 2 nobody two_run by_two None) position n
 
+-- loads of layer 1, each of which makes a device key
 abbrev pub loads_of_one : ℕ → ℕ → List Entry
 loads_of_one position n =
     in_turn (λ at. Change 2 at at changes.Load 1 nobody two_run by_two (Some (officer 12))) position n
 
--- a birth and 31 entries: the device key has one index left; and one entry less
+-- a birth and 31 entries: the device key has one index left
 abbrev pub key_nearly_used : List Entry
 key_nearly_used = beginning ++ loads_of_two 3 29
 
+-- a birth and 30 entries: the device key has two indices left
 abbrev pub key_less_used : List Entry
 key_less_used = beginning ++ loads_of_two 3 28
 
--- 127 entries, of which the device key signed the last 31
+-- 127 entries; the device key signed the last 31
 abbrev pub nearly_full : List Entry
 nearly_full = beginning ++ loads_of_one 3 93 ++ loads_of_two 96 31
 

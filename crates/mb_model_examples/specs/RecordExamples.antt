@@ -93,7 +93,7 @@ pub record StatementRecords : Type 0 where
   pub first : take 12 statement_bytes ≡ bytes_of (codes "000000050568656c6c6f6363")
   pub hash : sha256 statement_bytes
       ≡ bytes_of (codes "310582fae6f5ee04275da2139d407709f673eef60211116bfd57c6744084992b")
-  -- what key 9 signed of it, on the device of serial 0x41..
+  -- what key 9 signed of the statement, on the device of serial 0x41..
   pub signed : statement_text (replicate 16 0x41) 9 5 (codes "hello") ≡ bytes_of statement_text_digits
 
 pub record ChainRecords : Type 0 where

@@ -28,7 +28,7 @@ use Rattle.mb_model.specs.OrderFormat.{Body}
 use Rattle.mb_model.specs.Layers.{equal_trusts, layer_without_owner}
 use Rattle.mb_model_examples.specs.RuleExamples.{layers_with, by_two, by_three, by_both}
 
--- the bytes that hexadecimal digits say
+-- the bytes that hexadecimal digits spell
 abbrev decoded_digits : Result (List ℕ) FromHexError → List ℕ
 decoded_digits (Ok bytes) = bytes
 decoded_digits (Err error) = []
@@ -44,7 +44,7 @@ key_named n = record { tree = H5; chains = W4; identifier = replicate 16 n; root
 abbrev pub seed_named : ℕ → KeySeed
 seed_named n = record { identifier = replicate 16 n; seed = replicate 32 (n + 1) }
 
--- an officer's key that was made of the noise 0, 1, .., 31
+-- an officer's key that was derived from the noise 0, 1, .., 31
 abbrev pub noise_digits : List ℕ
 noise_digits = codes "000102030405060708090a0b0c0d0e0f101112131415161718191a1b1c1d1e1f"
 
@@ -63,7 +63,7 @@ officer_file_digits =
     codes "4d424b31f5d541e6c1f5736fac8d67703916a7e4"
     ++ codes "b7b94ea512bd312bfcd9eedbebef91090a23420ddbc50323fc7193e510217f8c00000000"
 
--- its public key
+-- the public key of that officer
 abbrev pub officer_public : PublicKey
 officer_public =
     record {
@@ -236,7 +236,7 @@ load_of_version_two_digits =
 
 -- ---- root records
 
--- nothing is pending
+-- a root with nothing pending
 abbrev pub settled_root_value : Root
 settled_root_value =
     record { area = 1; serial = replicate 16 0x41; device = seed_named 0x55; uses = 17; pending = None }
@@ -291,7 +291,7 @@ small_root_digits =
 
 -- ---- regions
 
--- two secrets, of which the second is empty, and two keys
+-- two secrets, the second empty, and two keys
 abbrev pub region_of_both : Region
 region_of_both =
     record {
@@ -316,7 +316,7 @@ region_of_a_key_digits =
     codes "010001000000090151515151515151515151515151515151"
     ++ codes "525252525252525252525252525252525252525252525252525252525252525203"
 
--- an area of battery-backed memory with that region: its first 64 bytes, and zeros up to 4,096
+-- an area of battery-backed memory with `region_of_a_key`: its first 64 bytes, and zeros up to 4,096
 abbrev pub area_of_a_key : List ℕ
 area_of_a_key =
     bytes_of (codes "0039" ++ region_of_a_key_digits ++ codes "0000000000") ++ replicate 4032 0
@@ -329,7 +329,7 @@ statement = record { number = 5; message = codes "hello"; signature = replicate 
 abbrev pub statement_bytes : List ℕ
 statement_bytes = bytes_of (codes "000000050568656c6c6f") ++ replicate 2348 0x63
 
--- what key 9 signed of it
+-- what key 9 signed of the statement
 abbrev pub statement_text_digits : List ℕ
 statement_text_digits = codes "0441414141414141414141414141414141000000090000000568656c6c6f"
 

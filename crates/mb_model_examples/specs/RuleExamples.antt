@@ -40,7 +40,7 @@ running n trust =
       trust = equal_trusts trust;
     }
 
--- the layers after a load of this code into layer n by its owner, or from beneath
+-- layer n after a load of this code by its owner, or from beneath
 abbrev loaded_with : ℕ → Trust → List ℕ → Layer
 loaded_with n trust code =
     record {
@@ -50,7 +50,7 @@ loaded_with n trust code =
       trust = equal_trusts trust;
     }
 
--- code of layer n that is no longer to be relied on
+-- layer n with an owner and code, no longer reliable
 abbrev doubted : ℕ → Trust → Layer
 doubted n trust = record (running n trust) { reliable = false }
 
@@ -60,7 +60,7 @@ newborn_layers = record { one = running 1 Always; two = layer_without_owner; thr
 abbrev established : Layers
 established = record { one = running 1 Always; two = bare 2 Never; three = layer_without_owner }
 
--- all layers run; layer 2 trusts so, and layer 3 trusts what its owner countersigns
+-- all layers run; layer 2 has this trust, and layer 3 trusts what its owner countersigns
 abbrev all_run : Trust → Layers
 all_run trust = record { one = running 1 Always; two = running 2 trust; three = running 3 Countersigned }
 
@@ -91,13 +91,13 @@ pub record AdmissionExamples : Type 0 where
   -- layer 3 trusts loads of layer 1 always and loads of layer 2 never
   pub trusts_one : admits (trusts_apart Always Never) Load 1 nobody 3 ≡ true
   pub distrusts_two : admits (trusts_apart Always Never) Load 2 by_three 3 ≡ false
-  -- and the other way round
+  -- layer 3 trusts loads of layer 1 never and loads of layer 2 always
   pub distrusts_one : admits (trusts_apart Never Always) Load 1 by_three 3 ≡ false
   pub trusts_two : admits (trusts_apart Never Always) Emergency 2 nobody 3 ≡ true
-  -- at its own layer, whatever it trusts
+  -- a layer admits its own ordinary load and not its own emergency load, whatever it trusts
   pub own_load : admits (all_run Never) Load 2 nobody 2 ≡ true
   pub own_emergency : admits (all_run Always) Emergency 2 by_two 2 ≡ false
-  -- no layer admits these
+  -- no layer admits a surrender or an establish beneath it
   pub surrender_beneath : admits (all_run Always) Surrender 2 by_three 3 ≡ false
   pub establish_beneath : admits (all_run Always) Establish 2 by_three 3 ≡ false
 
@@ -141,7 +141,7 @@ pub record TargetExamples (serial : List ℕ) : Type 0 where
   pub code : TargetHolds serial newborn_layers 1 (target.Code 1 (replicate 32 1))
   pub no_code : (hash : List ℕ) → TargetHolds serial newborn_layers 1 (target.Code 2 hash) → ⊥
 
--- how layers stand, as a device tells it
+-- how layers stand, as a device reports it
 pub record StandingExamples : Type 0 where
   pub one : layer_standing (record (all_run Never) { two = doubted 2 Never }) 1 ≡ stands.Runnable
   pub two : layer_standing (record (all_run Never) { two = doubted 2 Never }) 2 ≡ stands.Unreliable
@@ -152,7 +152,7 @@ pub record StandingExamples : Type 0 where
 abbrev pub seven : Trust → List ℕ → Payload
 seven trust code = record { version = 7; trust = equal_trusts trust; code = code }
 
--- what each kind of change leaves
+-- what each kind of change leaves of the layers
 pub record AfterExamples : Type 0 where
   pub establish : after newborn_layers Establish 2 nobody
       (layer_from_order layer_without_owner (act.Establish (officer 2) (equal_trusts Never)))
@@ -168,7 +168,7 @@ pub record AfterExamples : Type 0 where
   pub load_countersigned : (code : List ℕ)
       → after (all_run Never) Load 1 by_three (layer_from_order (running 1 Always) (act.Load (seven Always code)))
       ≡ record { one = loaded_with 1 Always code; two = doubted 2 Never; three = running 3 Countersigned }
-  -- the layer itself is reliable again; the one beneath stays
+  -- layer 2 is reliable again; layer 3 countersigned and stays reliable, and layer 1 stays as it is
   pub emergency : (code : List ℕ)
       → after (all_run Never) Emergency 2 by_three
       (layer_from_order (doubted 2 Never) (act.Emergency (seven Always code)))
@@ -190,7 +190,7 @@ renewed n trust =
       trust = equal_trusts trust;
     }
 
--- the layers of a device's life, in turn
+-- the layers of a device's history, in turn
 abbrev pub at_birth : Layers
 at_birth = layers_with (running 1 Always) layer_without_owner layer_without_owner
 
@@ -212,7 +212,7 @@ one_renewed = layers_with (renewed 1 Always) (running 2 Countersigned) (running 
 abbrev pub three_renewed : Layers
 three_renewed = layers_with (renewed 1 Always) (running 2 Countersigned) (renewed 3 Countersigned)
 
--- A life that began in version 1 and goes on in version 2: layers 2 and 3 get owners and code, layer 3 gets a key,
+-- A history that began in version 1 and goes on in version 2: layers 2 and 3 get owners and code, layer 3 gets a key,
 -- layer 1 is loaded as 2 and 3 countersign, and layer 3 is loaded. The keys are numbered 0 (the first device key), 1
 -- (the key of layer 3) and 2 (the next device key).
 abbrev pub life : List Entry
@@ -227,7 +227,7 @@ life =
     ∷ Change 2 7 6 Load 3 nobody three_renewed by_both None
     ∷ []
 
--- what its entries say together
+-- what the entries of `life` say together
 pub record LogExamples : Type 0 where
   pub number : number_of life ≡ 6
   pub layers : layers_of life ≡ three_renewed
@@ -236,7 +236,7 @@ pub record LogExamples : Type 0 where
   pub used : uses_of_device_key life ≡ 1
   pub made : keys_made_by life ≡ 3
 
--- a configuration key of layer 2, made after that life, and a load of layer 3
+-- `life` with two more entries: a configuration key of layer 2, and a load of layer 3
 abbrev pub longer_life : List Entry
 longer_life =
     life ++ NewKey 8 6 3 2 kinds.Configuration (officer 13)
@@ -247,7 +247,7 @@ longer_life =
 abbrev numbers_of : List Entry → ℕ → List ℕ
 numbers_of log key_number = map (λ item. item.number) (lives_of log key_number)
 
--- in which configurations its keys lived
+-- in which configurations the keys of `life` and `longer_life` lived
 pub record LifeExamples : Type 0 where
   pub epoch_key : lives_of life 1 ≡
       record { number = 4; upto = 3; layers = three_runs }
@@ -256,7 +256,7 @@ pub record LifeExamples : Type 0 where
       ∷ []
   pub unknown_key : lives_of life 9 ≡ []
   pub device_key : lives_of life 2 ≡ []
-  -- the load above layer 2 opens no configuration for its key, and the layer above is left out
+  -- the load of layer 3 opens no configuration for a key of layer 2, and layer 3 is left out of its configurations
   pub configuration_key : lives_of longer_life 3 ≡
       record {
         number = 6;

@@ -39,23 +39,23 @@ use Rattle.mb_model_examples.specs.MemoryCounterExamples.{IsLeftOver}
 
 -- answers that no order has
 pub record OrderCounterExamples (state next : State) (text draw : List ℕ) : Type 0 where
-  -- that of a boot
+  -- the answer of a boot
   pub booted : OrderStep state text draw reply.Booted next → ⊥
   -- a refusal that changes something
   pub changed : next ≢ state → OrderStep state text draw (reply.Refused 12) next → ⊥
   -- a length that the log does not have
   pub other_length : (number size : ℕ) → size ≢ length next.log
       → OrderStep state text draw (reply.Done number size) next → ⊥
-  -- no bytes spell no order, and are not obeyed
+  -- the empty list of bytes spells no order, and is not obeyed
   pub no_bytes : (number size : ℕ) → OrderStep state [] draw (reply.Done number size) next → ⊥
 
 -- checks that an order does not fail
 pub record RefusalCounterExamples (state : State) (order : Order) : Type 0 where
-  -- a target, and it has none
+  -- a target, if the order has none
   pub no_target : (i : ℕ) → order.targets ≡ [] → Fails (view_of state) order (WrongTarget i) → ⊥
-  -- a countersignature of layer 3, and it has none
+  -- a countersignature of layer 3, if the order has none
   pub no_countersignature : order.countersignatures ≡ [] → Fails (view_of state) order (WrongCountersignature 3) → ⊥
-  -- any check, and it passes all
+  -- any check, if the order passes all
   pub passing : (refusal : Refusal) → Passes (view_of state) order → Fails (view_of state) order refusal → ⊥
 
 -- answers that no event has, and worlds to which no event leads
@@ -67,7 +67,7 @@ pub record StepCounterExamples (world next : World) : Type 0 where
   -- a stop that leaves power on, or the power loss armed
   pub stopped_on : next.phase ≡ ratchet 1 → (given : Event) → Step world given reply.Stopped next → ⊥
   pub still_armed : next.armed ≡ true → (given : Event) → Step world given reply.Stopped next → ⊥
-  -- a power loss where none is armed, and one that is not told as a stop
+  -- a power loss if none is armed, and one that is not answered as a stop
   pub unarmed : world.armed ≡ false → (given : Event) (answer : Reply) → LosesPower world given answer next → ⊥
   pub not_told : (given : Event) → LosesPower world given reply.Booted next → ⊥
 
@@ -86,7 +86,7 @@ turned_off = answered_by event.Off reply.Off
 pub record RunCounterExamples (world next : World) : Type 0 where
   -- nothing happens, and something has changed
   pub nothing : next ≢ world → Run world [] next → ⊥
-  -- the device boots twice, and power did not go off
+  -- the device boots twice, and power did not go off in between
   pub twice : Run world (booted ∷ booted ∷ []) next → ⊥
 
 -- how events are not served
@@ -100,7 +100,7 @@ pub record ServedCounterExamples (first : Option State) (final : Held) : Type 0 
   -- the device booted, and a byte of an old region is left
   pub unclean : (offset : ℕ) → life_byte final.memory.bbram ≡ 0xA5 → IsLeftOver final.memory.bbram offset
       → IsServed first (event.Boot ∷ []) (booted ∷ []) final → ⊥
-  -- and power went off after that
+  -- the device booted, power went off, and a byte of an old region is left
   pub unclean_off : (offset : ℕ) → life_byte final.memory.bbram ≡ 0xA5 → IsLeftOver final.memory.bbram offset
       → IsServed first (event.Boot ∷ event.Off ∷ []) (booted ∷ turned_off ∷ []) final → ⊥
   -- the flash begins with 300, which is no byte
@@ -118,7 +118,7 @@ pub record LogCounterExamples : Type 0 where
   -- a dead device lives again
   pub revived : (state : State) → LogGoesOn (dead_world off) (world_at off state) → ⊥
 
--- an entry does not have the key of another in charge
+-- an entry that does not have the key of another in charge
 pub record ChargeCounterExamples (log front : List SignedEntry) (namer signed : SignedEntry) : Type 0 where
   -- an entry between them replaces the key
   pub replaced : (other : SignedEntry) (key : PublicKey) → device_in other.entry ≡ Some key
@@ -131,11 +131,11 @@ pub record ChargeCounterExamples (log front : List SignedEntry) (namer signed : 
 abbrev pub stated_at : ℕ → List ℕ → Answered
 stated_at index bytes = answered_by (event.Sign 3 1 []) (reply.Signed 1 index bytes)
 
--- a key signs twice with one index
+-- a key that signs twice with one index
 pub record IndexCounterExamples (signature : List ℕ) : Type 0 where
   -- two entries with one signature, under the device key of the birth
   pub entries : SignsEntriesOnce (signed_with signature (take 3 life)) → ⊥
-  -- two statements at one index, and two of which the later has the lower
+  -- two statements at one index, and two whose later has the lower index
   pub statements : (one other : List ℕ) → SignsStatementsOnce (stated_at 4 one ∷ stated_at 4 other ∷ []) → ⊥
   pub backwards : (one other : List ℕ) → SignsStatementsOnce (stated_at 4 one ∷ stated_at 3 other ∷ []) → ⊥
   -- a statement at an index that was used before the run
@@ -143,21 +143,21 @@ pub record IndexCounterExamples (signature : List ℕ) : Type 0 where
 
 -- ---- keys and secrets
 
--- the life, and a load of layer 2 that the owner of layer 3 has not countersigned: region 3 is not kept
+-- `life`, and a load of layer 2 that the owner of layer 3 has not countersigned: region 3 is not kept
 abbrev pub betrayed_life : List Entry
 betrayed_life = life ++ Change 2 8 7 Load 2 nobody three_renewed by_two None ∷ []
 
 -- a key that is alive, and keys that are not
 pub record AliveCounterExamples : Type 0 where
   pub alive : Alive life 1 3 Epoch (officer 11)
-  -- the same key after the load of layer 2
+  -- the key of layer 3 after the load of layer 2
   pub ended : Alive betrayed_life 1 3 Epoch (officer 11) → ⊥
   -- another number, another layer, another key
   pub other_number : (kind : KeyKind) (key : PublicKey) → Alive life 2 3 kind key → ⊥
   pub other_layer : (kind : KeyKind) (key : PublicKey) → Alive life 1 2 kind key → ⊥
   pub other_key : Alive life 1 3 Epoch (officer 12) → ⊥
 
--- a region does not hold what the log tells
+-- regions that do not hold what the log says
 pub record RegionCounterExamples (signature : List ℕ) : Type 0 where
   -- a key that is alive by the log is not there
   pub missing : HoldsLivingKeys (with_regions empty_region empty_region signature) 3 → ⊥

@@ -25,13 +25,13 @@ use Rattle.mb_model_examples.specs.SegmentExamples.{only_header, only_code, nine
 -- ---- what a flash does not hold
 
 pub record HeaderCounterExamples : Type 0 where
-  -- the last byte of its word is another
+  -- the last byte of the header's word is another
   pub word : (header : Header) → HoldsHeader (with_byte 3 0x32 only_header) 0 header → ⊥
-  -- two entries are signed
+  -- the header counts two entries as signed
   pub count : HoldsHeader only_header 0 (header_of_one 2 None None) → ⊥
-  -- it stands in the other area
+  -- the header stands in the other area
   pub other_area : (header : Header) → HoldsHeader only_header 1 header → ⊥
-  -- so that header is not the only one, and this is not one that can be
+  -- a header that the area does not hold is not its only one, and a header cannot count 129 entries
   pub only : IsOnlyHeader only_header 0 (header_of_one 2 None None) → ⊥
   pub small : IsSmallHeader (header_of_one 129 None None) → ⊥
 
@@ -48,16 +48,16 @@ pub record CodeCounterExamples : Type 0 where
   pub long : (codes : Codes) (code : List ℕ) → codes.two ≡ Some code → length code ≡ 32769 → CodesFitSlots codes → ⊥
 
 pub record LogSectorCounterExamples : Type 0 where
-  -- the sector of a birth does not hold a succession, and not the birth with another signature
+  -- the sector of a birth holds neither a succession nor the birth with another signature
   pub other_entry : HoldsEntry log_bytes (signed_by_byte 0x61 succession) → ⊥
   pub other_signature : HoldsEntry log_bytes (signed_by_byte 0x62 birth) → ⊥
   pub other_bytes : SpellsLog log_bytes (signed_by_byte 0x61 succession) → ⊥
-  -- an erased sector, and one whose text spells no entry, hold none
+  -- an erased sector, and one whose text spells no entry, hold no entry
   pub erased : (signed : SignedEntry) → HoldsEntry (replicate 4096 0xFF) signed → ⊥
   pub no_entry : (signed : SignedEntry) → HoldsEntry (0 ∷ 1 ∷ 5 ∷ replicate 2348 0x61) signed → ⊥
   -- a flash that ends before its log holds no log of one entry
   pub no_sector : (signed : SignedEntry) → HoldsLog only_header (signed ∷ []) → ⊥
-  -- a log without an entry is none that a flash can hold
+  -- an empty log is none that a flash can hold
   pub empty : LogFitsSectors [] → ⊥
 
 pub record TextsCounterExamples : Type 0 where
@@ -69,10 +69,10 @@ pub record TextsCounterExamples : Type 0 where
   pub fewer : (text : List ℕ) → AreBytesOf (Some text) None [] → ⊥
   pub second : (text : List ℕ) (unsigned : List Entry) → AreBytesOf None (Some text) unsigned → ⊥
 
--- the flash that is a header holds nothing for a root
+-- a flash of nothing but a header holds nothing for a root
 pub record HoldingCounterExamples (root : Root) (codes : Codes) (signed : List SignedEntry) (unsigned : List Entry)
     : Type 0 where
-  -- its log is missing
+  -- the log of the flash is missing
   pub no_log : root.area ≡ 0 → HoldsPublic only_header root codes signed unsigned → ⊥
   -- the root names the area without a header
   pub other_area : root.area ≡ 1 → HoldsPublic only_header root codes signed unsigned → ⊥

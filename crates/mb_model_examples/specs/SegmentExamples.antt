@@ -34,7 +34,7 @@ signed_by_byte byte entry = record { entry = entry; signature = replicate 2348 b
 pub record SegmentExamples : Type 0 where
   pub header : HoldsHeader only_header 0 (header_of_one 1 None None)
   pub code : HoldsCode (only_code nine_bytes) 1 (slot_one 9) (Some nine_bytes)
-  -- whatever follows the code in its slot, and whatever follows the signature in its sector
+  -- the code may be followed by anything in its slot, and the signature by anything in its sector
   pub more_code : HoldsCode (only_code (nine_bytes ++ 7 ∷ [])) 1 (slot_one 9) (Some nine_bytes)
   pub entry : HoldsEntry (log_bytes ++ 7 ∷ []) (signed_by_byte 0x61 birth)
   pub texts : AreBytesOf (Some (bytes_of birth_digits)) (Some (bytes_of succession_digits)) (birth ∷ succession ∷ [])
@@ -44,7 +44,7 @@ abbrev pub small_flash : List ℕ
 small_flash =
     written_flash (record { one = Some nine_bytes; two = None; three = None }) (signed_by_byte 0x61 birth ∷ [])
 
--- what stands in it, at the offsets of header, code and log
+-- what stands in `small_flash`, at the offsets of header, code and log
 pub record WrittenExamples : Type 0 where
   pub header : take 24 small_flash ≡ only_header ++ 0xFF ∷ 0xFF ∷ []
   pub code : part 8192 11 small_flash ≡ nine_bytes ++ 0xFF ∷ 0xFF ∷ []

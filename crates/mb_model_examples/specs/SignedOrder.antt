@@ -1,5 +1,5 @@
--- An order with its signature, as an independent program made them; the checker verifies it. Is an order obeyed that
--- the owner signed, and is one refused of which a bit of the signature is flipped?
+-- An order with its signature, as an independent program made them; the checker verifies it. Is an order that the owner
+-- signed obeyed, and is it refused if one bit of its signature is flipped?
 use Rattle.mb_model.specs.Layers.{equal_trusts}
 use Rattle.std.specs.Prelude.{ℕ, List, [], ◌∷◌, ◌++◌, codes, None, Some}
 use Rattle.mb_model.specs.declared.key.PublicKey.{PublicKey}
@@ -97,7 +97,7 @@ unended_signature =
 abbrev pub good_signature : List ℕ
 good_signature = unended_signature ++ 0x61 ∷ []
 
--- the same with one bit flipped
+-- the signature with one bit flipped
 abbrev pub flipped_signature : List ℕ
 flipped_signature = unended_signature ++ 0x60 ∷ []
 
@@ -112,7 +112,7 @@ establish_order signature =
       countersignatures = [];
     }
 
--- the bytes of such an order: a body of 60 bytes, the length 2,348 of the signature, no countersignature
+-- the bytes of `establish_order`: a body of 60 bytes, the length 2,348 of the signature, no countersignature
 abbrev pub order_bytes : List ℕ → List ℕ
 order_bytes signature =
     bytes_of (codes "0102000000000500000003"
@@ -120,10 +120,11 @@ order_bytes signature =
     ++ codes "2e56d8e64c6a43bb1c541dc444c381d61f0ad5bca66db1d753e7a3bbdf84873c02")
     ++ 0x09 ∷ 0x2C ∷ signature ++ 0 ∷ []
 
--- the serial and the layers of a device whose layer 1 is that owner's
+-- the serial of a device whose layer 1 is owned by `owner_one`
 abbrev pub serial : List ℕ
 serial = bytes_of (codes "12d71d7255b6325df7487678010fc9db")
 
+-- the layers of a new device whose layer 1 is owned by `owner_one`
 abbrev pub first_layers : Layers
 first_layers = record at_birth { one = record (running 1 Always) { owner = Some owner_one } }
 

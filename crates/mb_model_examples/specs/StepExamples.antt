@@ -1,5 +1,5 @@
--- The machine at work on a small device; the checker computes each line. What does each event come to in each phase,
--- and what can a power loss leave?
+-- The machine at work on a small device; the checker computes each line. What does each event do in each phase, and
+-- what can a power loss leave?
 use Rattle.std.specs.Prelude.{◌≡◌, ◌⊎◌, ℕ, List, replicate, true, false, None}
 use Rattle.mb_model.specs.declared.event.Event.{Event}
 use Rattle.mb_model.specs.declared.event.Event.TheVariants as event
@@ -53,14 +53,14 @@ pub record SleepingExamples (state : State) : Type 0 where
 pub record AwakeExamples (state : State) : Type 0 where
   pub status : (r : ℕ)
       → Machine (world_at (ratchet r) state) event.Status (status_of state) (world_at (ratchet r) state)
-  -- orders are obeyed while layer 1 runs
+  -- orders are judged while layer 1 runs, and refused while a higher layer does
   pub command_at_one : (text draw : List ℕ) (answer : Reply) (next : State) → OrderStep state text draw answer next
       → Machine (world_at (ratchet 1) state) (event.Command text draw) answer (world_at (ratchet 1) next)
   pub command_at_two : (text draw : List ℕ) → Refuses (world_at (ratchet 2) state) (event.Command text draw) 2
   pub command_at_three : (text draw : List ℕ) → Refuses (world_at (ratchet 3) state) (event.Command text draw) 2
   pub go_at_three : Refuses (world_at (ratchet 3) state) event.Go 2
 
--- control goes up one layer where it may run; what is told
+-- control goes up one layer if that may run; and what `status` answers
 pub record GoExamples (signature : List ℕ) : Type 0 where
   pub at_one : Machine (world_at (ratchet 1) (alive signature)) event.Go (reply.At 2)
       (world_at (ratchet 2) (alive signature))
@@ -75,7 +75,7 @@ pub record GoExamples (signature : List ℕ) : Type 0 where
 
 -- ---- power that fails
 
--- the same device, where a power loss is armed
+-- a live device with an armed power loss
 abbrev pub armed_at : Phase → State → World
 armed_at phase state = record (world_at phase state) { armed = true }
 
@@ -83,7 +83,7 @@ armed_at phase state = record (world_at phase state) { armed = true }
 abbrev pub NeverStops : World → Event → Type 0
 NeverStops world event = (next : World) → Step world event reply.Stopped next → ⊥
 
--- where no power loss is armed no event does; with one armed only those that write do, where they are not refused
+-- events that never stop: any if no power loss is armed; off, tamper, cut, status, go and get; any that is refused
 pub record StopExamples (world : World) : Type 0 where
   pub unarmed : world.armed ≡ false → (given : Event) → NeverStops world given
   pub off_event : NeverStops world event.Off

@@ -20,9 +20,9 @@ use Rattle.mb_model_lemmas.specs.SampleOrder.{surrender, surrender_line}
 
 -- ---- lines and scripts
 
--- a text does not stand in these lines
+-- lines that a text does not have
 pub record LineCounterExamples : Type 0 where
-  -- after the last LF no line begins
+  -- no line begins after the last LF
   pub one_more : HasLines (codes "a" ++ 10 ∷ []) (codes "a" ∷ [] ∷ []) → ⊥
   -- a line has no LF
   pub glued : HasLines (codes "a" ++ 10 ∷ codes "b") ((codes "a" ++ 10 ∷ codes "b") ∷ []) → ⊥
@@ -30,7 +30,7 @@ pub record LineCounterExamples : Type 0 where
 abbrev pub boot_text : List ℕ
 boot_text = codes "boot" ++ 10 ∷ []
 
--- a text does not stand for these events, and no script gives these
+-- events that a text does not mean, and events that no script gives
 pub record ScriptCounterExamples : Type 0 where
   -- a line that says no event
   pub jump : (events : List Event) → ReadsLines IsScript (codes "boot" ++ 10 ∷ 10 ∷ codes "jump" ++ 10 ∷ []) events → ⊥
@@ -38,7 +38,7 @@ pub record ScriptCounterExamples : Type 0 where
   pub other_event : ReadsLines IsScript boot_text (event.Off ∷ []) → ⊥
   pub left_out : ReadsLines IsScript boot_text [] → ⊥
   pub added : ReadsLines IsScript boot_text (event.Boot ∷ event.Boot ∷ []) → ⊥
-  -- a line that is wrong in it
+  -- a line that is wrong, if none is
   pub wrong_line : (n : ℕ) → TextFailsAtLine IsScript boot_text n → ⊥
   -- a power loss in no write call, a region of layer 1, a number of more than 32 bits
   pub no_call : (tear : Tear) → IsScriptEvent (event.Cut 0 tear) → ⊥
@@ -50,7 +50,7 @@ pub record ScriptCounterExamples : Type 0 where
 abbrev pub surrender_lines : List (List ℕ)
 surrender_lines = codes "order surrender 2" ∷ codes "target length 7" ∷ []
 
--- lines are not the draft of an order
+-- lines that are not the draft of an order
 pub record DraftCounterExamples : Type 0 where
   -- a load without its code
   pub no_code : (order : Order)
@@ -62,35 +62,35 @@ pub record DraftCounterExamples : Type 0 where
   -- a length of more than 32 bits in a target
   pub large_length : (line : List ℕ) → SaysTarget line (target.Length 4294967296) → ⊥
 
--- lines are not those of an order, or of a statement
+-- lines that are not those of an order, or of a statement
 pub record OrderLineCounterExamples : Type 0 where
   -- no line, a line whose byte spells no order, and an order of another layer
   pub none : (order : Order) → IsOrderLine [] order → ⊥
   pub zero : (order : Order) → IsOrderLine (codes "command 00" ∷ []) order → ⊥
   pub other_layer : IsOrderLine (surrender_line ∷ []) (record surrender { layer = 3 }) → ⊥
-  -- a dash stands for no bytes, which spell no statement
+  -- a dash means no bytes, which spell no statement
   pub dash : (statement : Statement) → IsStatementLine (codes "-" ∷ []) statement → ⊥
 
 -- ---- what is drawn and made
 
--- words are not drawn for these bytes
+-- bytes that are not drawn from words
 pub record DrawCounterExamples : Type 0 where
   -- a word too few for 32 bytes
   pub few : (words bytes : List ℕ) → length words ≡ 7 → DrawnBytes 32 words bytes → ⊥
   -- other bytes than the word gives
   pub other_bytes : DrawnBytes 4 (1 ∷ []) (0 ∷ 0 ∷ 0 ∷ 2 ∷ []) → ⊥
-  -- a value of one byte, where the word says that it is empty
+  -- a value of one byte, if the word says that it is empty
   pub other_length : DrawnValue (129 ∷ []) (7 ∷ []) → ⊥
 
--- files are not those of a workload
+-- files that are not those of a workload
 pub record WorkloadCounterExamples (number rounds : ℕ) (workload : Workload) : Type 0 where
-  -- the script is empty, and the image is all zero
+  -- the script is empty, or the image is all zero
   pub no_script : workload.script ≡ [] → IsWorkload number rounds workload → ⊥
   pub blank : IsBlank workload.image → IsWorkload number rounds workload → ⊥
 
--- an image was not written from nothing for a state
+-- images that were not written from nothing for a state
 pub record BirthCounterExamples (state : State) (image : List ℕ) : Type 0 where
-  -- it is all zero, as that of no live device
+  -- the image is all zero, as that of no live device is
   pub blank : IsBlank image → IsWrittenFor state image → ⊥
   -- the device has been in use: the second area of the root is the current one
   pub used : (flash bbram : List ℕ) → IsImage image flash bbram → selector_of bbram 1 ≡ 1 → IsWrittenFor state image → ⊥

@@ -1,4 +1,4 @@
--- Texts and what they stand for; the checker computes each line. Do the definitions say what their words say?
+-- Texts and what they mean; the checker computes each line. Do the definitions say what their words say?
 use Rattle.std.specs.Prelude.{◌≡◌, ℕ, List, [], ◌∷◌, ◌++◌, replicate, codes}
 use Rattle.mb_model.specs.declared.key.Trust.TheVariants.{Never}
 use Rattle.mb_model.specs.declared.order.Act.TheVariants as act
@@ -44,7 +44,7 @@ script_events =
     ∷ event.Sign 3 1 (codes "hello")
     ∷ []
 
--- what scripts stand for, and where they fail
+-- what scripts mean, and where they fail
 pub record ScriptExamples : Type 0 where
   pub script : ReadsLines IsScript script_text script_events
   pub no_script : TextFailsAtLine IsScript (codes "boot" ++ 10 ∷ 10 ∷ codes "jump" ++ 10 ∷ []) 3
@@ -85,7 +85,7 @@ load =
       countersignatures = [];
     }
 
--- what drafts stand for, and where they fail
+-- what drafts mean, and where they fail
 pub record DraftExamples : Type 0 where
   pub surrender : IsDraft (codes "order surrender 2" ∷ codes "target length 7" ∷ []) surrender
   pub load : IsDraft (codes "order load 3" ∷ codes "version 258" ∷ codes "trust never" ∷ codes "code 616263" ∷ []) load
@@ -97,7 +97,7 @@ pub record DraftExamples : Type 0 where
 pub record OrderLineExamples : Type 0 where
   pub order : IsOrderLine (surrender_line ∷ []) surrender
   pub written : order_line surrender ≡ surrender_line
-  -- an empty line after it is line 2
+  -- an empty line after that of an order is line 2
   pub second : FailsAtLine IsOrderLine (surrender_line ∷ [] ∷ []) 2
   pub no_line : FailsAtLine IsOrderLine [] 1
   pub no_order : FailsAtLine IsOrderLine (codes "command 00" ∷ [] ∷ []) 1

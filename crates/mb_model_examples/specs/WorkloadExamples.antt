@@ -1,12 +1,13 @@
--- The generated workload at work; the checker computes each line. Does the workload come out as it is meant?
+-- The generated workload at work; the checker computes each line. Does the workload come out as intended?
 use Rattle.std.specs.Prelude.{◌≡◌, ℕ, List, [], ◌∷◌, length, replicate, codes}
 use Rattle.mb_model.specs.Workload.{generator_words, RoundDraws, Draws, round_plan, plans, signatures_by, secret_name}
 use Rattle.mb_model.specs.Workload.{workload_lines}
 
--- what might be drawn for a round, and for 24 rounds
+-- what might be drawn for a round
 abbrev pub some_round : List ℕ → RoundDraws
 some_round drawn = record { code = drawn; values = drawn ∷ drawn ∷ drawn ∷ drawn ∷ []; message = drawn }
 
+-- what might be drawn for 24 rounds
 abbrev pub some_draws : List ℕ → Draws
 some_draws drawn = record {
   root = drawn;
@@ -28,7 +29,7 @@ pub record WorkloadExamples : Type 0 where
   pub first_round : (code : List ℕ) → (round_plan 1 code).layer ≡ 3
   pub second_round : (code : List ℕ) → (round_plan 2 code).layer ≡ 2
   pub third_round : (code : List ℕ) → (round_plan 3 code).layer ≡ 1
-  -- of the 32 signatures of each officer's key, 24 rounds take no more
+  -- 24 rounds take no more than the 32 signatures of each officer's key
   pub by_one : (drawn : List ℕ) → signatures_by 1 (plans (some_draws drawn)) ≡ 10
   pub by_two : (drawn : List ℕ) → signatures_by 2 (plans (some_draws drawn)) ≡ 18
   pub by_three : (drawn : List ℕ) → signatures_by 3 (plans (some_draws drawn)) ≡ 25

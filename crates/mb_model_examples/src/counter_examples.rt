@@ -47,7 +47,7 @@ pub fn write_counter_examples()
     ensures writes { WriteCounterExamples }
 {}
 
-/// Answers that a board takes.
+/// What a board does not show, and answers that it may not give.
 pub fn answer_counter_examples()
     ensures wiping { WipingCounterExamples }
     ensures answers { (standing now : Held) → AnswerCounterExamples standing now }
@@ -80,7 +80,7 @@ pub fn chain_counter_examples()
     ensures forged { (maker : PublicKey) (birth forged : SignedEntry) → ForgedCounterExamples maker birth forged }
 {}
 
-/// Ends of commands.
+/// How commands do not end, and what hosts do not do.
 pub fn command_counter_examples()
     ensures statuses { (past : Past) (e : Ended) → StatusCounterExamples past e }
     ensures commands { (past : Past) (e : Ended) (text : List ℕ) → CommandCounterExamples past e text }

@@ -1,4 +1,4 @@
-//! Events: what each comes to in each phase, what layers do, and what power that fails leaves.
+//! Events: what each comes to in each phase, what layers do, and what a power loss leaves.
 
 ghost use Rattle.std.specs.Prelude.{List, ℕ};
 ghost use Rattle.mb_model.specs.Machine.{World};
@@ -28,7 +28,7 @@ pub fn power_examples()
     ensures { (world : World) → StopExamples world }
 {}
 
-/// What a stop leaves, where a power loss is armed: the state as it was, or as it would have become, and no other.
+/// What a stop leaves if a power loss is armed: the state as it was, or as it would have become, and no other.
 pub fn stopped_examples()
     ensures { (signature : List ℕ) → StoppedExamples signature }
 {}

@@ -1,4 +1,4 @@
-//! Orders: for which check each is refused, and what one that passes comes to.
+//! Orders: for which check each is refused, and what an order that passes does.
 
 ghost use Rattle.std.specs.Prelude.{List, ℕ};
 ghost use Rattle.mb_model_examples.specs.SignedOrder.{VerifiedOrders};
@@ -10,7 +10,7 @@ pub fn refused_orders()
     ensures later { (signature by_owner : List ℕ) → LaterRefusals signature by_owner }
 {}
 
-/// What an order that passes is answered, and what it leaves of regions and layers.
+/// How an order that passes is answered, and what it leaves of regions and layers.
 pub fn obeyed_orders()
     ensures answered { (signature by_owner : List ℕ) → ObeyedOrders signature by_owner }
     ensures left { (signature by_owner draw : List ℕ) → LeavingExamples signature by_owner draw }
@@ -21,7 +21,7 @@ pub fn succession_examples()
     ensures { (signature by_owner : List ℕ) → SuccessionExamples signature by_owner }
 {}
 
-/// An order whose signature the checker verifies is obeyed, and refused where one bit of the signature is flipped.
+/// An order whose signature the checker verifies is obeyed, and refused if one bit of the signature is flipped.
 pub fn verified_orders()
     ensures { (signature draw : List ℕ) → VerifiedOrders signature draw }
 {}

@@ -4,8 +4,8 @@ ghost use Rattle.mb_model_examples.specs.RecordExamples.{KeyRecords, LayerRecord
 ghost use Rattle.mb_model_examples.specs.SegmentExamples.{SegmentExamples, WrittenExamples};
 ghost use Rattle.mb_model_examples.specs.HeaderExamples.{HeaderRecords, LogRecords, FailingHeaders};
 
-/// How keys, layers, entries, roots, regions, statements, chains, the public record and the signed part of orders are
-/// spelled, by an independent program.
+/// How an independent program spelled keys, layers, entries, roots, regions, statements, chains, the public record and
+/// the signed part of orders.
 pub fn records_are_spelled()
     ensures keys { KeyRecords }
     ensures layers { LayerRecords }
@@ -23,7 +23,7 @@ pub fn failing_records()
     ensures { FailingRecords }
 {}
 
-/// How headers of a flash in segments and a sector of its log are spelled, by an independent program.
+/// How an independent program spelled headers of a flash in segments and a sector of its log.
 pub fn headers_are_spelled()
     ensures headers { HeaderRecords }
     ensures log { LogRecords }

@@ -19,7 +19,7 @@ pub fn target_examples()
     ensures { (serial : List ℕ) → TargetExamples serial }
 {}
 
-/// How layers stand.
+/// How layers stand: unowned, unreliable, reliable, or runnable.
 pub fn standing_examples()
     ensures { StandingExamples }
 {}
@@ -34,7 +34,7 @@ pub fn change_examples()
     ensures { AfterExamples }
 {}
 
-/// What the entries of a device's life say together, and the configurations in which its keys lived.
+/// What the entries of a device's history say together, and the configurations in which its keys lived.
 pub fn life_examples()
     ensures log { LogExamples }
     ensures ruled { RuledLog life }

@@ -3,7 +3,7 @@
 ghost use Rattle.mb_model_examples.specs.TextExamples.{LineExamples, ScriptExamples, DrawExamples, ReplyExamples, DraftExamples, OrderLineExamples, ListingExamples};
 ghost use Rattle.mb_model_examples.specs.WorkloadExamples.{WorkloadExamples};
 
-/// Which lines texts have, what some scripts and drafts stand for and where they fail, and lines that are printed.
+/// Which lines texts have, what some scripts and drafts mean and where they fail, and lines that are printed.
 pub fn text_examples()
     ensures lines { LineExamples }
     ensures scripts { ScriptExamples }

@@ -1,4 +1,4 @@
--- Laws of chains: each has one verdict at most, and an accepted one tells what its device tells. Can one chain be taken
+-- Laws of chains: each has one verdict at most, and an accepted one says what its device says. Can one chain be taken
 -- for two?
 use Rattle.std.specs.Prelude.{◌≡◌, ℕ, List, ◌++◌}
 use Rattle.mb_format.specs.Format.{IsBytes}
@@ -19,19 +19,19 @@ NeverBoth =
     (root : PublicKey) (bytes : List ℕ) (n : ℕ) (report : Report) (refusal : ChainRefusal) → IsBytes bytes
     → Accepts root bytes n report → IsRefused root bytes n refusal → ⊥
 
--- and never neither accepted nor refused
+-- bytes are never neither accepted nor refused
 abbrev pub NeverNeither : Type 0
 NeverNeither =
     (root : PublicKey) (bytes : List ℕ) (n : ℕ) → IsBytes bytes → ((report : Report) → Accepts root bytes n report → ⊥)
     → ((refusal : ChainRefusal) → IsRefused root bytes n refusal → ⊥) → ⊥
 
--- they are refused for one thing at most
+-- bytes are refused for one thing at most
 abbrev pub OneRefusal : Type 0
 OneRefusal =
     (root : PublicKey) (bytes : List ℕ) (n : ℕ) (a b : ChainRefusal) → IsBytes bytes
     → IsRefused root bytes n a → IsRefused root bytes n b → a ≡ b
 
--- and say one thing at most of a key
+-- accepted bytes say one thing at most of a key
 abbrev pub OneReport : Type 0
 OneReport =
     (root : PublicKey) (bytes : List ℕ) (n : ℕ) (a b : Report) → IsBytes bytes
@@ -43,14 +43,14 @@ AcceptedIsRuled =
     (root : PublicKey) (bytes : List ℕ) (n : ℕ) (report : Report) (accepts : Accepts root bytes n report)
     → RuledLog (entries_of accepts.chain.entries)
 
--- each of them follows from those before it, as in the log of a device
+-- each entry of an accepted chain follows from those before it, as in the log of a device
 abbrev pub AcceptedFollows : Type 0
 AcceptedFollows =
     (root : PublicKey) (bytes : List ℕ) (n : ℕ) (report : Report) (accepts : Accepts root bytes n report)
     → EachFollows accepts.chain.entries
 
--- Where no entry was forged, the entries of an accepted chain are the first of its device's log, and the key lived as
--- these tell.
+-- If no entry was forged, the entries of an accepted chain are a prefix of its device's log, and the key lived as these
+-- say.
 abbrev pub HonestIsPrefix : Type 0
 HonestIsPrefix =
     (root : PublicKey) (bytes : List ℕ) (n : ℕ) (report : Report) (accepts : Accepts root bytes n report)
@@ -58,8 +58,8 @@ HonestIsPrefix =
     → (past : List Entry) × (later : List Entry) × (entries_of log ≡ past ++ later)
     × (past ≡ entries_of accepts.chain.entries) × (report.lives ≡ lives_of past n)
 
--- So a verdict on a chain is all that an audit needs: where the chain is accepted and no entry of it was forged, it
--- tells of the device.
+-- A verdict on a chain is all that an audit needs: if the chain is accepted and no entry of it was forged, it describes
+-- the device.
 abbrev pub VerdictsAreAudits : Type 0
 VerdictsAreAudits =
     (state : State) (maker : PublicKey) (bytes : List ℕ) (n : ℕ) (verdict : Verdict)

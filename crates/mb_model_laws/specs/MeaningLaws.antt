@@ -15,13 +15,13 @@ use Rattle.mb_model.specs.Factory.{state_at_birth, IsFactoryImage}
 
 -- ---- memories
 
--- the bytes of a memory hold one contents at most
+-- the bytes of a memory hold at most one `Contents`
 abbrev pub HoldsOneContents : Type 0
 HoldsOneContents =
     (flash bbram : List ℕ) (a b : Contents) → IsBytes flash → IsBytes bbram
     → HoldsContents flash bbram a → HoldsContents flash bbram b → a ≡ b
 
--- and stand for one state
+-- the bytes of a memory stand for one state at most
 abbrev pub StandsForOne : Type 0
 StandsForOne =
     (flash bbram : List ℕ) (a b : Option State) → IsBytes flash → IsBytes bbram
@@ -34,7 +34,7 @@ abbrev pub OneFaultBy : FlashForm → Type 0
 OneFaultBy Form =
     (image : List ℕ) (a b : Fault) → IsBytes image → HasFaultBy Form image a → HasFaultBy Form image b → a ≡ b
 
--- a well-formed one has none
+-- a well-formed image has no fault
 abbrev pub WellFormedHasNoFaultBy : FlashForm → Type 0
 WellFormedHasNoFaultBy Form =
     (image : List ℕ) (state : Option State) (fault : Fault) → IsBytes image
@@ -46,13 +46,13 @@ WellFormedOrFaultyBy Form =
     (image : List ℕ) → ((state : Option State) → IsWellFormedBy Form image state → ⊥)
     → ((fault : Fault) → HasFaultBy Form image fault → ⊥) → ⊥
 
--- a well-formed one stands for one state
+-- a well-formed image stands for one state
 abbrev pub WellFormedStandsForOneBy : FlashForm → Type 0
 WellFormedStandsForOneBy Form =
     (image : List ℕ) (a b : Option State) → IsBytes image
     → IsWellFormedBy Form image a → IsWellFormedBy Form image b → a ≡ b
 
--- the same of the present form
+-- an image of bytes in the present form of the flash has one fault at most
 abbrev pub OneFault : Type 0
 OneFault = OneFaultBy HoldsPublic
 
@@ -67,7 +67,7 @@ WellFormedStandsForOne = WellFormedStandsForOneBy HoldsPublic
 
 -- ---- memories that are clean or written
 
--- a memory that is clean for a state stands for it, where the flash holds its codes and its log as the root names it
+-- a memory that is clean for a state stands for it, if the flash holds its codes and its log as the root names them
 abbrev pub CleanStandsForIt : Type 0
 CleanStandsForIt =
     (flash bbram : List ℕ) (state : State) (clean : IsCleanFor bbram state) → length flash ≡ 1048576

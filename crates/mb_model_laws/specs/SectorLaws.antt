@@ -9,7 +9,7 @@ pub record IsSlotOf (layer slot : ℕ) : Type 0 where
   pub least_slot : 1 ≤ slot
   pub most_slot : slot ≤ 2
 
--- of two slots that are not one and the same, the eight sectors of one end before those of the other begin
+-- of two different slots, the eight sectors of one end before those of the other begin
 abbrev pub SlotsAreApart : Type 0
 SlotsAreApart =
     (layer slot other_layer other_slot : ℕ) → IsSlotOf layer slot → IsSlotOf other_layer other_slot

@@ -15,7 +15,7 @@ StepsStayValid =
     (world : World) (event : Event) (answer : Reply) (next : World) → Valid world.state → Step world event answer next
     → Valid next.state
 
--- and so does a run
+-- each run from a valid state leads to a valid state
 abbrev pub RunsStayValid : Type 0
 RunsStayValid =
     (world : World) (answered : List Answered) (next : World) → Valid world.state → Run world answered next

@@ -1,4 +1,4 @@
--- Laws of texts, each proved on a public function of its own. Does a text say one thing?
+-- Laws of texts, each proved on a public function. Does a text say one thing?
 use Rattle.std.specs.Prelude.{◌≡◌, ℕ, ◌+◌, ◌≤◌, false, List, [], ◌∷◌, ◌++◌, length, replicate, All}
 use Rattle.hex.specs.Hex.{IsBytes}
 use Rattle.mb_model.specs.declared.event.Event.{Event}
@@ -16,8 +16,7 @@ use Rattle.mb_model.specs.Texts.{IsHex}
 use Rattle.mb_model.specs.Lines.{HasLines, hex_word, number_limit, FailsAtLine, ReadsLines, TextFailsAtLine}
 use Rattle.mb_model.specs.Script.{IsScriptEvent, SaysEvent, is_skipped, IsScript, drawn_event, drawn_events, Drawn}
 
--- A text stands for one value, or one line of it is the first that is wrong: never for two, never both, and there is no
--- text of which neither is so.
+-- A text means one value, or one line of it is the first that is wrong: never two of either, never both, never neither.
 pub record IsClearText {A : Type 0} (Grammar : List (List ℕ) → A → Type 0) : Type 0 where
   pub one_value : (text : List ℕ) (a b : A) → ReadsLines Grammar text a → ReadsLines Grammar text b → a ≡ b
   pub one_line : (text : List ℕ) (m n : ℕ) → TextFailsAtLine Grammar text m → TextFailsAtLine Grammar text n → m ≡ n
@@ -29,11 +28,11 @@ pub record IsClearText {A : Type 0} (Grammar : List (List ℕ) → A → Type 0)
 abbrev pub SomeLines : Type 0
 SomeLines = (text : List ℕ) → (lines : List (List ℕ)) × HasLines text lines
 
--- and no others
+-- a text has one list of lines at most
 abbrev pub OneListOfLines : Type 0
 OneListOfLines = (text : List ℕ) (a b : List (List ℕ)) → HasLines text a → HasLines text b → a ≡ b
 
--- the word that is written of bytes is read as these bytes
+-- the hexadecimal word of bytes is read back as these bytes
 abbrev pub WordsAreReadBack : Type 0
 WordsAreReadBack = (bytes : List ℕ) → IsBytes bytes → IsHex (hex_word bytes) bytes
 
@@ -42,13 +41,13 @@ abbrev pub ScriptsGiveScriptEvents : Type 0
 ScriptsGiveScriptEvents =
     (lines : List (List ℕ)) (events : List Event) → IsScript lines events → All IsScriptEvent events
 
--- and so it is with its draw
+-- each event that a line can give stays one with its draw
 abbrev pub DrawsKeepScriptEvents : Type 0
 DrawsKeepScriptEvents =
     (events : List Event) (noise : List ℕ) (drawn : List Event) → All IsScriptEvent events → Drawn events noise drawn
     → All IsScriptEvent drawn
 
--- all lists of bytes in an event are of bytes
+-- the fill, text, value or message of an event is a list of bytes
 abbrev pub HoldsBytes : Event → Type 0
 HoldsBytes event.Boot = Unit {0}
 HoldsBytes event.Off = Unit {0}
@@ -67,11 +66,11 @@ abbrev pub undrawn : Event → Event
 undrawn (event.Command text draw) = event.Command text (replicate 32 0)
 undrawn other = other
 
--- an event that a line can give, some line does
+-- each event that a line can give, and that holds bytes, is said by some line
 abbrev pub ScriptEventsAreSaid : Type 0
 ScriptEventsAreSaid = (e : Event) → IsScriptEvent e → HoldsBytes e → (line : List ℕ) × SaysEvent line (undrawn e)
 
--- one event more, and its draw: those before it keep theirs
+-- one more event gets its draw, and those before it keep theirs
 abbrev pub DrawsInTurn : Type 0
 DrawsInTurn =
     (noise : List ℕ) (events : List Event) (e : Event)
@@ -87,19 +86,19 @@ TooManyEvents =
     (lines later : List (List ℕ)) (line : List ℕ) (events : List Event) → IsScript lines events → length events ≡ 65536
     → is_skipped line ≡ false → FailsAtLine IsScript (lines ++ line ∷ later) (length lines + 1)
 
--- a line after that of an order, be it empty, is wrong
+-- a line after that of an order, even an empty one, is wrong
 abbrev pub SecondOrderLine : Type 0
 SecondOrderLine =
     (line other : List ℕ) (later : List (List ℕ)) (order : Order) → IsOrderLine (line ∷ []) order
     → FailsAtLine IsOrderLine (line ∷ other ∷ later) 2
 
--- and so is one after that of a statement
+-- a line after that of a statement, even an empty one, is wrong
 abbrev pub SecondStatementLine : Type 0
 SecondStatementLine =
     (line other : List ℕ) (later : List (List ℕ)) (statement : Statement) → IsStatementLine (line ∷ []) statement
     → FailsAtLine IsStatementLine (line ∷ other ∷ later) 2
 
--- where the first line is that of no order, it is wrong, whatever stands after it
+-- a first line that is not that of an order is wrong, whatever stands after it
 abbrev pub FirstOrderLine : Type 0
 FirstOrderLine =
     (line : List ℕ) (later : List (List ℕ)) → ((order : Order) → IsOrderLine (line ∷ []) order → ⊥)
@@ -128,7 +127,7 @@ IsReplyInRange reply.NoMemory = Unit {0}
 abbrev pub RepliesDiffer : Type 0
 RepliesDiffer = (a b : Reply) → IsReplyInRange a → IsReplyInRange b → reply_line a ≡ reply_line b → a ≡ b
 
--- what is drawn for a workload, its number and the number of its rounds say
+-- the number of a workload and the number of its rounds determine what is drawn for it
 abbrev pub OneWorkload : Type 0
 OneWorkload =
     (number rounds : ℕ) (v w : List ℕ) (d e : Draws) → v ≡ generator_words number (length v)

@@ -15,7 +15,7 @@ use Rattle.mb_model.specs.Log.{is_version_two, RuledLog}
 use Rattle.mb_model.specs.LayerFormat.{layer_format}
 use Rattle.mb_model.specs.OrderFormat.{given_trusts}
 
--- with equal trusts layer 3 admits a change of layer 1 exactly where it would admit the same of layer 2
+-- with equal trusts layer 3 admits a change of layer 1 exactly if it would admit the same change of layer 2
 abbrev pub EqualTrustsAreOneTrust : Type 0
 EqualTrustsAreOneTrust =
     (layers : Layers) (kind : ChangeKind) (cosigned : Pair) → layers.three.trust.one ≡ layers.three.trust.two
@@ -46,7 +46,7 @@ version_in (Change version position number kind layer cosigned layers kept next)
 version_in (NewKey position number key_number layer kind key) = None
 version_in (Succession position key) = None
 
--- by a log that obeys the rules, each birth or change after an entry of version 2 has version 2
+-- in a log that obeys the rules, each birth or change after an entry of version 2 has version 2
 abbrev pub VersionsOnlyRise : Type 0
 VersionsOnlyRise =
     (before between after : List Entry) (entry later : Entry) (version : ℕ)
@@ -62,7 +62,7 @@ VersionOneHasEqualTrusts =
 abbrev pub TrustsCanBeGiven : Type 0
 TrustsCanBeGiven = (trusts : Trusts) → (given_trusts (not (are_equal trusts))).Allowed trusts
 
--- and in no other
+-- two trusts can be given in no form of an order but the one that fits them
 abbrev pub TrustsHaveOneForm : Type 0
 TrustsHaveOneForm =
     (differs : Bool) (trusts : Trusts) → (given_trusts differs).Allowed trusts → not (are_equal trusts) ≡ differs

@@ -1,4 +1,4 @@
-//! Laws of the chains of certificates.
+//! Laws of chains and of the verdicts on them.
 
 ghost use Rattle.mb_model_laws.specs.ChainLaws.{NeverBoth, NeverNeither, OneRefusal, OneReport, AcceptedIsRuled, AcceptedFollows, HonestIsPrefix, VerdictsAreAudits};
 
@@ -17,8 +17,8 @@ pub fn accepted_chains_obey_the_rules()
     ensures follows { AcceptedFollows }
 {}
 
-/// An accepted chain, none of whose entries was forged, is the beginning of its device's log. So a verdict on it is what
-/// an audit of the device finds.
+/// An accepted chain without a forged entry is a prefix of its device's log. A verdict on a chain is what an audit of
+/// the device finds.
 pub fn honest_chains_tell_of_their_device()
     ensures prefix { HonestIsPrefix }
     ensures audited { VerdictsAreAudits }

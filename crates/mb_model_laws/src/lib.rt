@@ -1,7 +1,7 @@
 //! What the definitions of the machine give: laws of layers, logs, keys, regions, memories, chains and texts.
 //!
-//! This crate owns no type and does nothing when it runs, and no crate stands on it, so that a new law proves no
-//! other crate anew. Each law stands on a function with an empty body.
+//! This crate owns no type and does nothing when it runs, and no crate stands on it, so that no other crate has to be
+//! proved anew for a new law. Each law stands on a function with an empty body.
 #![tactic(auto)]
 
 mod alive;

@@ -5,7 +5,7 @@ ghost use Rattle.mb_model.specs.OldFlash.{HeldPublic};
 ghost use Rattle.mb_model_lemmas.specs.FormLaws.{HoldsOnePublic, HoldsFittingParts};
 ghost use Rattle.mb_model_lemmas.specs.ImageLaws.{WrittenMemoriesAreSized, WrittenMemoryIsClean, WrittenImagesAreWellFormed};
 
-/// The bytes of a memory hold one contents at most, and stand for one state only.
+/// The bytes of a memory hold at most one `Contents`, and stand for at most one state.
 pub fn one_meaning()
     ensures contents { HoldsOneContents }
     ensures state { StandsForOne }
@@ -20,8 +20,8 @@ pub fn images_are_clear()
     ensures state { WellFormedStandsForOne }
 {}
 
-/// An image of the form of the flash before segments has one fault at most, or else is well formed and stands for one
-/// state. A flash of that form holds one list of codes and one log for a root, for which a device has room.
+/// An image whose flash has the form before segments has one fault at most, or else is well formed and stands for one
+/// state. For a root, a flash of that form holds one list of codes and one log, for which a device has room.
 pub fn old_images_are_clear()
     ensures public { HoldsOnePublic HeldPublic }
     ensures fit { HoldsFittingParts HeldPublic }
@@ -31,15 +31,16 @@ pub fn old_images_are_clear()
     ensures state { WellFormedStandsForOneBy HeldPublic }
 {}
 
-/// A memory that is clean for a state stands for it, where the public record is in the flash; one that is all zero is
-/// clean for the dead device alone.
+/// A memory that is clean for a state stands for it, if the flash holds the state's codes and log. A memory that is all
+/// zero is clean for the dead device alone.
 pub fn clean_memories_stand_for_it()
     ensures live { CleanStandsForIt }
     ensures dead { BlankIsDead }
 {}
 
 /// An image that is written from nothing, for a state that fits it, has two memories of their lengths, the
-/// battery-backed one clean for that state. It is well formed if the state is valid, and so is the image of a dead device.
+/// battery-backed one clean for that state. The image is well formed if the state is valid, and so is that of a dead
+/// device.
 pub fn written_images_are_well_formed()
     ensures sized { WrittenMemoriesAreSized }
     ensures clean { WrittenMemoryIsClean }

@@ -2,8 +2,8 @@
 
 ghost use Rattle.mb_model_lemmas.specs.ReaderLaws.{NoLivesUnmade, FirstSight, FirstLife, FirstAlive, StaysMade, StaysAlive, LivesOn, MadeKeysStandInTheLog, FlaggedKeysLive, LivingKeysAreFlagged};
 
-/// What a log says of one key, until an entry makes it: nothing; and then what this entry says, and its first
-/// configuration.
+/// Until an entry makes a key, a log says nothing of it. The log with that entry says what the entry says: the key,
+/// which is alive, and its first configuration.
 pub fn a_key_is_met_once()
     ensures none { NoLivesUnmade }
     ensures key { FirstSight }
@@ -11,15 +11,15 @@ pub fn a_key_is_met_once()
     ensures alive { FirstAlive }
 {}
 
-/// What a log that obeys the rules says of a key that is made, with one more entry: the same, and that it is alive until an
-/// entry ends it, and lives in what entries open until then. So one pass with a flag tells all.
+/// One more entry, in a log that obeys the rules, says nothing else of a key that is made. The key is alive until an
+/// entry ends it, and lives in what entries open until then, so that one pass with a flag finds everything.
 pub fn a_key_lives_on()
     ensures key { StaysMade }
     ensures alive { StaysAlive }
     ensures lives { LivesOn }
 {}
 
-/// A key that is made stands in the log, and it is flagged exactly where it is alive.
+/// A key that is made stands in the log, and it is flagged exactly if it is alive.
 pub fn the_flag_is_life()
     ensures stands { MadeKeysStandInTheLog }
     ensures flagged { FlaggedKeysLive }

@@ -2,8 +2,8 @@
 
 ghost use Rattle.mb_model_lemmas.specs.RegionLaws.{ChangesKeepRegionsValid, NewKeysKeepRegionsValid, OtherKeysKeepRegionsValid, SuccessionsKeepRegionsValid, OtherEntriesKeepRegionsValid, PutsKeepRegionsValid, DropsKeepRegionsValid, UsesKeepRegionsValid, ValidLogsAreRuled, RegionsOfValidStates, StatesWithAnotherRegion, PutsKeepStatesValid, GetsKeepStatesValid, DropsKeepStatesValid, SignsKeepStatesValid, SuccessionsKeepBothValid, ChangesKeepBothValid, NewKeysKeepBothValid, RegionNumbersIncrease, HighNumbersAreNotThere, KeysAreFoundByNumber, KeysAreUsedByNumber, TwiceFatedIsFated, KeptIsAsBefore, ChangesAreFates, NewKeysAreFates, ChangedStatesAreFated, KeyedStatesAreFated, RegionKeysLive, LivingKeysStand};
 
-/// A region that a device can have stays one, and one that its log tells of, over each entry of the log: a change, a new
-/// key of its layer or of the other, a succession, and any other that neither changes a layer nor makes a key of it.
+/// A region that a device with some log can have stays one over each further entry: a change, a new key of its layer or
+/// of another, a succession, and any other that neither changes a layer nor makes a key of its layer.
 pub fn regions_stay_valid()
     ensures change { ChangesKeepRegionsValid }
     ensures new_key { NewKeysKeepRegionsValid }
@@ -12,14 +12,16 @@ pub fn regions_stay_valid()
     ensures other { OtherEntriesKeepRegionsValid }
 {}
 
-/// So it does over what its layer does, where that runs: a secret is put, one is dropped, a key is used.
+/// A region that a device can have stays one over what its layer does, if that may run: it puts a secret, drops one, or
+/// uses a key.
 pub fn layers_keep_regions_valid()
     ensures put { PutsKeepRegionsValid }
     ensures drop { DropsKeepRegionsValid }
     ensures used { UsesKeepRegionsValid }
 {}
 
-/// The log of a valid state obeys the rules, each of its regions is valid, and it stays valid with another valid region.
+/// The log of a valid state obeys the rules, each of its regions is valid, and the state stays valid with another valid
+/// region.
 pub fn valid_states_have_valid_regions()
     ensures log { ValidLogsAreRuled }
     ensures region { RegionsOfValidStates }
@@ -51,7 +53,7 @@ pub fn region_keys_have_numbers()
     ensures used { KeysAreUsedByNumber }
 {}
 
-/// What is to be done to a region is one of four fates. One that is done twice is done once.
+/// What is to be done to a region is one of four fates. A fate that is done twice leaves what it leaves when done once.
 pub fn fates_are_done_once()
     ensures twice { TwiceFatedIsFated }
     ensures kept { KeptIsAsBefore }
@@ -59,13 +61,13 @@ pub fn fates_are_done_once()
     ensures new_key { NewKeysAreFates }
 {}
 
-/// What an order leaves of both regions is such a fate of each.
+/// What an order leaves of each region is what one of four fates leaves of it.
 pub fn orders_are_fates()
     ensures changed { ChangedStatesAreFated }
     ensures keyed { KeyedStatesAreFated }
 {}
 
-/// A key stands in a valid region exactly where it is alive by the log.
+/// A key stands in a valid region exactly if it is alive by the log.
 pub fn region_keys_are_alive()
     ensures standing { RegionKeysLive }
     ensures living { LivingKeysStand }

@@ -3,15 +3,15 @@
 ghost use Rattle.mb_model_lemmas.specs.SegmentLaws.{AreasHoldOneHeader, SegmentsHoldOne, BadLogSectorsHoldNothing, HeldHeadersAreSmall, HeldLogsAreAllowed, HeldTextsAreAllowed, HeldCodesAreShort, HeldSegmentsFit, WrittenEntriesAreHeld, EntriesFitTheirSectors, WrittenFlashIsWhole, WrittenFlashHolds};
 ghost use Rattle.mb_model_memory.specs.FlashLaws.{AgreeingFlashesHoldTheSame, AgreementKeepsTheLog, FlashesAgreeWithThemselves, AgreementGoesOn, AgreementGoesBack, UncountedSectorsAreFree, OtherHeadersAreFree, UnnamedSlotsAreFree, OrdersAreHeld, OrderWritesAreHeld, EntriesHaveTexts, OrdersBringShortCode, OrderHeadersAreAllowed, SettledHeadersAreAllowed, LogWritesAppend, SettledLogsAreHeld, SettlingOneIsHeld, SettlingTwoIsHeld};
 
-/// A flash in segments has one header in an area, and holds one list of codes and one list of entries for a root. It holds
-/// nothing if the header counts a sector of the log that holds no entry.
+/// A header area of a flash in segments holds one header at most. For a root, the flash holds one list of codes and one
+/// list of entries at most, and nothing if the header counts a sector of the log that holds no entry.
 pub fn segments_hold_one()
     ensures header { AreasHoldOneHeader }
     ensures segments { SegmentsHoldOne }
     ensures nothing { BadLogSectorsHoldNothing }
 {}
 
-/// What a flash in segments holds fits a flash: headers name slots and counts that there are, entries have spellings, and
+/// What a flash in segments holds fits a flash: headers name slots and counts that can be, entries have spellings, and
 /// codes fit their slots.
 pub fn held_segments_fit()
     ensures headers { HeldHeadersAreSmall }
@@ -39,8 +39,8 @@ pub fn agreeing_flashes_hold_the_same()
     ensures back { AgreementGoesBack }
 {}
 
-/// Three kinds of places can be written, and torn, without an effect on what is held: sectors of the log that the header
-/// does not count, the other header area, and code slots that the header does not name.
+/// Three parts of a flash can be written, and torn, without an effect on what is held: sectors of the log that the
+/// header does not count, the other header area, and code slots that the header does not name.
 pub fn free_places_can_be_written()
     ensures log { UncountedSectorsAreFree }
     ensures header { OtherHeadersAreFree }

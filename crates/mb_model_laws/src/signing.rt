@@ -18,15 +18,15 @@ pub fn signatures_bear_their_index()
     ensures sized { (key : KeySeed) (q : ℕ) (text : List ℕ) → length (signature_of key q text) ≡ 2348 }
 {}
 
-/// A node of a key's tree is the leaf of a one-time key from number 32 on, and stands over two nodes below that (RFC
-/// 8554, section 5.3).
+/// A node of a key's tree is the leaf of a one-time key if its number is 32 or more, and else the hash of the two nodes
+/// under it (RFC 8554, section 5.3).
 pub fn nodes_are_leaves_or_inner()
     ensures leaf { LeavesAreOfOneTimeKeys }
     ensures inner { InnerNodesHashTwo }
 {}
 
-/// Keys that are made of noise have an identifier of 16 bytes and a seed of 32. The public key of a key with such an
-/// identifier has the sizes of one.
+/// Keys that are derived from noise have an identifier of 16 bytes and a seed of 32. The public key of a key with such
+/// an identifier has the right sizes.
 pub fn keys_are_sized()
     ensures born { (draw serial : List ℕ) (n : ℕ) → IsSizedSeed (born_key draw serial n) }
     ensures officer { (noise : List ℕ) → IsSizedSeed (officer_key noise) }

@@ -8,7 +8,7 @@ pub fn states_stay_valid()
     ensures run { RunsStayValid }
 {}
 
-/// An order that is obeyed appends one entry of its own, after that of a succession where one is needed.
+/// An order that is obeyed appends one entry of its own, after that of a succession if one is needed.
 pub fn orders_append_their_entry()
     ensures { OrdersAppendTheirEntry }
 {}

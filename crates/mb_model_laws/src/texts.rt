@@ -1,4 +1,4 @@
-//! Laws of texts: what their lines stand for, and worked examples.
+//! Laws of texts: what their lines mean.
 
 ghost use Rattle.mb_model.specs.Script.{IsScript};
 ghost use Rattle.mb_model.specs.Drafts.{IsDraft};
@@ -11,18 +11,21 @@ pub fn texts_have_lines()
     ensures one { OneListOfLines }
 {}
 
-/// A script stands for at most one list of events, at most one line of it is the first that is wrong, and never both.
+/// A text means one list of events as a script, or one line of it is the first that is wrong: never two of either,
+/// never both, never neither.
 pub fn scripts_are_clear()
     ensures { IsClearText IsScript }
 {}
 
-/// A draft stands for at most one order, at most one line of it is the first that is wrong, and never both.
+/// A text means one order as a draft, or one line of it is the first that is wrong: never two of either, never both,
+/// never neither.
 pub fn drafts_are_clear()
     ensures { IsClearText IsDraft }
 {}
 
-/// The same holds of the lines of orders and of statements. A line after one of them, be it empty, is line 2. A first line
-/// that is not that of an order is line 1, whatever follows it.
+/// A text means one order as an order line, or one line of it is the first that is wrong, and likewise for a statement
+/// line. A line after such a line, even an empty one, is wrong: it is line 2. A first line that is no order line is
+/// wrong, whatever follows it.
 pub fn order_lines_are_clear()
     ensures order { IsClearText IsOrderLine }
     ensures statement { IsClearText IsStatementLine }
@@ -36,12 +39,12 @@ pub fn events_are_bounded()
     ensures { TooManyEvents }
 {}
 
-/// What is written of bytes in hexadecimal is read as these bytes.
+/// Bytes that are written in hexadecimal are read back as these bytes.
 pub fn words_are_read_back()
     ensures { WordsAreReadBack }
 {}
 
-/// The line of a reply tells it from every other.
+/// No two replies have one line.
 pub fn replies_differ()
     ensures { RepliesDiffer }
 {}
@@ -51,7 +54,8 @@ pub fn refusals_have_words()
     ensures { RefusalsHaveWords }
 {}
 
-/// What a script gives, and what a line can give, are the same, also with draws.
+/// Each event that a script gives is one that a line can give, and stays one with its draw. Each event that a line can
+/// give, and that holds bytes, is said by some line.
 pub fn script_events()
     ensures given { ScriptsGiveScriptEvents }
     ensures said { ScriptEventsAreSaid }
@@ -64,7 +68,7 @@ pub fn draws_in_turn()
     ensures count { DrawsKeepCount }
 {}
 
-/// What is drawn for a workload, its number and the number of its rounds say.
+/// The number of a workload and the number of its rounds determine what is drawn for it.
 pub fn one_workload()
     ensures { OneWorkload }
 {}

@@ -2,8 +2,8 @@
 
 ghost use Rattle.mb_model_laws.specs.TrustLaws.{EqualTrustsAreOneTrust, TrustInTwoLeavesOne, TrustInOneLeavesTwo, VersionsOnlyRise, VersionOneHasEqualTrusts, TrustsCanBeGiven, TrustsHaveOneForm};
 
-/// Layers 1 and 2 are trusted by themselves. What layer 3 trusts in changes of one decides nothing about changes of the
-/// other, and if its trusts are equal it admits a change of layer 1 exactly if it would admit the same of layer 2.
+/// Layers 1 and 2 are trusted separately. What layer 3 trusts in changes of one decides nothing about changes of the
+/// other. If its trusts are equal, it admits a change of layer 1 exactly if it would admit the same change of layer 2.
 pub fn each_layer_is_trusted_by_itself()
     ensures one { TrustInTwoLeavesOne }
     ensures two { TrustInOneLeavesTwo }

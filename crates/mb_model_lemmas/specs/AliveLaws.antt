@@ -1,5 +1,5 @@
 -- Laws of the keys that are alive by a log and of their configurations, entry by entry. Can a reader that goes over a
--- log once tell them?
+-- log once find them?
 use Rattle.std.specs.Prelude.{◌≡◌, ℕ, ◌<◌, ◌≤◌, ◌==◌, Bool, false, not, List, [], ◌∷◌, ◌++◌, filter, All, AllPairs}
 use Rattle.std.specs.Prelude.{Contains, IsTrue, if◌then◌else◌}
 use Rattle.std.specs.List.{list_all}
@@ -10,7 +10,8 @@ use Rattle.mb_model.specs.declared.entry.Entry.TheVariants.{Birth, Change, NewKe
 use Rattle.mb_model.specs.declared.state.Configuration.{Configuration}
 use Rattle.mb_model.specs.Layers.{is_upper}
 use Rattle.mb_model.specs.Log.{layers_of, keys_made_by, RuledLog}
-use Rattle.mb_model.specs.Lives.{ends_keys, Alive, configuration, configurations_opened_by, lives_of, MadeKey, alive_keys}
+use Rattle.mb_model.specs.Lives.{ends_keys, Alive, configuration, configurations_opened_by, lives_of, MadeKey}
+use Rattle.mb_model.specs.Lives.{alive_keys}
 
 -- the entry does not end the key, which is one of layer L
 abbrev pub goes_on : ℕ → Entry → MadeKey → Bool
@@ -62,7 +63,7 @@ abbrev pub AliveNumbersIncrease : Type 0
 AliveNumbersIncrease =
     (log : List Entry) (L : ℕ) → RuledLog log → AllPairs (λ a b. a.number < b.number) (alive_keys log L)
 
--- and the next key's number is above them all
+-- the next key's number is above those of all keys that are alive
 abbrev pub AliveNumbersAreBelowTheNext : Type 0
 AliveNumbersAreBelowTheNext =
     (log : List Entry) (L : ℕ) → RuledLog log → All (λ key. key.number < keys_made_by log) (alive_keys log L)
@@ -75,14 +76,14 @@ HighNumbersAreUnmade = (log : List Entry) (n : ℕ) → RuledLog log → keys_ma
 abbrev pub UnmadeKeysHaveNoLives : Type 0
 UnmadeKeysHaveNoLives = (log : List Entry) (n : ℕ) → IsUnmade log n → lives_of log n ≡ []
 
--- Where an entry makes a key, that entry's number and the layers that stand are its first configuration.
+-- A key that a log's last entry makes has one configuration: that entry's number, with the layers that stand.
 abbrev pub LivesOfANewKey : Type 0
 LivesOfANewKey =
     (log : List Entry) (position number n L : ℕ) (kind : KeyKind) (key : PublicKey)
     → RuledLog (log ++ NewKey position number n L kind key ∷ [])
     → lives_of (log ++ NewKey position number n L kind key ∷ []) n ≡ configuration L number (layers_of log) ∷ []
 
--- A later entry adds the configuration that it opens, where neither it nor one since the key's own ended the key.
+-- A later entry adds the configuration that it opens, if neither it nor one since the key's own ended the key.
 abbrev pub LivesAfterOneMore : Type 0
 LivesAfterOneMore =
     (log before later : List Entry) (position number n L : ℕ) (kind : KeyKind) (key : PublicKey) (entry : Entry)

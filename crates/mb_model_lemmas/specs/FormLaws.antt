@@ -1,4 +1,4 @@
--- What is asked of a form of the flash. Does a flash of that form hold one log, which a device has room for?
+-- What a form of the flash has to satisfy. Does a flash of that form hold one log, which a device has room for?
 use Rattle.std.specs.Prelude.{◌≡◌, ◌≤◌, ◌+◌, ℕ, List, length, All}
 use Rattle.mb_format.specs.Format.{IsBytes}
 use Rattle.mb_model.specs.declared.limits.TheConstants.{ENTRY_LIMIT}
@@ -25,7 +25,7 @@ pub record PublicPartsFit (codes : Codes) (signed : List SignedEntry) (unsigned 
   pub unsigned_allowed : All entry_format.Allowed unsigned
   pub together : length signed + length unsigned ≤ ENTRY_LIMIT
 
--- all that a flash holds by this form fits so
+-- the parts that a flash holds by this form fit
 abbrev pub HoldsFittingParts : FlashForm → Type 0
 HoldsFittingParts Form =
     (flash : List ℕ) (root : Root) (codes : Codes) (signed : List SignedEntry) (unsigned : List Entry)

@@ -14,12 +14,12 @@ abbrev pub WrittenMemoriesAreSized : Type 0
 WrittenMemoriesAreSized =
     (state : State) → FitsImage state → AreSized (written_flash state.codes state.log) (written_bbram state)
 
--- The battery-backed memory is clean for the state, with a root that names area 0 of the flash.
+-- The battery-backed memory that is written for a state is clean for it, with a root that names area 0 of the flash.
 abbrev pub WrittenMemoryIsClean : Type 0
 WrittenMemoryIsClean =
     (state : State) → FitsImage state → (clean : IsCleanFor (written_bbram state) state) × (clean.area ≡ 0)
 
--- The image is well formed, for a valid state that fits an image and for the dead device.
+-- The image that is written is well formed, for a valid state that fits an image and for the dead device.
 abbrev pub WrittenImagesAreWellFormed : Type 0
 WrittenImagesAreWellFormed =
     (state : Option State) → IfSome state FitsImage → Valid state → IsWellFormed (written_image state) state

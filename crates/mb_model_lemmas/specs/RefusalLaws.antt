@@ -1,5 +1,4 @@
--- Laws of the machine: what a refusal leaves, and that an event comes to one thing. Can a refused event change
--- anything?
+-- Laws of the machine: what a refusal leaves, and that an event has one outcome. Can a refused event change anything?
 use Rattle.std.specs.Prelude.{◌≡◌, ℕ, ◌≤◌, ◌⊎◌, List, None}
 use Rattle.mb_format.specs.Format.{IsBytes}
 use Rattle.mb_model.specs.declared.event.Event.{Event}
@@ -14,29 +13,29 @@ use Rattle.mb_model.specs.OrderChecks.{Fails, Passes}
 use Rattle.mb_model.specs.OrderStep.{OrderStep}
 use Rattle.mb_model.specs.Machine.{Phase, off, dead, ratchet, World, Machine, Step}
 
--- the phase is the same, but where a dead device is booted, which is then on
+-- the phase is the same, except that a dead device that is booted is then on
 abbrev pub PhaseStays : World → Event → World → Type 0
 PhaseStays world given next =
     (next.phase ≡ world.phase)
     ⊎ ((given ≡ event.Boot) × (world.state ≡ None) × (world.phase ≡ off) × (next.phase ≡ dead))
 
--- an event leaves the state, and whether a power loss is armed, and the phase
+-- an event leaves the state, whether a power loss is armed, and the phase
 pub record Leaves (world : World) (given : Event) (next : World) : Type 0 where
   pub state : next.state ≡ world.state
   pub armed : next.armed ≡ world.armed
   pub phase : PhaseStays world given next
 
--- a refused event does
+-- a refused event leaves the state, whether a power loss is armed, and the phase
 abbrev pub RefusalsLeave : Type 0
 RefusalsLeave =
     (world : World) (given : Event) (n : ℕ) (next : World) → Step world given (reply.Refused n) next
     → Leaves world given next
 
--- one for which no memory is found leaves all
+-- an event for which no memory is found changes nothing
 abbrev pub NoMemoryLeaves : Type 0
 NoMemoryLeaves = (world : World) (given : Event) (next : World) → Step world given reply.NoMemory next → next ≡ world
 
--- the machine's own answer is never that memory is wanting, or that power failed
+-- the machine's own answer is never that memory is lacking, or that power failed
 abbrev pub MachineIsWhole : Type 0
 MachineIsWhole =
     (world : World) (given : Event) (answer : Reply) (next : World) → Machine world given answer next
@@ -46,7 +45,7 @@ MachineIsWhole =
 abbrev pub OneFailure : Type 0
 OneFailure = (view : View) (order : Order) (a b : Refusal) → Fails view order a → Fails view order b → a ≡ b
 
--- and none where it passes
+-- an order that passes fails no check
 abbrev pub PassesFailNothing : Type 0
 PassesFailNothing =
     (view : View) (order : Order) (refusal : Refusal) → Passes view order → Fails view order refusal → ⊥
@@ -62,12 +61,12 @@ OneOrderStep =
     (state : State) (text draw : List ℕ) (a b : Reply) (m n : State) → IsBytes text
     → OrderStep state text draw a m → OrderStep state text draw b n → (a ≡ b) × (m ≡ n)
 
--- where it brings an order, the event brings bytes
+-- if an event brings an order, it brings bytes
 abbrev pub BringsBytes : Event → Type 0
 BringsBytes (event.Command text draw) = IsBytes text
 BringsBytes given = Unit {0}
 
--- an event comes to one thing
+-- an event has one answer of the machine, and leads to one world
 abbrev pub MachineIsFunction : Type 0
 MachineIsFunction =
     (world : World) (given : Event) (a b : Reply) (m n : World) → BringsBytes given
@@ -79,13 +78,13 @@ IsPhase off = Unit {0}
 IsPhase dead = Unit {0}
 IsPhase (ratchet r) = (1 ≤ r) × (r ≤ 3)
 
--- each step leaves that so
+-- if a layer that runs is layer 1, 2 or 3, so it is after each step
 abbrev pub PhasesStayPhases : Type 0
 PhasesStayPhases =
     (world : World) (given : Event) (answer : Reply) (next : World) → IsPhase world.phase → Step world given answer next
     → IsPhase next.phase
 
--- and then no event is without an answer
+-- if a layer that runs is layer 1, 2 or 3, no event is without an answer
 abbrev pub MachineAnswers : Type 0
 MachineAnswers =
     (world : World) (given : Event) → IsPhase world.phase → BringsBytes given

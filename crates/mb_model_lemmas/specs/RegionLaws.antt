@@ -1,5 +1,5 @@
 -- Laws of the regions: each stays one that a device can have, whatever is done. Does a region ever hold what its log
--- does not tell?
+-- does not say?
 use Rattle.std.specs.Prelude.{◌≡◌, ◌≢◌, ℕ, ◌+◌, ◌<◌, ◌≤◌, false, not, List, [], ◌∷◌, ◌++◌, length, map}
 use Rattle.std.specs.Prelude.{filter, find, AllPairs, Contains, Option, None, Some, IsTrue}
 use Rattle.std.specs.List.{list_any}
@@ -27,7 +27,8 @@ use Rattle.mb_model.specs.Regions.{region_after, with_key}
 use Rattle.mb_model.specs.Signing.{public_of}
 use Rattle.mb_model.specs.Regions.{region_of, with_region}
 use Rattle.mb_model.specs.OrderChecks.{view_of}
-use Rattle.mb_model.specs.OrderEffects.{key_made, cosigners_of, state_after_succession, state_after_change, state_after_new_key}
+use Rattle.mb_model.specs.OrderEffects.{key_made, cosigners_of, state_after_succession, state_after_change}
+use Rattle.mb_model.specs.OrderEffects.{state_after_new_key}
 use Rattle.mb_model.specs.LayerEvents.{Outcome, has_name, with_secret, has_number, with_use, put_event, get_event}
 use Rattle.mb_model.specs.LayerEvents.{drop_event, sign_event, on_region}
 use Rattle.mb_model.specs.Fates.{change_fate, key_fate}
@@ -44,7 +45,7 @@ with_change log layers version position number kind k cosigned new next =
     let now = after layers kind k cosigned new in
     log ++ Change version position number kind k cosigned now (kept_regions layers kind k cosigned) next ∷ []
 
--- a change of any layer, with what it leaves of the region
+-- a valid region stays valid over a change of any layer, as the change leaves it
 abbrev pub ChangesKeepRegionsValid : Type 0
 ChangesKeepRegionsValid =
     (log : List Entry) (layers : Layers) (version position number : ℕ) (kind : ChangeKind) (k : ℕ) (cosigned : Pair)
@@ -55,22 +56,23 @@ ChangesKeepRegionsValid =
     (with_change log layers version position number kind k cosigned new next) (after layers kind k cosigned new) L
     (region_after layers kind k cosigned L region)
 
--- the log with the next key, and this key as it stands in its region
+-- the log with the next key
 abbrev pub with_new_key : List Entry → ℕ → ℕ → KeyKind → KeySeed → List Entry
 with_new_key log position L kind seed =
     log ++ NewKey position (number_of log) (keys_made_by log) L kind (public_of seed) ∷ []
 
+-- the next key as it stands in its region, without uses
 abbrev pub unused_key : List Entry → KeyKind → KeySeed → RegionKey
 unused_key log kind seed = record { number = keys_made_by log; kind = kind; seed = seed; uses = 0 }
 
--- a new key of the layer, with the key that the region gets
+-- a valid region stays valid with a new key of its layer, which it gets
 abbrev pub NewKeysKeepRegionsValid : Type 0
 NewKeysKeepRegionsValid =
     (log : List Entry) (layers : Layers) (position L : ℕ) (kind : KeyKind) (seed : KeySeed) (region : Region)
     → RuledLog log → Condition layers None L → length region.keys < 8 → IsValidRegion log layers L region
     → IsValidRegion (with_new_key log position L kind seed) layers L (with_key (unused_key log kind seed) region)
 
--- a new key of another layer
+-- a valid region stays valid over a new key of another layer
 abbrev pub OtherKeysKeepRegionsValid : Type 0
 OtherKeysKeepRegionsValid =
     (log : List Entry) (layers : Layers) (position number key_number other : ℕ) (kind : KeyKind) (key : PublicKey)
@@ -78,14 +80,14 @@ OtherKeysKeepRegionsValid =
     → other ≢ L → IsValidRegion log layers L region
     → IsValidRegion (log ++ NewKey position number key_number other kind key ∷ []) layers L region
 
--- any entry that is no change and makes no key of the layer
+-- a valid region stays valid over any entry that is no change and makes no key of its layer
 abbrev pub OtherEntriesKeepRegionsValid : Type 0
 OtherEntriesKeepRegionsValid =
     (log : List Entry) (layers : Layers) (entry : Entry) (L : ℕ) (region : Region)
     → is_change entry ≡ false → made_by L entry ≡ []
     → IsValidRegion log layers L region → IsValidRegion (log ++ entry ∷ []) layers L region
 
--- a succession
+-- a valid region stays valid over a succession
 abbrev pub SuccessionsKeepRegionsValid : Type 0
 SuccessionsKeepRegionsValid =
     (log : List Entry) (layers : Layers) (position : ℕ) (key : PublicKey) (L : ℕ) (region : Region)
@@ -93,13 +95,13 @@ SuccessionsKeepRegionsValid =
 
 -- ---- what layers do
 
--- the region with this secret, put at the configuration that the log tells
+-- the region with this secret, put at the configuration that the log says
 abbrev pub with_put_secret : List Entry → List ℕ → List ℕ → Region → Region
 with_put_secret log name value region =
     let secret : Secret = record { name = name; value = value; born = number_of log } in
     record region { secrets = with_secret secret region.secrets }
 
--- a secret that is put
+-- a valid region stays valid with a secret that is put
 abbrev pub PutsKeepRegionsValid : Type 0
 PutsKeepRegionsValid =
     (log : List Entry) (layers : Layers) (L : ℕ) (name value : List ℕ) (region : Region)
@@ -111,14 +113,14 @@ abbrev pub without_secret : List ℕ → Region → Region
 without_secret name region =
     record region { secrets = filter (λ secret. not (has_name name secret)) region.secrets }
 
--- a secret that is dropped
+-- a valid region stays valid without a secret that is dropped
 abbrev pub DropsKeepRegionsValid : Type 0
 DropsKeepRegionsValid =
     (log : List Entry) (layers : Layers) (L : ℕ) (name : List ℕ) (region : Region)
     → IsTrue (is_upper L) → Runnable layers L → IsValidRegion log layers L region
     → IsValidRegion log layers L (without_secret name region)
 
--- a key that is used
+-- a valid region stays valid with a use of a key
 abbrev pub UsesKeepRegionsValid : Type 0
 UsesKeepRegionsValid =
     (log : List Entry) (layers : Layers) (L number : ℕ) (region : Region)
@@ -133,7 +135,7 @@ RegionsOfValidStates =
     (state : State) (L : ℕ) → IsTrue (is_upper L) → IsValidState state
     → IsValidRegion (entries_of state.log) state.layers L (region_of state L)
 
--- a valid state stays one with another valid region
+-- a valid state stays valid with another valid region
 abbrev pub StatesWithAnotherRegion : Type 0
 StatesWithAnotherRegion =
     (state : State) (L : ℕ) (region : Region) → IsTrue (is_upper L) → IsValidState state
@@ -143,7 +145,7 @@ StatesWithAnotherRegion =
 abbrev pub ValidLogsAreRuled : Type 0
 ValidLogsAreRuled = (state : State) → IsValidState state → RuledLog (entries_of state.log)
 
--- a valid state stays one, where a layer does this with region L, or is refused
+-- a valid state stays valid if a layer does this with region L, or is refused
 abbrev pub KeepsStatesValid : ℕ → (State → Outcome) → Type 0
 KeepsStatesValid L event =
     (state : State) (ratchet : ℕ) → IsValidState state → IsValidState (on_region ratchet L event state).1
@@ -165,19 +167,19 @@ pub record HasValidRegions (state : State) : Type 0 where
   pub two : IsValidRegion (entries_of state.log) state.layers 2 state.two
   pub three : IsValidRegion (entries_of state.log) state.layers 3 state.three
 
--- the device key gives way to the next
+-- both regions stay valid when the device key gives way to the next
 abbrev pub SuccessionsKeepBothValid : Type 0
 SuccessionsKeepBothValid =
     (state : State) (draw : List ℕ) → HasValidRegions state → HasValidRegions (state_after_succession state draw)
 
--- an order changes a layer
+-- both regions stay valid when an order changes a layer
 abbrev pub ChangesKeepBothValid : Type 0
 ChangesKeepBothValid =
     (state : State) (kind : ChangeKind) (order : Order) (draw : List ℕ) → change_of (kind_of order.act) ≡ Some kind
     → state.layers ≡ layers_of (entries_of state.log) → HasValidRegions state
     → HasValidRegions (state_after_change state kind order draw)
 
--- an order makes a key
+-- both regions stay valid when an order makes a key
 abbrev pub NewKeysKeepBothValid : Type 0
 NewKeysKeepBothValid =
     (state : State) (L : ℕ) (kind : KeyKind) (draw : List ℕ)
@@ -193,20 +195,20 @@ RegionNumbersIncrease =
     (log : List Entry) (L : ℕ) (keys : List RegionKey) → RuledLog log → map as_made keys ≡ alive_keys log L
     → AllPairs (λ a b. a.number < b.number) keys
 
--- none of them has the number of the next key, or one above
+-- no key of a region has the number of the next key, or one above
 abbrev pub HighNumbersAreNotThere : Type 0
 HighNumbersAreNotThere =
     (log : List Entry) (L n : ℕ) (keys : List RegionKey) → RuledLog log → map as_made keys ≡ alive_keys log L
     → keys_made_by log ≤ n → list_any (has_number n) keys ≡ false
 
--- where numbers increase, a key is found by its number
+-- if numbers increase, a key is found by its number
 abbrev pub KeysAreFoundByNumber : Type 0
 KeysAreFoundByNumber =
     (front : List RegionKey) (key : RegionKey) (rest : List RegionKey)
     → AllPairs (λ a b. a.number < b.number) (front ++ key ∷ rest)
     → find (has_number key.number) (front ++ key ∷ rest) ≡ Some key
 
--- and used alone
+-- if numbers increase, a use by number counts for that key alone
 abbrev pub KeysAreUsedByNumber : Type 0
 KeysAreUsedByNumber =
     (front : List RegionKey) (key : RegionKey) (rest : List RegionKey)
@@ -215,23 +217,23 @@ KeysAreUsedByNumber =
 
 -- ---- fates
 
--- a fate that is done twice is done once
+-- a fate that is done twice leaves what it leaves when done once
 abbrev pub TwiceFatedIsFated : Type 0
 TwiceFatedIsFated =
     (fate : Fate) (region : Region)
     → region_after_fate fate (region_after_fate fate region) ≡ region_after_fate fate region
 
--- where a region is kept, it stays as it is
+-- a region that is kept stays as it is
 abbrev pub KeptIsAsBefore : Type 0
 KeptIsAsBefore = (region : Region) → region_after_fate Keep region ≡ region
 
--- a change has such a fate for each region
+-- what a change leaves of a region is what a fate leaves of it
 abbrev pub ChangesAreFates : Type 0
 ChangesAreFates =
     (layers : Layers) (kind : ChangeKind) (k : ℕ) (cosigned : Pair) (L : ℕ) (region : Region)
     → region_after layers kind k cosigned L region ≡ region_after_fate (change_fate layers kind k cosigned L) region
 
--- a new key is added, where none has its number
+-- a new key is added by a fate, if no key has its number
 abbrev pub NewKeysAreFates : Type 0
 NewKeysAreFates =
     (key : RegionKey) (region : Region) → list_any (has_number key.number) region.keys ≡ false
@@ -242,7 +244,7 @@ pub record AreFated (before after : State) (two three : Fate) : Type 0 where
   pub two_is : after.two ≡ region_after_fate two before.two
   pub three_is : after.three ≡ region_after_fate three before.three
 
--- an order that changes a layer
+-- an order that changes a layer leaves both regions as its fates say
 abbrev pub ChangedStatesAreFated : Type 0
 ChangedStatesAreFated =
     (state : State) (kind : ChangeKind) (order : Order) (draw : List ℕ)
@@ -250,7 +252,7 @@ ChangedStatesAreFated =
     (change_fate state.layers kind order.layer (cosigners_of order) 2)
     (change_fate state.layers kind order.layer (cosigners_of order) 3)
 
--- an order that makes a key
+-- an order that makes a key leaves both regions as its fates say
 abbrev pub KeyedStatesAreFated : Type 0
 KeyedStatesAreFated =
     (state : State) (L : ℕ) (kind : KeyKind) (draw : List ℕ) (key : RegionKey) → IsTrue (is_upper L)
@@ -266,7 +268,7 @@ RegionKeysLive =
     (log : List Entry) (layers : Layers) (L : ℕ) (region : Region) (key : RegionKey) → IsValidRegion log layers L region
     → Contains region.keys key → Alive log key.number L key.kind (public_of key.seed)
 
--- and a key that is alive by the log stands there
+-- a key that is alive by the log stands in the valid region of its layer
 abbrev pub LivingKeysStand : Type 0
 LivingKeysStand =
     (log : List Entry) (layers : Layers) (L : ℕ) (region : Region) (n : ℕ) (kind : KeyKind) (public : PublicKey)

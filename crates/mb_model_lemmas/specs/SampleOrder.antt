@@ -1,4 +1,4 @@
--- An order and its line, so that there is one to speak of.
+-- An order and its line, for examples.
 use Rattle.std.specs.Prelude.{ℕ, List, [], ◌∷◌, codes}
 use Rattle.mb_model.specs.declared.order.Act.TheVariants as act
 use Rattle.mb_model.specs.declared.order.Order.{Order}

@@ -47,7 +47,7 @@ BadLogSectorsHoldNothing =
 
 -- ---- what a flash holds has a spelling
 
--- the numbers of a header name slots that there are, and a log that there can be
+-- the numbers of a header name slots that exist, and a log that there can be
 pub record IsSmallHeader (header : Header) : Type 0 where
   pub one : header.one.which ≤ 2
   pub two : header.two.which ≤ 2
@@ -55,7 +55,7 @@ pub record IsSmallHeader (header : Header) : Type 0 where
   pub least : 1 ≤ header.signed
   pub most : header.signed ≤ ENTRY_LIMIT
 
--- so it is with each header in its area
+-- the numbers of each header in an area name slots that exist, and a log that there can be
 abbrev pub HeldHeadersAreSmall : Type 0
 HeldHeadersAreSmall =
     (flash : List ℕ) (area : ℕ) (header : Header) → HoldsHeader flash area header → IsSmallHeader header
@@ -65,7 +65,7 @@ abbrev pub HeldLogsAreAllowed : Type 0
 HeldLogsAreAllowed =
     (flash : List ℕ) (log : List SignedEntry) → HoldsLog flash log → All signed_entry_format.Allowed log
 
--- so has each entry that the texts of a header spell
+-- each entry that the texts of a header spell is allowed
 abbrev pub HeldTextsAreAllowed : Type 0
 HeldTextsAreAllowed =
     (first second : Option (List ℕ)) (unsigned : List Entry) → AreBytesOf first second unsigned
@@ -98,7 +98,7 @@ pub record SpellsLog (bytes : List ℕ) (signed : SignedEntry) : Type 0 where
   pub whole : Spells log_format bytes (text, signed.signature)
   pub entry : Spells entry_format text signed.entry
 
--- bytes that begin with such bytes hold the entry
+-- bytes that begin with an entry's text and signature hold the entry
 abbrev pub WrittenEntriesAreHeld : Type 0
 WrittenEntriesAreHeld =
     (bytes front : List ℕ) (signed : SignedEntry) → SpellsLog front signed → take (length front) bytes ≡ front
@@ -118,7 +118,7 @@ WrittenFlashIsWhole =
     (codes : Codes) (log : List SignedEntry) → CodesFitSlots codes → LogFitsSectors log
     → length (written_flash codes log) ≡ FLASH_LENGTH
 
--- it holds its codes and its log for a root that names area 0 and has no pending work
+-- a flash that is written from nothing holds its codes and its log for a root that names area 0 and has no pending work
 abbrev pub WrittenFlashHolds : Type 0
 WrittenFlashHolds =
     (codes : Codes) (log : List SignedEntry) → CodesFitSlots codes → LogFitsSectors log

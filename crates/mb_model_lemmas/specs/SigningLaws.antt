@@ -1,4 +1,4 @@
--- Laws of signing by a key of types 5 and 3, each proved on a public function of its own. Does what is signed verify?
+-- Laws of signing by a key of types 5 and 3, each proved on a public function. Does what is signed verify?
 use Rattle.std.specs.Prelude.{◌≡◌, ◌<◌, ◌≤◌, ℕ, ◌+◌, ◌-◌, ◌*◌, ◌^◌, List, length}
 use Rattle.mb_model.specs.declared.key.KeySeed.{KeySeed}
 use Rattle.mb_model.specs.Merkle.{leaf_node, inner_node, leaf_number, Verifies}

@@ -1,5 +1,5 @@
--- How an event is answered that has its outcome in a state, and what a power loss leaves of it. Is an answer only given
--- of what is stored?
+-- How an event with a given outcome is answered, and what a power loss leaves of it. Is an answer given only once its
+-- outcome is stored?
 use Rattle.std.specs.Prelude.{◌≡◌, ◌⊎◌, Bool, true, false, Result, Ok, Err, IsTrue}
 use Rattle.mb_model.specs.declared.reply.Reply.{Reply}
 use Rattle.mb_model.specs.declared.reply.Reply.TheVariants as reply
@@ -13,7 +13,7 @@ use Rattle.mb_model_memory.specs.Holding.{Means, IsReady}
 pub data IsAnswered (outcome : Outcome) (answer : Reply) (before after : Memory) : Type 0 where
   -- an allocation failed, and nothing has changed
   lacks : answer ≡ reply.NoMemory → after ≡ before → IsAnswered outcome answer before after
-  -- it is the outcome's, and the memory is ready with the outcome's state
+  -- the answer is the outcome's, and the memory is ready with the outcome's state
   tells : answer ≡ outcome.0 → IsReady after outcome.1 → IsAnswered outcome answer before after
 
 -- Power failed while an event with this outcome was done: it counts wholly or not at all.
@@ -26,12 +26,12 @@ abbrev pub ComesTo : {S E : Type 0} → State → Outcome → Memory → Memory 
 ComesTo state outcome before after (Ok told) = IsAnswered outcome told.1 before after
 ComesTo state outcome before after (Err stop) = IsCutShort state outcome after
 
--- the answer is to an event that may have written: it says so, or power failed
+-- the answer is one to an event that writes, or says that power failed
 abbrev pub may_have_written : Reply → Bool
 may_have_written reply.Stopped = true
 may_have_written other = may_be_cut other
 
--- where the answer is none of those to events that write, nothing was written
+-- if the answer is none of those to events that write, nothing was written
 abbrev pub TellsOfWrites : {S E : Type 0} → Result (S × Reply) E → Memory → Memory → Meter → Meter → Type 0
 TellsOfWrites (Ok told) before after old new = may_be_cut told.1 ≡ false → (after ≡ before) × (new ≡ old)
 TellsOfWrites (Err stop) before after old new = Unit {0}

@@ -35,19 +35,19 @@ CommitsMeanTheirOrder =
     → Passes (view_of state) order
     → state_of_contents (committed state order draw area) ≡ state_after_order state order draw
 
--- its unsigned entries are as many as its root says, and can be signed
+-- the unsigned entries of a commit are as many as its root says, and can be signed
 abbrev pub CommitsAreCounted : Type 0
 CommitsAreCounted =
     (state : State) (order : Order) (draw : List ℕ) (area : ℕ)
     → AreCounted (root_for state order draw area).pending (new_entries state order draw)
 
--- and where the device key signs, its root has used an index for that
+-- if the device key signs the entries of a commit, the root has used an index for that
 abbrev pub CommitsHaveAnIndex : Type 0
 CommitsHaveAnIndex =
     (state : State) (order : Order) (draw : List ℕ) (area : ℕ)
     → HasIndex (root_for state order draw area) (root_for state order draw area).pending
 
--- so a memory that holds it stands for the state after the order
+-- a memory that holds what is committed stands for the state after the order
 abbrev pub CommittedMemoriesStand : Type 0
 CommittedMemoriesStand =
     (flash bbram : List ℕ) (state : State) (order : Order) (draw : List ℕ) (area : ℕ) → AreSized flash bbram
@@ -61,53 +61,53 @@ CommittedMemoriesStand =
 abbrev pub TwoDoneMeansTheSame : Type 0
 TwoDoneMeansTheSame = (contents : Contents) → state_of_contents (two_done contents) ≡ state_of_contents contents
 
--- or what is to be done to region 3
+-- contents mean the same, once what is to be done to region 3 is done
 abbrev pub ThreeDoneMeansTheSame : Type 0
 ThreeDoneMeansTheSame = (contents : Contents) → state_of_contents (three_done contents) ≡ state_of_contents contents
 
--- or both
+-- contents mean the same, once what is to be done to both regions is done
 abbrev pub BothDoneMeansTheSame : Type 0
 BothDoneMeansTheSame = (contents : Contents) → state_of_contents (both_done contents) ≡ state_of_contents contents
 
--- and once each entry is signed, in either area of the flash, and nothing is pending
+-- contents mean the same, once each entry is signed, in either area of the flash, and nothing is pending
 abbrev pub SettledMeansTheSame : Type 0
 SettledMeansTheSame =
     (contents : Contents) (area : ℕ)
     → state_of_contents (at_rest (state_of_contents contents) area) ≡ state_of_contents contents
 
--- so a memory stands for one state, however far the work has come
+-- a memory stands for one state, however far the work has come
 abbrev pub WorkUnderWayStands : Type 0
 WorkUnderWayStands =
     (flash bbram : List ℕ) (contents now : Contents) → AreSized flash bbram
     → HasIndex contents.root contents.root.pending → IsUnderWay contents now → HoldsContents flash bbram now
     → StandsFor flash bbram (Some (state_of_contents contents))
 
--- and what is done again, wherever the work was broken off, ends where it would have ended
+-- work that is done again, wherever it was broken off, ends where it would have ended
 abbrev pub WorkEndsTheSame : Type 0
 WorkEndsTheSame = (contents now : Contents) → IsUnderWay contents now → both_done now ≡ both_done contents
 
 -- ---- nothing is pending
 
--- what is stored of a state where nothing is pending means that state
+-- what is stored of a state with nothing pending means that state
 abbrev pub RestMeansItsState : Type 0
 RestMeansItsState =
     (state : State) (area : ℕ) → state.layers ≡ layers_of (entries_of state.log)
     → state_of_contents (at_rest state area) ≡ state
 
--- so a memory that holds it stands for that state
+-- a memory that holds what is stored of a state with nothing pending stands for that state
 abbrev pub RestingMemoriesStand : Type 0
 RestingMemoriesStand =
     (flash bbram : List ℕ) (state : State) (area : ℕ) → AreSized flash bbram
     → state.layers ≡ layers_of (entries_of state.log) → HoldsContents flash bbram (at_rest state area)
     → StandsFor flash bbram (Some state)
 
--- contents of which nothing is pending are just that of the state that they mean
+-- contents with nothing pending are just what is stored of the state that they mean
 abbrev pub NothingPendingIsRest : Type 0
 NothingPendingIsRest =
     (contents : Contents) → contents.root.pending ≡ None → AreCounted contents.root.pending contents.unsigned
     → contents ≡ at_rest (state_of_contents contents) contents.root.area
 
--- a memory that is clean for a state, and stands for it, holds just that
+-- a memory that is clean for a state, and stands for it, holds just what is stored of it with nothing pending
 abbrev pub CleanMemoriesAreAtRest : Type 0
 CleanMemoriesAreAtRest =
     (flash bbram : List ℕ) (state : State) (clean : IsCleanFor bbram state) → IsBytes bbram
@@ -122,13 +122,13 @@ AgreeingMemoriesStandForOne =
     → AgreeInForce flash bbram other_flash other_bbram
     → StandsFor flash bbram (Some state) → StandsFor other_flash other_bbram (Some state)
 
--- whichever of the two comes first
+-- agreement of the bytes in force goes both ways
 abbrev pub AgreementGoesBothWays : Type 0
 AgreementGoesBothWays =
     (flash bbram other_flash other_bbram : List ℕ) → AgreeInForce flash bbram other_flash other_bbram
     → AgreeInForce other_flash other_bbram flash bbram
 
--- of a dead device the flash counts for nothing
+-- the flash of a dead device counts for nothing
 abbrev pub DeadFlashIsAny : Type 0
 DeadFlashIsAny =
     (flash bbram other_flash : List ℕ) → AreSized other_flash bbram
@@ -136,22 +136,24 @@ DeadFlashIsAny =
 
 -- ---- one piece after another
 
--- where the area in force of slot 2 holds another region, and all else in force is as it was, the contents are the same
--- but for that region
+-- If the current area of slot 2 holds another region, and all else in force is as it was, the contents are the same but
+-- for that region.
 abbrev pub TwoIsReplaced : Type 0
 TwoIsReplaced =
     (flash bbram other_bbram : List ℕ) (contents : Contents) (region : Region) → AgreeBesides 2 bbram other_bbram
     → HoldsRegion (area_of_slot other_bbram 2) region → HoldsContents flash bbram contents
     → HoldsContents flash other_bbram (record contents { two = region })
 
--- so it is with region 3
+-- If the current area of slot 3 holds another region, and all else in force is as it was, the contents are the same but
+-- for that region.
 abbrev pub ThreeIsReplaced : Type 0
 ThreeIsReplaced =
     (flash bbram other_bbram : List ℕ) (contents : Contents) (region : Region) → AgreeBesides 3 bbram other_bbram
     → HoldsRegion (area_of_slot other_bbram 3) region → HoldsContents flash bbram contents
     → HoldsContents flash other_bbram (record contents { three = region })
 
--- and with the root, where the area of the flash that it names holds codes and entries
+-- If the current area of slot 1 holds another root, for which the flash holds codes and entries, and all else in force
+-- is as it was, the contents are the same but for root, codes and entries.
 abbrev pub RootIsReplaced : Type 0
 RootIsReplaced =
     (flash bbram other_bbram : List ℕ) (contents : Contents) (root : Root) (codes : Codes) (signed : List SignedEntry)
@@ -161,7 +163,7 @@ RootIsReplaced =
     → HoldsContents flash other_bbram
     (record contents { root = root; codes = codes; signed = signed; unsigned = unsigned })
 
--- what is written to the flash area that the root does not name leaves the contents
+-- a flash with the same bytes for the area that the root names holds the same contents
 abbrev pub OtherFlashIsFree : Type 0
 OtherFlashIsFree =
     (flash bbram other_flash : List ℕ) (contents : Contents)
@@ -170,8 +172,8 @@ OtherFlashIsFree =
 
 -- ---- an order from rest to rest
 
--- Where nothing is pending, the root that commits an order makes the memory hold what is committed. The flash holds the
--- public record before.
+-- If nothing is pending, the root that commits an order makes the memory hold what is committed. The flash already
+-- holds the codes and entries for it.
 abbrev pub OrderIsCommitted : Type 0
 OrderIsCommitted =
     (flash bbram other_bbram : List ℕ) (state : State) (order : Order) (draw : List ℕ) (area other_area : ℕ)
@@ -182,8 +184,8 @@ OrderIsCommitted =
     → HoldsContents flash bbram (at_rest state area)
     → HoldsContents flash other_bbram (committed state order draw other_area)
 
--- Where what is to be done to both regions is done, the root of the state that is meant puts the memory at rest. The
--- flash holds the signed record before.
+-- Once what is to be done to both regions is done, the root of the state that is meant puts the memory at rest. The
+-- flash already holds the codes and the signed entries for it.
 abbrev pub WorkIsFinished : Type 0
 WorkIsFinished =
     (flash bbram other_bbram : List ℕ) (contents : Contents) (area : ℕ) → AgreeBesides 1 bbram other_bbram

@@ -1,5 +1,5 @@
--- What a memory holds while the work of an order is done. Is it worth one state from the commit on, at each step of the
--- work?
+-- What a memory holds while the work of an order is done. Does it mean one state from the commit on, at each step of
+-- the work?
 use Rattle.std.specs.Prelude.{◌≡◌, ℕ, List, [], Some}
 use Rattle.mb_model.specs.declared.order.Order.{Order}
 use Rattle.mb_model.specs.declared.state.State.{State}
@@ -39,15 +39,15 @@ committed state order draw area = record {
   three = state.three;
 }
 
--- the same contents, where what is to be done to region 2 is done
+-- the contents once what is to be done to region 2 is done
 abbrev pub two_done : Contents → Contents
 two_done contents = record contents { two = region_after_fate (fate_of_two contents.root.pending) contents.two }
 
--- and where what is to be done to region 3 is
+-- the contents once what is to be done to region 3 is done
 abbrev pub three_done : Contents → Contents
 three_done contents = record contents { three = region_after_fate (fate_of_three contents.root.pending) contents.three }
 
--- and where both are
+-- the contents once what is to be done to both regions is done
 abbrev pub both_done : Contents → Contents
 both_done contents = three_done (two_done contents)
 

@@ -22,7 +22,7 @@ pub record AgreeInSlots (flash other : List ℕ) (header : Header) : Type 0 wher
   pub slots : (layer : ℕ) → 1 ≤ layer → layer ≤ 3 → (slot_in header layer).which ≢ 0
       → code_slot other layer (slot_in header layer).which ≡ code_slot flash layer (slot_in header layer).which
 
--- a sector that holds nothing: it stands between the code slots and the log, or behind the log
+-- a sector that holds nothing: it stands between the code slots and the log, or after the log
 abbrev pub IsUnused : ℕ → Type 0
 IsUnused n = ((50 ≤ n) × (n < 64)) ⊎ ((192 ≤ n) × (n < SECTOR_COUNT))
 
@@ -31,8 +31,8 @@ abbrev pub AgreeInUnused : List ℕ → List ℕ → Type 0
 AgreeInUnused flash other = (n : ℕ) → IsUnused n → sector other n ≡ sector flash n
 
 -- Two flashes have the same bytes wherever these count for a header area: in the area itself, in the slots that its
--- header names, and in the sectors of the log below its count. So they have in the sectors that hold nothing, to which
--- no write goes.
+-- header names, and in the sectors of the log below its count. They also have the same bytes in the sectors that hold
+-- nothing, to which no write goes.
 pub record AgreeForArea (flash other : List ℕ) (area : ℕ) : Type 0 where
   pub header : sector other (header_sector area) ≡ sector flash (header_sector area)
   pub slots : (header : Header) → HoldsHeader flash area header → AgreeInSlots flash other header

@@ -45,33 +45,33 @@ AgreementKeepsTheLog =
 abbrev pub FlashesAgreeWithThemselves : Type 0
 FlashesAgreeWithThemselves = (flash : List ℕ) (area : ℕ) → AgreeForArea flash flash area
 
--- agreement goes from write to write
+-- agreement goes on from write to write
 abbrev pub AgreementGoesOn : Type 0
 AgreementGoesOn =
     (flash between other : List ℕ) (area : ℕ) → AgreeForArea flash between area → AgreeForArea between other area
     → AgreeForArea flash other area
 
--- and it goes back
+-- agreement goes both ways
 abbrev pub AgreementGoesBack : Type 0
 AgreementGoesBack =
     (flash other : List ℕ) (area : ℕ) → AgreeForArea flash other area → AgreeForArea other flash area
 
 -- ---- what may be written, whole or torn
 
--- a sector of the log that the header of the area does not count
+-- a write to a sector of the log that the header of the area does not count keeps agreement
 abbrev pub UncountedSectorsAreFree : Type 0
 UncountedSectorsAreFree =
     (before after : List ℕ) (area position : ℕ) → area ≤ 1 → position < ENTRY_LIMIT
     → IsUncounted before area position → length before ≡ FLASH_LENGTH
     → DiffersOnlyIn (log_sector position) 1 before after → AgreeForArea before after area
 
--- the other header area
+-- a write to the other header area keeps agreement
 abbrev pub OtherHeadersAreFree : Type 0
 OtherHeadersAreFree =
     (before after : List ℕ) (area : ℕ) → area ≤ 1 → length before ≡ FLASH_LENGTH
     → DiffersOnlyIn (header_sector (1 - area)) 1 before after → AgreeForArea before after area
 
--- a code slot that the header of the area does not name
+-- a write to a code slot that the header of the area does not name keeps agreement
 abbrev pub UnnamedSlotsAreFree : Type 0
 UnnamedSlotsAreFree =
     (before after : List ℕ) (area layer slot : ℕ) → area ≤ 1 → 1 ≤ layer → layer ≤ 3 → 1 ≤ slot → slot ≤ 2
@@ -80,8 +80,8 @@ UnnamedSlotsAreFree =
 
 -- ---- what an order writes
 
--- Where a flash held codes and a log, all of it signed, and what counts has stayed, then the header after the order in
--- the area that the new root names, and the code that the order brings, make the flash hold what the order leaves.
+-- If a flash held codes and a log, all of it signed, and what counts has stayed, two things make it hold what an order
+-- leaves: the header after the order, in the area that the new root names, and the code that the order brings.
 abbrev pub OrdersAreHeld : Type 0
 OrdersAreHeld =
     (before after : List ℕ) (old new : Root) (codes : Codes) (signed : List SignedEntry) (unsigned : List Entry)
@@ -91,8 +91,8 @@ OrdersAreHeld =
     → AreBytesOf first second unsigned → AreCounted new.pending unsigned
     → HoldsPublic after new (codes_after codes layer act) signed unsigned
 
--- So it is after both writes: the code to the free slot, and the header to the other area. For the old root the flash
--- holds what it held.
+-- After both writes of an order, the code to the free slot and the header to the other area, the flash holds what the
+-- order leaves for the new root, and what it held for the old one.
 abbrev pub OrderWritesAreHeld : Type 0
 OrderWritesAreHeld =
     (before between after : List ℕ) (old new : Root) (codes : Codes) (signed : List SignedEntry)
@@ -128,7 +128,7 @@ OrderHeadersAreAllowed =
     → (unsigned_format old.signed).Allowed (first, second)
     → header_format.Allowed (header_after old layer act first second)
 
--- and so has the header that settling leaves
+-- the header that settling leaves has a spelling
 abbrev pub SettledHeadersAreAllowed : Type 0
 SettledHeadersAreAllowed =
     (old : Header) (more : ℕ) → header_format.Allowed old → old.signed + more ≤ ENTRY_LIMIT
@@ -136,7 +136,7 @@ SettledHeadersAreAllowed =
 
 -- ---- what settling writes
 
--- a write to the sector after a log makes it a log of one entry more
+-- a write to the sector after a log makes it a log with one more entry
 abbrev pub LogWritesAppend : Type 0
 LogWritesAppend =
     (before after : List ℕ) (log : List SignedEntry) (signed : SignedEntry) (bytes : List ℕ)
@@ -144,8 +144,8 @@ LogWritesAppend =
     → IsSectorWritten (log_sector (length log)) bytes before after → HoldsLog before log
     → HoldsLog after (log ++ signed ∷ [])
 
--- Where a flash holds entries of which the last are unsigned, and its log sectors hold these signed, then a header that
--- counts them, in the area that a root without work names, makes the flash hold the whole log.
+-- If the last entries that a flash holds are unsigned, and its log sectors hold them signed, a header that counts them,
+-- in the area that a root without work names, makes the flash hold the whole log.
 abbrev pub SettledLogsAreHeld : Type 0
 SettledLogsAreHeld =
     (flash : List ℕ) (root new : Root) (codes : Codes) (signed more : List SignedEntry) (unsigned : List Entry)
@@ -153,8 +153,8 @@ SettledLogsAreHeld =
     → HoldsHeader flash new.area (header_settled holds.header (length more)) → new.pending ≡ None
     → HoldsPublic flash new codes (signed ++ more) []
 
--- So it is after the writes for one entry: its log sector, and the header to the other area. For the root before, the
--- flash holds what it held.
+-- After the writes that settle one entry, its log sector and the header to the other area, the flash holds the whole
+-- log for the new root, and what it held for the root before.
 abbrev pub SettlingOneIsHeld : Type 0
 SettlingOneIsHeld =
     (before between after : List ℕ) (root new : Root) (codes : Codes) (signed : List SignedEntry)
@@ -166,7 +166,8 @@ SettlingOneIsHeld =
     → Spells header_format bytes (header_settled holds.header 1) → new.area ≡ 1 - root.area → new.pending ≡ None
     → HoldsPublic after new codes (signed ++ one ∷ []) [] × HoldsPublic after root codes signed unsigned
 
--- and after the writes for two entries
+-- After the writes that settle two entries, their log sectors and the header to the other area, the flash holds the
+-- whole log for the new root, and what it held for the root before.
 abbrev pub SettlingTwoIsHeld : Type 0
 SettlingTwoIsHeld =
     (before between next after : List ℕ) (root new : Root) (codes : Codes) (signed : List SignedEntry)

@@ -13,7 +13,7 @@ use Rattle.mb_model.specs.Valid.{IsValidState}
 abbrev pub Holds : Memory → Contents → Type 0
 Holds memory contents = HoldsContents memory.flash memory.bbram contents
 
--- whatever the memory held, it holds
+-- whatever the memory held, it still holds
 pub record KeepsContents (before after : Memory) : Type 0 where
   pub kept : (contents : Contents) → Holds before contents → Holds after contents
 
@@ -21,7 +21,7 @@ pub record KeepsContents (before after : Memory) : Type 0 where
 abbrev pub Means : Memory → State → Type 0
 Means memory state = StandsFor memory.flash memory.bbram (Some state)
 
--- whatever state the memory stood for, it stands for
+-- the memory still stands for every state for which it stood
 pub record KeepsMeaning (before after : Memory) : Type 0 where
   pub kept : (state : State) → Means before state → Means after state
 
@@ -32,7 +32,7 @@ pub record IsReady (memory : Memory) (state : State) : Type 0 where
   pub valid : IsValidState state
   pub clean : IsCleanFor memory.bbram state
 
--- so is one with this memory, for some state
+-- a device with this memory is ready for an event, in some state
 pub record HasReady (memory : Memory) : Type 0 where
   pub state : State
   pub ready : IsReady memory state
@@ -41,7 +41,7 @@ pub record HasReady (memory : Memory) : Type 0 where
 abbrev pub region_in_slot : ℕ → Contents → Region
 region_in_slot slot contents = if slot == 2 then contents.two else contents.three
 
--- the same contents with this region in slot 2 or 3
+-- the contents with this region in slot 2 or 3
 abbrev pub with_region_in : ℕ → Region → Contents → Contents
 with_region_in slot region contents =
     if slot == 2 then record contents { two = region } else record contents { three = region }

@@ -1,4 +1,4 @@
--- Which bytes of two memories count. What may be written elsewhere, and the state stays?
+-- Which bytes of two memories count. What may be written elsewhere without changing the state?
 use Rattle.std.specs.Prelude.{◌≡◌, ◌≢◌, ℕ, ◌≤◌, List}
 use Rattle.mb_model.specs.declared.stored.Root.{Root}
 use Rattle.mb_model.specs.Memory.{life_byte, spare_bytes, area_of_slot}
@@ -6,7 +6,7 @@ use Rattle.mb_model.specs.Meaning.{RootIn}
 use Rattle.mb_model_memory.specs.FlashInForce.{AgreeForArea}
 
 -- Two memories have the same bytes wherever these are in force: the life byte, the bytes between the selectors and the
--- areas, the area in force of each slot, and the area of the flash that the root names.
+-- areas, the current area of each slot, and the area of the flash that the root names.
 pub record AgreeInForce (flash bbram other_flash other_bbram : List ℕ) : Type 0 where
   pub life : life_byte other_bbram ≡ life_byte bbram
   pub between : spare_bytes other_bbram ≡ spare_bytes bbram

@@ -25,7 +25,7 @@ code_brought (act.Load payload) = Some payload.code
 code_brought (act.Emergency payload) = Some payload.code
 code_brought (act.NewKey key_kind) = None
 
--- the code that an order brings stands in the free slot of its layer
+-- the code that an order brings, if any, stands in the free slot of its layer
 abbrev pub HasNewCode : List ℕ → ℕ → Slot → Act → Type 0
 HasNewCode flash layer slot act = IfSome (code_brought act) (BeginsWithBytes (code_slot flash layer (free_slot slot)))
 
@@ -38,11 +38,11 @@ IsCodeWritten layer slot (Some code) before after =
 
 -- ---- headers
 
--- entries as texts, whose first and second a header holds
+-- entries as texts; a header holds the first and the second of these
 abbrev pub texts_of_entries : List Entry → List (List ℕ)
 texts_of_entries entries = map entry_format.spelling entries
 
--- where the code of a layer stands after an order of this layer
+-- where the code of a layer stands after an order for this layer
 abbrev pub slot_after : Slot → Act → Slot
 slot_after old (act.Establish owner trust) = record { which = 0; length = 0 }
 slot_after old act.Surrender = record { which = 0; length = 0 }
@@ -50,7 +50,7 @@ slot_after old (act.Load payload) = record { which = free_slot old; length = len
 slot_after old (act.Emergency payload) = record { which = free_slot old; length = length payload.code }
 slot_after old (act.NewKey key_kind) = old
 
--- the header after an order of a layer, whose entries, as texts, are not signed yet
+-- the header after an order for a layer, with the texts of entries that are not signed yet
 abbrev pub header_after : Header → ℕ → Act → Option (List ℕ) → Option (List ℕ) → Header
 header_after old layer act first second = record {
   one = if layer == 1 then slot_after old.one act else old.one;

@@ -28,7 +28,7 @@ pub record IsStorableState (state : State) : Type 0 where
   pub two : IsStorableRegion state.two
   pub three : IsStorableRegion state.three
 
--- a state that can be stored; that of a dead device is none
+-- a state that can be stored; a dead device has none to store
 abbrev pub Storable : Option State → Type 0
 Storable None = Unit {0}
 Storable (Some state) = IsStorableState state

@@ -36,21 +36,22 @@ StatesAreStorableBy Form =
     (flash bbram : List ℕ) (state : State) → StandsForBy Form flash bbram (Some state) → IsValidState state
     → IsStorableState state
 
--- the same of the present form
+-- a valid state for which a memory stands, by the present form of the flash, can be stored
 abbrev pub StoredStatesAreStorable : Type 0
 StoredStatesAreStorable = StatesAreStorableBy HoldsPublic
 
--- and by the form before
+-- a valid state for which a memory stands, by the form of the flash before segments, can be stored
 abbrev pub OldStatesAreStorable : Type 0
 OldStatesAreStorable = StatesAreStorableBy HeldPublic
 
--- so can that of a new device, whose owner has a spelling and whose code and noise have the lengths that they may have
+-- The state of a new device can be stored, if its owner has a spelling and its code and noise have the lengths that
+-- they may have.
 abbrev pub BornStatesAreStorable : Type 0
 BornStatesAreStorable =
     (maker : KeySeed) (index : ℕ) (owner : PublicKey) (code noise : List ℕ) → public_key_format.Allowed owner
     → length code ≤ 32768 → 48 ≤ length noise → IsStorableState (state_at_birth maker index owner code noise)
 
--- and the state after an order that passes
+-- the state after an order that passes can be stored, if the state before can
 abbrev pub ObeyedStatesAreStorable : Type 0
 ObeyedStatesAreStorable =
     (state : State) (order : Order) (draw : List ℕ) → order_format.Allowed order → Passes (view_of state) order
@@ -62,33 +63,33 @@ StepsKeepStorable =
     (world : World) (event : Event) (answer : Reply) (next : World) → IsScriptEvent event → Valid world.state
     → Storable world.state → Step world event answer next → Storable next.state
 
--- and so does a run of such events
+-- a run of events that a script can give leads from a valid state that can be stored to one that can be stored
 abbrev pub RunsKeepStorable : Type 0
 RunsKeepStorable =
     (world : World) (answered : List Answered) (next : World) → All (λ this. IsScriptEvent this.event) answered
     → Valid world.state → Storable world.state → Run world answered next → Storable next.state
 
--- ---- its records
+-- ---- the records of what can be stored
 
--- the root of a valid state that can be stored has a spelling, where nothing is pending
+-- the root of a valid state that can be stored has a spelling, if nothing is pending
 abbrev pub RestingRootsAreAllowed : Type 0
 RestingRootsAreAllowed =
     (state : State) (area : ℕ) → area ≤ 1 → IsValidState state → IsStorableState state
     → root_format.Allowed (root_of state area)
 
--- and where an order is committed
+-- the root of a valid state that can be stored has a spelling, if an order is committed
 abbrev pub CommittedRootsAreAllowed : Type 0
 CommittedRootsAreAllowed =
     (state : State) (order : Order) (draw : List ℕ) (area : ℕ) → area ≤ 1 → IsValidState state → IsStorableState state
     → order_format.Allowed order → Passes (view_of state) order → root_format.Allowed (root_for state order draw area)
 
--- so has its public record, where nothing is pending
+-- the public record of a valid state that can be stored has a spelling, if nothing is pending
 abbrev pub RestingPublicsAreAllowed : Type 0
 RestingPublicsAreAllowed =
     (state : State) → IsValidState state → IsStorableState state
     → public_format.Allowed (public_of_parts state.codes state.log [])
 
--- and where an order is committed
+-- the public record of a state that can be stored has a spelling, if an order is committed
 abbrev pub CommittedPublicsAreAllowed : Type 0
 CommittedPublicsAreAllowed =
     (state : State) (order : Order) (draw : List ℕ) → IsStorableState state → order_format.Allowed order
@@ -100,7 +101,7 @@ CommittedPublicsAreAllowed =
 abbrev pub StorableRegionsCanBeWritten : Type 0
 StorableRegionsCanBeWritten = (region : Region) → IsStorableRegion region → CanBeWritten region
 
--- and each valid state that can be stored, as an image from nothing
+-- each valid state that can be stored fits an image that is written from nothing
 abbrev pub StorableStatesFitImages : Type 0
 StorableStatesFitImages = (state : State) → IsValidState state → IsStorableState state → FitsImage state
 
@@ -108,6 +109,6 @@ StorableStatesFitImages = (state : State) → IsValidState state → IsStorableS
 abbrev pub RootsHaveRoom : Type 0
 RootsHaveRoom = (root : Root) → root_format.Allowed root → length (root_format.spelling root) ≤ 4094
 
--- and each public record that has one, in an area of the flash
+-- each public record that has a spelling has room in an area of the flash
 abbrev pub PublicsHaveRoom : Type 0
 PublicsHaveRoom = (public : Public) → public_format.Allowed public → length (public_format.spelling public) ≤ 470000

@@ -23,8 +23,8 @@ pub fn work_keeps_the_meaning()
     ensures ends { WorkEndsTheSame }
 {}
 
-/// What is stored of a state where nothing is pending means that state, so that a memory that holds it stands for it; and
-/// a clean memory that stands for a state holds nothing else.
+/// What is stored of a state with nothing pending means that state, so that a memory that holds it stands for the
+/// state. A clean memory that stands for a state holds nothing else.
 pub fn rest_means_its_state()
     ensures means { RestMeansItsState }
     ensures stands { RestingMemoriesStand }
@@ -39,7 +39,7 @@ pub fn memories_are_known_by_what_is_in_force()
     ensures dead { DeadFlashIsAny }
 {}
 
-/// Where the area in force of one slot changes alone, the piece that stands there is replaced, and nothing else. What is
+/// If the current area of one slot changes alone, the piece that stands there is replaced, and nothing else. What is
 /// written to the flash area that the root does not name changes nothing.
 pub fn pieces_are_replaced_alone()
     ensures two { TwoIsReplaced }
@@ -48,8 +48,8 @@ pub fn pieces_are_replaced_alone()
     ensures flash { OtherFlashIsFree }
 {}
 
-/// An order begins and ends with one root: the one makes a memory at rest hold what is committed, and the other, once the
-/// work on both regions is done, puts it at rest again.
+/// An order begins with one root and ends with another. The first makes a memory at rest hold what is committed. The
+/// second, once the work on both regions is done, puts it at rest again.
 pub fn orders_begin_and_end_with_a_root()
     ensures begins { OrderIsCommitted }
     ensures ends { WorkIsFinished }

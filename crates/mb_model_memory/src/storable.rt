@@ -2,8 +2,8 @@
 
 ghost use Rattle.mb_model_memory.specs.StorableLaws.{StoredStatesAreStorable, OldStatesAreStorable, BornStatesAreStorable, ObeyedStatesAreStorable, StepsKeepStorable, RunsKeepStorable, RestingRootsAreAllowed, CommittedRootsAreAllowed, RestingPublicsAreAllowed, CommittedPublicsAreAllowed, StorableRegionsCanBeWritten, StorableStatesFitImages, RootsHaveRoom, PublicsHaveRoom};
 
-/// A valid state for which a memory stands can be stored again, also by the form of the flash before, and so can that of
-/// a new device.
+/// A valid state for which a memory stands can be stored again, also if the flash has the form before segments. The
+/// state of a new device can be stored.
 pub fn stored_states_are_storable()
     ensures stands { StoredStatesAreStorable }
     ensures stood { OldStatesAreStorable }
@@ -18,8 +18,8 @@ pub fn steps_keep_states_storable()
     ensures run { RunsKeepStorable }
 {}
 
-/// What can be stored has its records: the root and the public record have spellings, where nothing is pending and where
-/// an order is committed, each region can be written, and all of these have room, also in an image that is written from
+/// What can be stored has its records. The root and the public record have spellings, when nothing is pending and when
+/// an order is committed, and each region can be written. All of these have room, also in an image that is written from
 /// nothing.
 pub fn storable_states_have_records()
     ensures root { RestingRootsAreAllowed }

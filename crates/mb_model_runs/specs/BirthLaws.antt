@@ -13,12 +13,12 @@ use Rattle.mb_model.specs.Attach.{bare_chain}
 use Rattle.mb_model.specs.Acceptance.{IsBornOf, AreGood, report_of, Accepts}
 use Rattle.mb_model.specs.ChainCommands.{IsChainOf}
 
--- Where the maker signed the birth, each entry of the device's log follows, as a verifier looks at it.
+-- If the maker signed the birth, each entry of a valid state's log follows from those before it, as a verifier checks.
 abbrev pub LogsAreGood : Type 0
 LogsAreGood =
     (maker : PublicKey) (state : State) → IsValidState state → IsBornOf maker state.log → AreGood maker state.log
 
--- and the chain of the log is accepted for each key of a region that was born in it
+-- If the maker signed the birth, the chain of a valid state's log is accepted for each region key that was born in it.
 abbrev pub BornKeysAreAccepted : Type 0
 BornKeysAreAccepted =
     (maker : PublicKey) (state : State) (bytes : List ℕ) (before : List Entry) (position number n L : ℕ)
@@ -27,6 +27,6 @@ BornKeysAreAccepted =
     → entries_of state.log ≡ before ++ NewKey position number n L kind key ∷ later
     → Accepts maker bytes n (report_of (bare_chain state.log) n (record { layer = L; kind = kind; key = key }))
 
--- so the chain of its log is what a device hands out
+-- the chain of a valid state's log is what a device hands out
 abbrev pub DeviceChainsAreWhole : Type 0
 DeviceChainsAreWhole = (state : State) → IsValidState state → IsChainOf state (bare_chain state.log)

@@ -6,7 +6,7 @@ use Rattle.mb_model.specs.Merkle.{leaf_number}
 use Rattle.mb_model.specs.Valid.{IsValidState}
 use Rattle.mb_model.specs.Runs.{HasInCharge, SignsEntriesOnce}
 
--- each entry but the birth has one
+-- each entry but the birth has a device key in charge, which an entry before it names
 abbrev pub EachHasInCharge : Type 0
 EachHasInCharge =
     (state : State) (before : List SignedEntry) (signed : SignedEntry) (rest : List SignedEntry) → IsValidState state
@@ -14,13 +14,13 @@ EachHasInCharge =
     → (front : List SignedEntry) × (namer : SignedEntry) × (between : List SignedEntry)
     × (before ≡ front ++ namer ∷ between) × HasInCharge state.log front namer between signed
 
--- The index of its signature is how many entries stand between the two.
+-- The index of an entry's signature is the number of entries between it and the one that names its key.
 abbrev pub IndicesCountEntries : Type 0
 IndicesCountEntries =
     (state : State) (front : List SignedEntry) (namer : SignedEntry) (between : List SignedEntry)
     (signed : SignedEntry) → IsValidState state → HasInCharge state.log front namer between signed
     → leaf_number signed.signature ≡ length between
 
--- So no device key signs two entries with one index.
+-- No device key signs two entries with one index.
 abbrev pub NoIndexSignsTwice : Type 0
 NoIndexSignsTwice = (state : State) → IsValidState state → SignsEntriesOnce state.log

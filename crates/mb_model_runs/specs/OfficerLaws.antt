@@ -1,4 +1,4 @@
--- Laws of orders that the right officers signed. Does a device take what an officer's tool makes?
+-- Laws of orders that the right officers signed. Does a device obey what an officer's tool makes?
 use Rattle.std.specs.Prelude.{◌≡◌, ℕ, ◌<◌, List, length, All, Some}
 use Rattle.mb_format.specs.Format.{Spells}
 use Rattle.mb_model.specs.declared.key.KeySeed.{KeySeed}
@@ -45,7 +45,7 @@ pub record IsRightlyCountersigned (state : State) (order : Order) (by : Counters
   pub left : index < 32
   pub signature : by.signature ≡ signature_of key index (countersigned_text by.layer (order_body order))
 
--- ---- what a device takes
+-- ---- what a device accepts
 
 abbrev pub RightSignaturesPass : Type 0
 RightSignaturesPass = (state : State) (order : Order) → IsRightlySigned state order → IsSigned (view_of state) order
@@ -62,7 +62,7 @@ pub record PassesTheRest (state : State) (order : Order) : Type 0 where
   pub log : LogHasRoom (view_of state) order
   pub keys : RegionHasRoom (view_of state) order.layer order.act
 
--- While layer 1 runs, such an order is obeyed, where the right officers signed and countersigned it.
+-- While layer 1 runs, an order that passes the rest is obeyed, if the right officers signed and countersigned it.
 abbrev pub RightOrdersAreObeyed : Type 0
 RightOrdersAreObeyed =
     (world : World) (state : State) (text draw : List ℕ) (order : Order)
@@ -74,7 +74,7 @@ RightOrdersAreObeyed =
 
 -- ---- what officers' tools make
 
--- an order that the key of the owner in charge has signed by an officer's tool passes
+-- an order that an officer's tool has signed with the key of the owner in charge passes as signed
 abbrev pub SignedOrdersPass : Type 0
 SignedOrdersPass =
     (state : State) (order : Order) (k : Keyfile) → k.next < 32 → HasCharge state order k.seed
@@ -86,7 +86,7 @@ CountersigningKeepsTheSignature =
     (state : State) (order : Order) (k : Keyfile) (m : ℕ) → IsSigned (view_of state) order
     → IsSigned (view_of state) (countersigned_order k m order)
 
--- Where all countersignatures of an order pass, and the key of layer m's owner countersigns it for m, all pass again.
+-- If all countersignatures of an order pass, and the key of layer m's owner countersigns it for m, all pass again.
 abbrev pub CountersignedOrdersPass : Type 0
 CountersignedOrdersPass =
     (state : State) (order : Order) (k : Keyfile) (m : ℕ) → k.next < 32 → OwnsLayer state m k.seed

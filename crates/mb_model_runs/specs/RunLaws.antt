@@ -1,4 +1,4 @@
--- Laws of runs. Does a device ever take back what its log tells, or a key sign twice with one index?
+-- Laws of runs. Does a device ever take back what its log says, or a key sign twice with one index?
 use Rattle.std.specs.Prelude.{◌≡◌, List, [], ◌∷◌, All, AllPairs}
 use Rattle.mb_model.specs.declared.event.Answered.{Answered}
 use Rattle.mb_model.specs.Acknowledged.{HoldsNoOther, AreWiping, MayAnswer}
@@ -9,13 +9,13 @@ use Rattle.mb_model.specs.Valid.{Valid}
 use Rattle.mb_model.specs.Runs.{worlds_of, LogGoesOn, StatementsStayAccepted, IsSoundRun}
 use Rattle.mb_model_memory.specs.Storable.{Storable}
 
--- The log of each world of a run begins that of each later one.
+-- The log of each world of a run is a prefix of that of each later live one.
 abbrev pub LogsOnlyGrow : Type 0
 LogsOnlyGrow =
     (world : World) (answered : List Answered) (next : World) (run : Run world answered next)
     → AllPairs LogGoesOn (worlds_of world answered next run)
 
--- So it is for the two ends of a run.
+-- The log at the start of a run is a prefix of that at its end, if the device is then alive.
 abbrev pub LogsGrowOverRuns : Type 0
 LogsGrowOverRuns =
     (world : World) (answered : List Answered) (next : World) → Run world answered next → LogGoesOn world next
@@ -27,7 +27,7 @@ RunsAreSound =
     → Valid world.state → IsSoundRun world answered next run
 
 -- Each statement that is answered stays accepted, if a script can give the events and the first state can be stored. A
--- message longer than those of scripts has no statement that spells it.
+-- statement of a longer message than those of scripts has no spelling.
 abbrev pub StatementsOfRunsStayAccepted : Type 0
 StatementsOfRunsStayAccepted =
     (world : World) (answered : List Answered) (next : World) (run : Run world answered next)

@@ -39,7 +39,7 @@ pub record IsStatedIn
   pub left : key.uses < 32
   pub statement_is : statement ≡ statement_format.spelling (statement_of state key message)
 
--- An event that is answered by a statement has asked for it, and a key of the state before has signed it.
+-- An event that is answered by a statement is a request for it, and a key of the state before has signed it.
 abbrev pub StatementsAreOfKeys : Type 0
 StatementsAreOfKeys =
     (world : World) (event : Event) (n index : ℕ) (statement : List ℕ) (next : World)
@@ -49,12 +49,12 @@ StatementsAreOfKeys =
 
 -- ---- the chain with a statement
 
--- what the log tells of a key of layer L
+-- what the log says of a key of layer L
 abbrev pub key_entry_of : ℕ → RegionKey → KeyEntry
 key_entry_of L key = record { layer = L; kind = key.kind; key = public_of key.seed }
 
--- What a key that is there and has an index left states, attached to the log of the state then, or of a later live one
--- of a run, is accepted for the key, where the maker signed the device's birth.
+-- A statement of a key that is there and has an index left is accepted for the key, if the maker signed the device's
+-- birth. It is attached to the log of the state then, or of a later live one of a run.
 abbrev pub StatementsAreAccepted : Type 0
 StatementsAreAccepted =
     (maker : PublicKey) (world : World) (answered : List Answered) (next : World) (state later : State)
@@ -65,8 +65,8 @@ StatementsAreAccepted =
     → Accepts maker bytes key.number
     (report_of (stated_chain later.log (statement_of state key message)) key.number (key_entry_of L key))
 
--- The statement by which an event was answered, in a valid state that can be stored, is accepted with the log of each
--- later live state of a run. The events are those of a script.
+-- A statement that answers an event, in a valid state that can be stored, is accepted with the log of each later live
+-- state of a run. The events are those of a script.
 abbrev pub AnswersStayAccepted : Type 0
 AnswersStayAccepted =
     (world : World) (event : Event) (n index : ℕ) (bytes : List ℕ) (mid : World)

@@ -2,8 +2,8 @@
 
 ghost use Rattle.mb_model_runs.specs.BirthLaws.{LogsAreGood, BornKeysAreAccepted, DeviceChainsAreWhole};
 
-/// Where the maker signed the birth, a verifier finds no fault in the log of a valid state, and accepts its chain for
-/// each key of a region that was born in it. So the chain of the log is what a device hands out.
+/// If the maker signed the birth, a verifier finds no fault in the log of a valid state, and accepts its chain for each
+/// key of a region that was born in it. The chain of the log is what a device hands out.
 pub fn device_chains_are_accepted()
     ensures good { LogsAreGood }
     ensures accepted { BornKeysAreAccepted }

@@ -1,4 +1,4 @@
-//! What the definitions give of whole runs, of the log and the chain of a device, and of the orders that officers
+//! What the definitions give for whole runs, for the log and the chain of a device, and for the orders that officers
 //! sign.
 //!
 //! This crate owns no type and does nothing when it runs. Each law stands on a function with an empty body;

@@ -2,7 +2,7 @@
 
 ghost use Rattle.mb_model_runs.specs.RunLaws.{LogsOnlyGrow, LogsGrowOverRuns, RunsAreSound, StatementsOfRunsStayAccepted, AnswersLeaveClean};
 
-/// Whatever happens, also a power loss: a log only grows, and a dead device stays dead.
+/// Whatever happens, power losses included, a log only grows and a dead device stays dead.
 pub fn logs_only_grow()
     ensures each { LogsOnlyGrow }
     ensures ends { LogsGrowOverRuns }
@@ -10,8 +10,8 @@ pub fn logs_only_grow()
 
 /// Each world of a run from a valid state is valid, its regions hold the keys that are alive, and no device key signs
 /// two entries of its log with one index. No key of a region signs two statements of the run with one index, nor with
-/// one that was used before the run. Each statement that is answered to an event of a script, over a state that can be
-/// stored, is accepted with the log of each later world.
+/// one that was used before the run. If a script can give the events and the first state can be stored, each statement
+/// that is answered is accepted with the log of each later world.
 pub fn runs_are_sound()
     ensures sound { RunsAreSound }
     ensures accepted { StatementsOfRunsStayAccepted }

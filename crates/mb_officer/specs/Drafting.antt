@@ -30,8 +30,8 @@ use Rattle.mb_officer.specs.declared.draft.Said.TheVariants as said
 
 -- ---- a draft
 
--- The text is the draft of this order, or this line of it is the first that is wrong; of a failed allocation nothing is
--- said.
+-- The text is the draft of this order, or this line of it is the first that is wrong. Nothing is said of a failed
+-- allocation.
 abbrev pub ReadsDraft : List ℕ → Result Order DraftEnd → Type 0
 ReadsDraft text (Ok order) = ReadsLines IsDraft text order
 ReadsDraft text (Err (end.BadLine line)) = TextFailsAtLine IsDraft text line
@@ -46,7 +46,7 @@ load_act loading.Ordinary version trust code =
 load_act loading.Emergency version trust code =
     act.Emergency (record { version = version; trust = trust; code = code })
 
--- what is ordered, without what goes with it
+-- what an act orders, without its details
 abbrev pub ordered_by : Act → Kind
 ordered_by (act.Establish owner trust) = kind.Establish
 ordered_by act.Surrender = kind.Surrender
@@ -62,7 +62,7 @@ heading_line (kind.Load loading.Ordinary) layer = codes "order load " ++ decimal
 heading_line (kind.Load loading.Emergency) layer = codes "order emergency " ++ decimal layer
 heading_line (kind.NewKey k) layer = codes "order newkey " ++ decimal layer ++ 32 ∷ kind_word k
 
--- the kind of such an order
+-- the kind of an order whose first line orders this
 abbrev pub order_kind : Kind → OrderKind
 order_kind kind.Establish = orders.Establish
 order_kind kind.Surrender = orders.Surrender
@@ -70,13 +70,13 @@ order_kind (kind.Load loading.Ordinary) = orders.Load
 order_kind (kind.Load loading.Emergency) = orders.Emergency
 order_kind (kind.NewKey k) = orders.NewKey
 
--- a line orders this of a layer
+-- the line orders this of a layer that such an order may be for
 abbrev pub IsHeading : List ℕ → Kind → ℕ → Type 0
 IsHeading line k layer = MayBeFor (order_kind k) layer × (line ≡ heading_line k layer)
 
 -- ---- what a layer trusts
 
--- the word says the second of two trusts, of which this is the first
+-- the first of two trusts is this one, and the word says the second
 abbrev pub SaysSecond : Trust → List ℕ → Trusts → Type 0
 SaysSecond first word trusts = (trusts.one ≡ first) × (word ≡ trust_word trusts.two)
 
@@ -160,7 +160,7 @@ pub record SaysOwner
   pub spelled : lines ≡ line_of_trusts ∷ []
   pub made : order ≡ drafted layer targets (act.Establish owner trust)
 
--- these lines complete what was read to the draft of an order
+-- these lines complete what was read into the draft of an order
 abbrev pub SaysRest : Said → List Target → List (List ℕ) → Order → Type 0
 SaysRest said.Nothing targets lines order = IsDraft lines order
 SaysRest (said.Heading k layer) targets lines order = SaysTargets k layer targets lines order
@@ -169,7 +169,7 @@ SaysRest (said.Version l layer version) targets lines order = SaysLoad l layer v
 SaysRest (said.Trust l layer version trust) targets lines order = SaysCode l layer version trust targets lines order
 SaysRest (said.All layer a) targets lines order = (lines ≡ []) × (order ≡ drafted layer targets a)
 
--- ---- one line more
+-- ---- one more line
 
 -- with this line, what was read before becomes this: the same lines complete both
 pub record LineFollows
@@ -184,14 +184,14 @@ pub record LineFollows
   pub only : (more : List (List ℕ)) (order : Order)
       → SaysRest before targets (line ∷ more) order → SaysRest next after more order
 
--- what a line leads to, or that no draft goes on with it
+-- what was read with a further line, or that no draft continues with that line
 abbrev pub TellsNext : Said → List Target → List ℕ → Result Said NotSaid → List Target → Type 0
 TellsNext before targets line (Ok next) after = LineFollows before targets line next after
 TellsNext before targets line (Err why.Form) after =
     (more : List (List ℕ)) (order : Order) → SaysRest before targets (line ∷ more) order → ⊥
 TellsNext before targets line (Err why.NoMemory) after = Unit {0}
 
--- one target more, unless there are as many as an order may have
+-- one more target, unless there are already as many as an order may have
 abbrev pub AddsTarget : Kind → ℕ → List Target → Target → Result Said NotSaid → List Target → Type 0
 AddsTarget k layer targets target (Ok next) after =
     (next ≡ said.Heading k layer) × (after ≡ targets ++ target ∷ []) × (length targets ≢ TARGET_LIMIT)

@@ -6,8 +6,8 @@ use Rattle.mb_model.specs.OrderLines.{IsOrderLine}
 use Rattle.mb_officer.specs.declared.order_line.OrderLineEnd.{OrderLineEnd}
 use Rattle.mb_officer.specs.declared.order_line.OrderLineEnd.TheVariants as end
 
--- The text is the line of this order, or this line of it is the first that is wrong. Nothing is said of a
--- failed allocation.
+-- The text is the line of this order, or this line of it is the first that is wrong. Nothing is said of a failed
+-- allocation.
 abbrev pub ReadsOrderLine : List ℕ → Result Order OrderLineEnd → Type 0
 ReadsOrderLine text (Ok order) = ReadsLines IsOrderLine text order
 ReadsOrderLine text (Err (end.BadLine line)) = TextFailsAtLine IsOrderLine text line

@@ -119,8 +119,8 @@ fn room_for_entry(alloc: Global) -> Result<Vec<SignedEntry>, NoMemory>
     Ok(Vec::with_capacity(alloc, 1)?)
 }
 
-/// The layers of a new device: layer 1 has this owner and this code, which every order may change, and nobody owns the
-/// others.
+/// The layers of a new device: layer 1 has this owner, this code as version 1, and both trusts always, and nobody owns
+/// the others.
 fn layers_of(owner: &PublicKey, code: &[u8]) -> Layers
     ensures { result ≡ layers_at_birth owner.now code.now }
 {

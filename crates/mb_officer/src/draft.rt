@@ -112,7 +112,7 @@ pub fn read_draft(alloc: Global, text: &[u8]) -> Result<Order, DraftEnd>
     }
 }
 
-/// The order of a draft whose lines are all read; none if lines are missing.
+/// The order of a draft whose lines are all read; `None` if lines are missing.
 fn finish(alloc: Global, said: Said, targets: Targets) -> Option<Order>
     requires { IsSoundDraft said targets }
     ensures { FindsSome (SaysRest said targets []) result }
@@ -145,7 +145,7 @@ fn unsigned(alloc: Global, layer: u8, targets: Targets, act: Act) -> Order
     }
 }
 
-/// Reads one line more of a draft.
+/// Reads one more line of a draft.
 fn read_line(alloc: Global, said: Said, targets: &mut Targets, line: &[u8]) -> Result<Said, NotSaid>
     requires { IsSoundDraft said targets.old }
     ensures { TellsNext said targets.old line.now result targets.new }
@@ -209,7 +209,7 @@ fn trust_load(loading: Loading, layer: u8, version: u32, line: &[u8]) -> Result<
     }
 }
 
-/// Adds a target to those of a draft, unless there are as many as an order may have.
+/// Adds a target to those of a draft, unless there are already as many as an order may have.
 fn add_target(kind: Kind, layer: u8, targets: &mut Targets, target: Target) -> Result<Said, NotSaid>
     ensures { AddsTarget kind layer targets.old target result targets.new }
 {
@@ -282,7 +282,7 @@ fn read_heading(line: &[u8]) -> Option<(Kind, u8)>
     }
 }
 
-/// The pair of what is ordered and the layer; none without a layer.
+/// The pair of what is ordered and the layer; `None` without a layer.
 fn with_layer(kind: Kind, layer: Option<u8>) -> Option<(Kind, u8)>
     ensures { MatchOption layer (result ≡ None) (λ n. result ≡ Some (kind, n)) }
 {

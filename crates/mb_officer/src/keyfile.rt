@@ -10,7 +10,7 @@ ghost use Rattle.mb_bytes.specs.Reads.{Reads, ReadsWhole, bad_at};
 use mb_bytes::{Cursor, Field, key_seed_at, put_at, read_whole, word_at};
 use mb_model::{BadRecord, Keyfile, NextIndex};
 
-/// The word by which a key file is known.
+/// The word that a key file begins with.
 const WORD: [u8; 4] = *b"MBK1";
 
 /// Reads the next index of a key file.

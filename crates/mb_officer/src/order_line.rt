@@ -1,4 +1,4 @@
-//! The line of an order, in which officers hand it on: read, and written.
+//! The line of an order, read and written: the form in which officers hand it on.
 
 ghost use Rattle.std.specs.Prelude.{◌≡◌, ◌∷◌, [], IfOk};
 ghost use Rattle.mb_format.specs.Format.{Spells};

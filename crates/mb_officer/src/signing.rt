@@ -137,8 +137,8 @@ fn is_load(act: &Act) -> bool
     matches!(act, Act::Load(_) | Act::Emergency(_))
 }
 
-/// Drops the last countersignature, and puts this one in its place by layers among those before, at most one, of another
-/// layer.
+/// Drops the last countersignature, and puts this one in its place by layers among those before, at most one, of
+/// another layer.
 fn put_in_place(list: &mut Countersignatures, countersignature: Countersignature)
     requires some { 0 < length list.old }
     requires most { length list.old ≤ 2 }

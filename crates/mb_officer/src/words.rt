@@ -31,7 +31,7 @@ pub(crate) fn read_layer(word: &[u8]) -> Option<u8>
     }
 }
 
-/// Reads a layer, 1 to 3, and a space, and gives what follows too.
+/// Reads a layer, 1 to 3, and a space, and answers the layer and what follows.
 pub(crate) fn split_layer(text: &[u8]) -> Option<(u8, &[u8])>
     ensures { MatchOption result ((layer : ℕ) (rest : List ℕ) → IsTrue (is_layer_number layer) → text.now ≡ decimal layer ++ 32 ∷ rest → ⊥) (λ parts. IsTrue (is_layer_number parts.0) × (text.now ≡ decimal parts.0 ++ 32 ∷ parts.1.now)) }
 {

@@ -27,7 +27,7 @@ abbrev pub IsCountersignedOver : Layers → List ℕ → Countersignature → Ty
 IsCountersignedOver layers body by =
     IsSignedBy (layer_of layers by.layer).owner (countersigned_text by.layer body) by.signature
 
--- the device's refusal for an end: none where an allocation failed
+-- the device's refusal for an end, or none if an allocation failed
 abbrev pub refusal_of : JudgeEnd → Option Refusal
 refusal_of (end.Target i) = Some (WrongTarget i)
 refusal_of end.State = Some WrongState
@@ -37,7 +37,7 @@ refusal_of end.LogFull = Some LogFull
 refusal_of end.KeysFull = Some KeysFull
 refusal_of end.NoMemory = None
 
--- the order is refused for this, if for anything
+-- the order is refused for this; if it is none, nothing is said
 abbrev pub FailsFor : View → Order → Option Refusal → Type 0
 FailsFor view order (Some refusal) = Fails view order refusal
 FailsFor view order None = Unit {0}

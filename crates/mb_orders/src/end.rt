@@ -20,12 +20,12 @@ pub enum JudgeEnd {
     LogFull,
     /// The region holds all the keys that it can.
     KeysFull,
-    /// An allocation failed; this may come in place of each of the others.
+    /// An allocation failed; this may come in place of any of the others.
     NoMemory,
 }
 
 impl JudgeEnd {
-    /// The device's refusal of the order: none where an allocation failed.
+    /// The device's refusal of the order, or none if an allocation failed.
     pub fn refusal(self) -> Option<Refusal>
         ensures { result ≡ refusal_of self }
     {

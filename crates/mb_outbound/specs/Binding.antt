@@ -1,5 +1,5 @@
--- Binding a key of a region: one more use of it is stored before the right to sign is returned. Can two
--- statements be signed with one index?
+-- Binding a key of a region: one more use of it is stored before the right to sign is returned. Can two statements be
+-- signed with one index?
 use Rattle.std.specs.Prelude.{◌≡◌, ℕ, ◌<◌, ◌⊎◌, List, find, AllPairs, None, Some, Result, Ok, Err}
 use Rattle.mb_model.specs.declared.key.KeySeed.{KeySeed}
 use Rattle.mb_model.specs.declared.limits.TheConstants.{KEY_USES}
@@ -26,14 +26,14 @@ pub record HasUse (region : Region) (number : ℕ) (key : RegionKey) : Type 0 wh
   pub found : find (has_number number) region.keys ≡ Some key
   pub left : key.uses < KEY_USES
 
--- the right is to the next index of that key, and the seed is the key's
+-- the right is to the next index of the region's key with this number, and the seed is that key's
 pub record IsBound (region : Region) (number right : ℕ) (handed : KeySeed) : Type 0 where
   pub key : RegionKey
   pub has_use : HasUse region number key
   pub index : right ≡ key.uses
   pub seed : handed ≡ key.seed
 
--- what binding a key of a region comes to
+-- the result of binding a key of a region
 abbrev pub BindOf : {S : Type 0} → Region → ℕ → Result (S × ℕ × KeySeed) (BindEnd S) → Type 0
 BindOf region number (Ok bound) = IsBound region number bound.1 bound.2
 BindOf region number (Err (NoKey state)) = find (has_number number) region.keys ≡ None
@@ -58,11 +58,11 @@ StaysUnbound (Err (Stopped off)) before after old new = Unit {0}
 abbrev pub used_in : ℕ → ℕ → Contents → Contents
 used_in slot number contents = with_region_in slot (region_with_use number (region_in_slot slot contents)) contents
 
--- whatever the memory held, it holds with one more use of the key
+-- whatever contents the memory held, it holds them with one more use of the key
 pub record StoresUse (slot number : ℕ) (before after : Memory) : Type 0 where
   pub stored : (contents : Contents) → Holds before contents → Holds after (used_in slot number contents)
 
--- each of the contents that it held stays, or has one more use of the key
+-- whatever contents the memory held, it holds them still, or with one more use of the key
 abbrev pub KeepsOrStoresUse : ℕ → ℕ → Memory → Memory → Type 0
 KeepsOrStoresUse slot number before after =
     (contents : Contents) → Holds before contents → Holds after contents ⊎ Holds after (used_in slot number contents)

@@ -1,4 +1,4 @@
--- The tree of a region's key that is kept to sign by again. Of which key is it?
+-- The tree of a region's key that is kept to sign with again. To which key does it belong?
 use Rattle.std.specs.Prelude.{◌≡◌, ℕ, find, Option, None, Some}
 use Rattle.mb_model.specs.declared.region.RegionKey.{RegionKey}
 use Rattle.mb_model.specs.declared.state.State.{State}
@@ -17,12 +17,12 @@ abbrev pub IfKeptFor : Option RegionTree → ℕ → ℕ → (RegionTree → Typ
 IfKeptFor None place number P = Unit {0}
 IfKeptFor (Some own) place number P = own.place ≡ place → own.number ≡ number → P own
 
--- in this state, the tree is that of the key for which it is kept; a region that has no such key says nothing of it
+-- in this state, the tree is that of the key for which it is kept; if the region has no such key, nothing is said
 pub record IsKeysTree (own : RegionTree) (state : State) : Type 0 where
   pub tree : (key : RegionKey) → find (has_number own.number) (region_of state own.place).keys ≡ Some key
       → IsTreeOf key.seed own.tree
 
--- so it is if one is kept
+-- in this state, the tree is that of the key for which it is kept, if one is kept
 abbrev pub IsKeptIn : Option RegionTree → State → Type 0
 IsKeptIn None state = Unit {0}
 IsKeptIn (Some own) state = IsKeysTree own state

@@ -9,7 +9,7 @@ use Rattle.mb_layout_edits.specs.declared.usage.NotUsed.TheVariants.{NoKey, Spen
 use Rattle.mb_layout_edits.specs.Edits.{region_with_use, IsSpent}
 use Rattle.mb_outbound.specs.Binding.{HasUse}
 
--- the key has an index left, and the bytes stand for the region with one more use of it
+-- the key has an index left, and the bytes spell the region with one more use of it
 pub record IsUsable (region : Region) (number : ℕ) (key : RegionKey) (bytes : List ℕ) : Type 0 where
   pub has_use : HasUse region number key
   pub stands : SpellsRegion bytes (region_with_use number region)

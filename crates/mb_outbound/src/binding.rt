@@ -35,7 +35,7 @@ pub enum BindEnd<S> {
 }
 
 /// The first key of this number in the region of the slot, as it is stored. Replaces `room.other` by the bytes that
-/// stand for the region with one more use of the key.
+/// spell the region with one more use of the key.
 fn next_use<B: Board>(b: &B, slot: u16, key: u32, room: &mut Room) -> Result<RegionKey, NotUsed>
     requires can_use { CanUse (B.seen b.now) slot }
     requires held { HoldsOrdered (area_of_slot (B.seen b.now).memory.bbram slot) }
@@ -51,7 +51,7 @@ fn next_use<B: Board>(b: &B, slot: u16, key: u32, room: &mut Room) -> Result<Reg
     use_in_record(bytes, key, &mut room.other)
 }
 
-/// Replaces the stored region by the one for which `room.other` stands, and then wipes the area before it.
+/// Replaces the stored region by the one that `room.other` spells, and then wipes its old area.
 fn store<S: Reaches<L>, L: Named, B: Board>(s: S, b: &mut B, room: &mut Room) -> Result<S, Off>
     requires up { IsUp S.stage (B.seen b.old) }
     requires short { length room.old.other.items ≤ RECORD_LIMIT }

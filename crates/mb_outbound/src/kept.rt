@@ -1,4 +1,4 @@
-//! The tree of the key of a region that signed last.
+//! The kept tree of the region's key that signed last.
 
 ghost use Rattle.std.specs.Prelude.{◌≡◌, ◌+◌, ◌≤◌};
 ghost use Rattle.mb_signer.specs.Tree.{IsTreeOf};
@@ -10,7 +10,7 @@ use mb_model::KeySeed;
 use mb_signer::KeptTree;
 use std::sync::ledger::Ledger;
 
-/// The tree of a key of a region, to sign by again. It has public nodes alone: the key's seed stays in the region.
+/// The tree of a key of a region, to sign with again. It has public nodes alone: the key's seed stays in the region.
 #[derive(Drop)]
 pub struct RegionTree {
     /// The place of the region, 2 or 3.
@@ -21,8 +21,8 @@ pub struct RegionTree {
     pub tree: KeptTree,
 }
 
-/// The tree of the key with this number in the region of the place: the one that is kept, if it is this key's, in no
-/// hash; else it is built of the seed, in 34,399.
+/// The tree of the key with this number in the region of the place: the kept one, without a hash, if it is this key's;
+/// else one that is built from the seed, in 34,399 hashes.
 pub fn region_tree<L: Ledger>(
     kept: Option<RegionTree>,
     place: u16,

@@ -1,8 +1,8 @@
 //! Signing by the keys of regions.
 //!
-//! This crate owns how a key of a region is bound: its raised count of uses is stored, and the area before it is wiped,
-//! before the right to sign at the index is returned. No index serves two statements, wherever power fails. The crate
-//! also owns what such a right signs, and the tree of the key that signed last. It stands on `mb_region` and
+//! This crate owns how a key of a region is bound: its raised count of uses is stored, and the region's old area is
+//! wiped, before the right to sign at the index is returned. No index serves two statements, wherever power fails. The
+//! crate also owns what such a right signs, and the tree of the key that signed last. It stands on `mb_region` and
 //! `mb_signer`. No call takes memory.
 #![tactic(auto)]
 

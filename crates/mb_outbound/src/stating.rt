@@ -29,8 +29,8 @@ fn statement_head(serial: &[u8; 16], key: u32, number: u32) -> [u8; 25]
     head
 }
 
-/// Signs the statement of a message by the key with this number, in the device with this serial and at this
-/// configuration number. The seed and the tree are the key's. Takes the right, at most 1,074 hashes, and no memory.
+/// Signs the statement of a message with the key of this number, in the device with this serial, at this configuration
+/// number. The seed and the tree are the key's. Spends the right; takes at most 1,074 hashes and no memory.
 pub fn state_text<L: Ledger>(
     right: OneUse,
     seed: &KeySeed,

@@ -21,7 +21,7 @@ allow_rule name test = rule_item (record { name = name; allows = true; test = te
 abbrev pub deny_rule : List ℕ → Test → PolicyItem
 deny_rule name test = rule_item (record { name = name; allows = false; test = test })
 
--- a reliable layer with code of 32 bytes of this number
+-- a reliable layer with code whose hash is 32 bytes of this number
 abbrev pub coded_layer : ℕ → Layer
 coded_layer byte = record {
   owner = None;
@@ -70,15 +70,15 @@ pub record PolicyExamples : Type 0 where
       (codes "set good 1111111111111111111111111111111111111111111111111111111111111111"
       ∷ codes "allow a code 2 good" ∷ [])
       (set_item (small_set 17) ∷ allow_rule (codes "a") (code_in 2 (small_set 17)) ∷ [])
-  -- a text of a rule whose set does not stand: line 1 is the first that is wrong
+  -- a text of a rule whose set is missing: line 1 is the first that is wrong
   pub first_line : TextFailsAtLine IsPolicy (codes "allow a code 3 good" ++ 10 ∷ []) 1
 
 pub record PolicyCounterExamples : Type 0 where
-  -- not line 2
+  -- in a text of one wrong line, line 2 is not the first that is wrong
   pub second_line : TextFailsAtLine IsPolicy (codes "allow a code 3 good" ++ 10 ∷ []) 2 → ⊥
-  -- a set that does not stand
+  -- a rule whose set is missing
   pub missing_set : (items : List PolicyItem) → IsPolicy (codes "allow a code 3 good" ∷ []) items → ⊥
-  -- a rule that is named `default`, two of one name, a word too many, a layer that there is not
+  -- a rule that is named `default`, two rules of one name, a word too many, a layer that does not exist
   pub named_default : (items : List PolicyItem) → IsPolicy (codes "allow default alive" ∷ []) items → ⊥
   pub named_twice : (items : List PolicyItem)
       → IsPolicy (codes "allow a alive" ∷ codes "deny a last" ∷ []) items → ⊥
@@ -102,16 +102,16 @@ pub record JudgementExamples : Type 0 where
   -- the code of layer 2 is in a set, or not
   pub code : holds (code_in 2 (small_set 34)) small_situation ≡ true
   pub other_code : holds (code_in 2 (small_set 17)) small_situation ≡ false
-  -- layer 3 stands as one without an owner, whose trusts are never; it is not listed, so the test does not hold
+  -- layer 3 is one without an owner, whose trusts are never; it is not listed, so the test does not hold
   pub not_listed : holds (trust_is 3 1 trust.Never) small_situation ≡ false
   pub not_trusted : holds (opposite (trust_is 3 1 trust.Never)) small_situation ≡ true
 
 pub record JudgementCounterExamples : Type 0 where
-  -- nothing is allowed by no rule, or where a rule denies first
+  -- a report is not allowed if there is no rule, or if a rule that denies comes first
   pub no_rule : IsJudged [] small_report judgement.Allowed → ⊥
   pub denied_first : IsJudged (deny_rule (codes "late") comes_last ∷ allow_rule (codes "a") key_lives ∷ []) small_report
       judgement.Allowed → ⊥
-  -- not the second configuration is denied, where the first is, and not by another name
+  -- if the first configuration is denied, the judgement names neither the second nor another rule
   pub later : IsJudged [] small_report (judgement.Denied 5 (codes "default")) → ⊥
   pub other_name : IsJudged [] small_report (judgement.Denied 4 (codes "a")) → ⊥
   -- what is allowed is not denied

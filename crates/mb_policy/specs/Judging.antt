@@ -49,7 +49,7 @@ owner_hash layer = option_map (λ owner. sha256 (key_bytes owner)) layer.owner
 abbrev pub code_hash : Layer → Option (List ℕ)
 code_hash layer = option_map (λ code. code.hash) layer.code
 
--- the number is at least the first of these two and at most the second; no number is where the first is greater
+-- the number is at least the first of these two and at most the second; no number is, if the first is greater
 abbrev pub is_between : ℕ → ℕ → ℕ → Bool
 is_between least most number = nat_le least number && nat_le number most
 
@@ -88,7 +88,7 @@ pub record Ruling : Type 0 where
   pub name : List ℕ
   pub allows : Bool
 
--- the rule for a configuration of which no test holds: it denies
+-- the rule for a configuration if no rule's test holds: it denies
 abbrev pub default_ruling : Ruling
 default_ruling = record { name = codes "default"; allows = false }
 

@@ -6,7 +6,7 @@ use Rattle.mb_policy.specs.declared.judging.Judgement.{Judgement}
 use Rattle.mb_policy.specs.Policies.{PolicyItem, IsPolicy}
 use Rattle.mb_policy.specs.Judging.{IsJudged}
 
--- a text stands for one policy, or one line of it is the first that is wrong; never two of either, never both
+-- a text says one policy, or one line of it is the first that is wrong; never two of either, never both
 pub record PoliciesAreClear : Type 0 where
   pub one_policy : (text : List ℕ) (a b : List PolicyItem) → ReadsLines IsPolicy text a → ReadsLines IsPolicy text b
       → a ≡ b

@@ -1,4 +1,4 @@
--- What the values of the code stand for, and what reading gives.
+-- What the values of the code mean, and what reading gives.
 use Rattle.std.specs.Prelude.{◌≡◌, ℕ, zero, suc, ◌≤◌, Bool, true, false, List, [], ◌∷◌, ◌++◌, length, Option, None}
 use Rattle.std.specs.Prelude.{Some}
 use Rattle.std.specs.Prelude.{Result, Ok, Err}
@@ -32,14 +32,14 @@ use Rattle.mb_policy.specs.Reading.{FoundTest, pair_test, set_first, reads_leaf,
 abbrev pub set_meant : NamedSet → HashSet
 set_meant set = record { name = set.name; hashes = set.hashes }
 
--- the set at an index of the items; none where no set stands
+-- the set at an index of the items; none if no set stands there
 abbrev pub set_found : List PolicyItem → ℕ → Option HashSet
 set_found [] index = None
 set_found (set_item set ∷ rest) zero = Some set
 set_found (rule_item rule ∷ rest) zero = None
 set_found (item ∷ rest) (suc index) = set_found rest index
 
--- the set that was found, or one without a name and a hash
+-- the set that was found, or one without a name and without hashes
 abbrev pub found_or_empty : Option HashSet → HashSet
 found_or_empty None = record { name = []; hashes = [] }
 found_or_empty (Some set) = set
@@ -76,7 +76,7 @@ abbrev pub items_after : List PolicyItem → List Line → List PolicyItem
 items_after before [] = []
 items_after before (line ∷ rest) = line_meant before line ∷ items_after (before ++ line_meant before line ∷ []) rest
 
--- the items that lines stand for
+-- the items that lines mean
 abbrev pub items_of : List Line → List PolicyItem
 items_of lines = items_after [] lines
 
@@ -86,8 +86,7 @@ policy_items policy = items_of policy.lines
 
 -- ---- reading
 
--- The text stands for the policy, or this line of it is the first that is wrong. Nothing is said of a failed
--- allocation.
+-- The text says the policy, or this line of it is the first that is wrong. Nothing is said of a failed allocation.
 abbrev pub ReadsPolicy : List ℕ → Result Policy PolicyEnd → Type 0
 ReadsPolicy text (Ok policy) = ReadsLines IsPolicy text (policy_items policy)
 ReadsPolicy text (Err (end.BadLine line)) = TextFailsAtLine IsPolicy text line
@@ -103,7 +102,7 @@ abbrev pub MatchesNil : Bool → List (List ℕ) → Type 0
 MatchesNil true words = words ≡ []
 MatchesNil false words = (word : List ℕ) × (rest : List (List ℕ)) × (words ≡ word ∷ rest)
 
--- no word was left, and none is
+-- no word was left before, and none is left now
 abbrev pub NoneLeft : List (List ℕ) → List (List ℕ) → Type 0
 NoneLeft old new = (old ≡ []) × (new ≡ [])
 
@@ -125,17 +124,17 @@ ReadsOwner before words result after = GivesLeaf (reads_owner (items_of before) 
 abbrev pub ReadsCode : List Line → List (List ℕ) → Option Node → List (List ℕ) → Type 0
 ReadsCode before words result after = GivesLeaf (reads_code (items_of before) words) (items_of before) result after
 
--- what is given of a test that names no set
+-- what reading found of a test that names no set is given, whichever items stand before
 abbrev pub GivesPlain : FoundTest → Option Node → List (List ℕ) → Type 0
 GivesPlain found result after = (items : List PolicyItem) → GivesLeaf found items result after
 
--- the same where memory is taken; of a failed allocation nothing is said
+-- what reading found is given, and the words after it are left; of a failed allocation nothing is said
 abbrev pub GivesTest : FoundTest → List PolicyItem → Result Node NotSaid → List (List ℕ) → Type 0
 GivesTest found items (Ok test) after = found ≡ Some (test_meant items test, after)
 GivesTest found items (Err why.Form) after = found ≡ None
 GivesTest found items (Err why.NoMemory) after = Unit {0}
 
--- The test at the front of the words is read, nested at most so deep.
+-- The test at the front of the words is read, nested at most to this depth.
 abbrev pub ReadsFirst : List Line → ℕ → List (List ℕ) → Result Node NotSaid → List (List ℕ) → Type 0
 ReadsFirst before depth words result after =
     GivesTest (reads (items_of before) depth words) (items_of before) result after
@@ -174,17 +173,17 @@ line_has_rule name (line.Rule rule) = same_bytes rule.name name
 
 -- ---- lines
 
--- what is read is said by these words, or nothing is; of a failed allocation nothing is said
+-- the words say what was read, or they say nothing; a failed allocation leaves that open
 abbrev pub ReadsItem : {A B : Type 0} → (A → B) → (B → Type 0) → Result A NotSaid → Type 0
 ReadsItem meaning Says (Ok a) = Says (meaning a)
 ReadsItem {B} meaning Says (Err why.Form) = (b : B) → Says b → ⊥
 ReadsItem meaning Says (Err why.NoMemory) = Unit {0}
 
--- The words after `set` are read: they say this set, or no set at all.
+-- The words are read as those of a set: they say this set, or no set at all.
 abbrev pub ReadsSet : List PolicyItem → List (List ℕ) → Result NamedSet NotSaid → Type 0
 ReadsSet items words result = ReadsItem set_meant (SaysSet items words) result
 
--- what a rule says that is known to allow, or to deny
+-- the words after `allow`, or after `deny`, say a rule
 abbrev pub SaysRuleThat : Bool → List PolicyItem → List (List ℕ) → PolicyRule → Type 0
 SaysRuleThat allows items words rule = SaysRule items (verb_word allows ∷ words) rule
 
@@ -195,7 +194,7 @@ ReadsRule allows items words result = ReadsItem (rule_meant items) (SaysRuleThat
 abbrev pub ReadsLine : List PolicyItem → List ℕ → Result Line NotSaid → Type 0
 ReadsLine items text result = ReadsItem (line_meant items) (SaysItem items text) result
 
--- the hashes that all these words say
+-- all these words say these hashes, 1 to 64
 pub record SaysHashes (words : List (List ℕ)) (hashes : List (List ℕ)) : Type 0 where
   pub said : AllZip IsHashWord words hashes
   pub some : 1 ≤ length hashes

@@ -88,7 +88,7 @@ abbrev pub is_rule_named : List ℕ → PolicyItem → Bool
 is_rule_named name (set_item set) = false
 is_rule_named name (rule_item rule) = same_bytes rule.name name
 
--- the set that its name finds among the items is this one
+-- the first set with this set's name among the items is this set
 abbrev pub HasSet : List PolicyItem → HashSet → Type 0
 HasSet items set = set_named items set.name ≡ Some set
 

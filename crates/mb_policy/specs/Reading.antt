@@ -56,7 +56,7 @@ every_keyword =
     ∷ keyword.Leaf leaf.First ∷ keyword.Leaf leaf.Last ∷ keyword.Leaf leaf.Kind ∷ keyword.Leaf leaf.Alive
     ∷ keyword.Leaf leaf.Statement ∷ []
 
--- the first of these values that the word stands for
+-- the first of these values that the word means
 abbrev pub meant_by : {A : Type 0} → (A → List ℕ) → List A → List ℕ → Option A
 meant_by spell [] word = None
 meant_by spell (a ∷ rest) word = if same_bytes word (spell a) then Some a else meant_by spell rest word
@@ -70,7 +70,7 @@ trust_in word = meant_by trust_word (trust.Always ∷ trust.Never ∷ trust.Coun
 unfoldable pub kind_in : List ℕ → Option KeyKind
 kind_in word = meant_by kind_word (kinds.Epoch ∷ kinds.Configuration ∷ []) word
 
--- the number that a word is, if it is at most so large
+-- the number that a word is, if it is not above a limit
 unfoldable pub number_in : ℕ → List ℕ → Option ℕ
 number_in most word =
     if same_bytes word (decimal (digits_value 10 word)) && nat_le (digits_value 10 word) most
@@ -83,7 +83,7 @@ positive None = None
 positive (Some zero) = None
 positive (Some (suc n)) = Some (suc n)
 
--- the number of a layer that a word is, 1 to the last
+-- the number of a layer that a word is, 1 to `last`
 unfoldable pub layer_in : ℕ → List ℕ → Option ℕ
 layer_in last word = positive (number_in last word)
 
@@ -187,7 +187,7 @@ reads_after items inner (Some (keyword.Pair it)) words =
 reads_after items inner (Some keyword.Not) words = with_value (inner words) (λ found. Some (opposite found.0, found.1))
 reads_after items inner (Some (keyword.Leaf it)) words = reads_leaf items it words
 
--- the test at the front of the words, nested at most so deep
+-- the test at the front of the words, nested at most to this depth
 unfoldable pub reads : List PolicyItem → ℕ → List (List ℕ) → FoundTest
 reads items zero words = None
 reads items (suc depth) [] = None

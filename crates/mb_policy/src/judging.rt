@@ -34,10 +34,10 @@ pub struct DecidingRule<'a> {
     pub allows: bool,
 }
 
-/// The judgement of the report by the policy: for each configuration the first rule decides whose test holds, and
-/// `default`, which denies, if none does.
+/// The judgement of the report by the policy: for each configuration the first rule whose test holds decides, or
+/// `default`, which denies, if there is none.
 ///
-/// Errors: `NoMemory`, of which no clause says when it comes: the tests judge where there is enough.
+/// Errors: `NoMemory`. No clause says when it comes; the tests judge with ample memory.
 pub fn judge_report(alloc: Global, policy: &Policy, report: &Report) -> Result<Judgement, NoMemory>
     ensures { IfOk result (λ judged. IsJudged (policy_items policy.now) report.now judged) }
 {
@@ -88,7 +88,7 @@ fn find_rule<'a>(
     })
 }
 
-/// The rule of a line, if its test holds; `None` for a set. What was seen are the members of the sets before it.
+/// The rule of a line, if its test holds; `None` for a set. `seen` has the members of the sets before the line.
 fn deciding_rule<'a>(
     line: &'a Line,
     seen: &[Members],
@@ -112,7 +112,7 @@ fn deciding_rule<'a>(
 }
 
 impl Test {
-    /// Whether the test holds. What was seen are the members of the sets before its rule.
+    /// Whether the test holds. `seen` has the members of the sets before its rule.
     fn passes(&self, seen: &[Members], situation: &Situation<'_>) -> bool
         ensures { result ≡ test_passes seen.now (situation_meant situation.now) self.now }
     {

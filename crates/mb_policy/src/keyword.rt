@@ -1,4 +1,4 @@
-//! Words that stand for a value each.
+//! Words that mean a value each.
 
 ghost use Rattle.std.specs.Prelude.{◌≡◌};
 ghost use Rattle.mb_model.specs.Drafts.{trust_word, kind_word};

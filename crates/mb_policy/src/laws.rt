@@ -4,7 +4,7 @@ ghost use Rattle.mb_policy.specs.Laws.{PoliciesAreClear, JudgementsAreClear};
 ghost use Rattle.mb_policy.specs.Examples.{PolicyExamples, PolicyCounterExamples};
 ghost use Rattle.mb_policy.specs.Examples.{JudgementExamples, JudgementCounterExamples};
 
-/// A text stands for one policy, or one line of it is the first that is wrong; never two of either, never both.
+/// A text says one policy, or one line of it is the first that is wrong; never two of either, never both.
 pub fn policies_are_clear()
     ensures { PoliciesAreClear }
 {}

@@ -44,8 +44,8 @@ impl From<NoMemory> for PolicyEnd {
 /// The policy of a text. A line ends with LF, which the last may lack; empty lines and lines that begin with `#` are
 /// skipped. The text has at most 4,194,304 bytes.
 ///
-/// Errors: `BadLine` with the first line that is wrong, and `NoMemory`, of which no clause says when it comes: the tests
-/// read where there is enough.
+/// Errors: `BadLine` with the first line that is wrong, and `NoMemory`. No clause says when the latter comes; the tests
+/// read with ample memory.
 pub fn read_policy(alloc: Global, text: &[u8]) -> Result<Policy, PolicyEnd>
     requires { length text.now ≤ FILE_LIMIT }
     ensures { ReadsPolicy text.now result }

@@ -13,13 +13,13 @@ use crate::words::Words;
 use mb_model::{KeyKind, Trust};
 use mb_words::read_number;
 
-/// The last layer that a test can ask for.
+/// The last layer that a test can name.
 const LAST_LAYER: u8 = 3;
 
-/// The last layer that another one stands over.
+/// The last layer that has another above it.
 const LAST_LOWER: u8 = 2;
 
-/// The test that begins with this word, of the words after it. Its set is among the lines before.
+/// The test that begins with this word, read from the words after it. Its set is among the lines before.
 pub(crate) fn read_leaf(leaf: Leaf, words: &mut Words<'_>, before: &[Line]) -> Option<Test>
     ensures { ReadsLeaf before.now leaf words.old result words.new }
 {

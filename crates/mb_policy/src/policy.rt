@@ -8,7 +8,7 @@ use std::alloc::Global;
 /// A relying party's policy, as `read_policy` makes it.
 #[derive(Drop)]
 pub struct Policy {
-    /// What the lines say that are not skipped, in order.
+    /// What the lines that are not skipped say, in order.
     pub(crate) lines: Items<Line>,
 }
 
@@ -30,7 +30,7 @@ pub struct NamedSet {
 #[derive(Drop)]
 pub struct Rule {
     pub name: Bytes,
-    /// Whether a configuration is allowed for which the test is the first that holds.
+    /// Whether the rule allows a configuration for which its test is the first that holds.
     pub allows: bool,
     pub test: Test,
 }
@@ -42,7 +42,7 @@ pub enum Test {
     And(Box<Test>, Box<Test>),
     /// `or`: one or both hold.
     Or(Box<Test>, Box<Test>),
-    /// `not`: it does not hold.
+    /// `not`: the inner test does not hold.
     Not(Box<Test>),
     /// `owner`: the layer is listed, and the hash of its owner is in the set.
     Owner { layer: u8, set: usize },
@@ -56,9 +56,9 @@ pub enum Test {
     Reliable { layer: u8 },
     /// `number`: the configuration has one of these numbers.
     Number { least: u32, most: u32 },
-    /// `first`: it is the first of the report.
+    /// `first`: the configuration is the first of the report.
     First,
-    /// `last`: it is the last of the report.
+    /// `last`: the configuration is the last of the report.
     Last,
     /// `kind`: the key is of this kind.
     Kind(KeyKind),

@@ -9,7 +9,7 @@ use crate::words::Words;
 use mb_words::NotSaid;
 use std::alloc::Global;
 
-/// The test at the front of the words, nested at most so deep. The sets are among the lines before.
+/// The test at the front of the words, nested at most to this depth. The sets are among the lines before.
 pub(crate) fn read_test(
     alloc: Global,
     words: &mut Words<'_>,

@@ -1,4 +1,4 @@
-//! Policies and what they come to, by values of another program.
+//! Policies and what they come to, checked against values of another program.
 
 mod large;
 mod pieces;

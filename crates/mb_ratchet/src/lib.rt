@@ -1,8 +1,8 @@
 //! The typed states of a device by its hardware ratchet.
 //!
-//! This crate owns the ratchet's register, the types that show in which state it is, and which of these states
-//! reach which part of the battery-backed memory. A state is spent by the call that leaves it, and cannot be
-//! copied, so that the level only rises until power goes. No call takes memory.
+//! This crate owns the ratchet's register, the types that show in which state it is, and which of these states reach
+//! which part of the battery-backed memory. A state is used up by the call that leaves it, and cannot be copied, so
+//! that the level only rises until power goes. No call takes memory.
 #![tactic(auto)]
 
 mod reach;

@@ -4,7 +4,7 @@ ghost use Rattle.std.specs.Prelude.{◌≡◌, ◌+◌, ◌<◌, ℕ, Bool, true
 
 /// A device's power and the level of its ratchet, which only rises while power is on.
 pub trait Register {
-    /// What `rest` is told in.
+    /// The type of `rest`.
     ghost Rest: { Type 0 };
 
     /// All else that the register holds.

@@ -11,7 +11,7 @@ pub struct Off {
     seal: (),
 }
 
-/// Power is on, at level 0: nothing has been read of the memory yet.
+/// Power is on, at level 0: nothing of the memory has been read yet.
 #[derive(Drop)]
 pub struct Zero {
     seal: (),
@@ -29,7 +29,7 @@ pub struct Dead {
     seal: (),
 }
 
-/// Level 1, at which the device's own layer runs.
+/// Level 1, at which layer 1 runs.
 #[derive(Drop)]
 pub struct R1;
 
@@ -133,7 +133,7 @@ impl Dead {
     }
 }
 
-/// Raises the level by one, to that which `G` names.
+/// Raises the level by one, to the one that `G` names.
 fn raised<G, R: Register>(r: &mut R) -> Up<G>
     requires power { R.power r.old ≡ true }
     requires below { R.level r.old < 3 }

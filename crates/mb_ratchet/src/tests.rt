@@ -36,7 +36,7 @@ impl Register for Small {
     }
 }
 
-/// A state that holds another, and reaches what that one does.
+/// A state that holds another, and reaches what the other reaches.
 struct Held {
     up: Up<R1>,
 }

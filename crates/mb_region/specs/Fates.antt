@@ -13,7 +13,7 @@ pub record CanBeFated (fate : Fate) (area : List ℕ) : Type 0 where
   pub holds : HoldsRegion area region
   pub stored : CanBeWritten (region_after_fate fate region)
 
--- The memory holds contents for whose region in the slot this fate is pending, and that region can be written after it.
+-- The memory holds contents in which this fate is pending for the region in the slot, which can be written after it.
 pub record IsPending (slot : ℕ) (fate : Fate) (memory : Memory) : Type 0 where
   pub contents : Contents
   pub holds : Holds memory contents
@@ -24,11 +24,11 @@ pub record IsPending (slot : ℕ) (fate : Fate) (memory : Memory) : Type 0 where
 abbrev pub fated_in : ℕ → Fate → Contents → Contents
 fated_in slot fate contents = with_region_in slot (region_after_fate fate (region_in_slot slot contents)) contents
 
--- whatever the memory held, it holds after the fate
+-- whatever contents the memory held, it holds them after the fate
 pub record AppliesFate (slot : ℕ) (fate : Fate) (before after : Memory) : Type 0 where
   pub applied : (contents : Contents) → Holds before contents → Holds after (fated_in slot fate contents)
 
--- each of the contents that it held stays, or is as after the fate
+-- whatever contents the memory held, it holds them still, or after the fate
 abbrev pub KeepsOrApplies : ℕ → Fate → Memory → Memory → Type 0
 KeepsOrApplies slot fate before after =
     (contents : Contents) → Holds before contents → Holds after contents ⊎ Holds after (fated_in slot fate contents)

@@ -6,7 +6,7 @@ use Rattle.mb_model.specs.Board.{Memory}
 use Rattle.mb_model.specs.Meaning.{HoldsRegion, Contents}
 use Rattle.mb_model_memory.specs.Holding.{Holds, KeepsContents, with_region_in, fate_in_slot}
 
--- these slots are those of regions
+-- the slot is that of a region, 2 or 3
 abbrev pub IsRegionSlot : ℕ → Type 0
 IsRegionSlot slot = (slot ≡ 2) ⊎ (slot ≡ 3)
 
@@ -15,7 +15,7 @@ pub record HoldsSomeRegion (area : List ℕ) : Type 0 where
   pub region : Region
   pub holds : HoldsRegion area region
 
--- whatever the memory held, it holds with this region in the slot
+-- whatever contents the memory held, it holds them with this region in the slot
 pub record ReplacesRegion (slot : ℕ) (region : Region) (before after : Memory) : Type 0 where
   pub replaced : (contents : Contents) → Holds before contents → Holds after (with_region_in slot region contents)
 
@@ -23,6 +23,6 @@ pub record ReplacesRegion (slot : ℕ) (region : Region) (before after : Memory)
 pub record HasNoFate (slot : ℕ) (memory : Memory) : Type 0 where
   pub none : (contents : Contents) → Holds memory contents → fate_in_slot slot contents.root.pending ≡ Keep
 
--- it does the one or the other
+-- the contents of the memory stay, or the region in the slot is replaced by this one
 abbrev pub KeepsOrReplaces : ℕ → Region → Memory → Memory → Type 0
 KeepsOrReplaces slot region before after = KeepsContents before after ⊎ ReplacesRegion slot region before after

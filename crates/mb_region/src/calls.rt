@@ -55,7 +55,7 @@ pub fn count_stored_keys<L: Named, B: Board>(_up: &Up<R1>, b: &B, room: &mut Roo
     count_keys_in(b, L::number(), room)
 }
 
-/// Replaces the stored region by the one for which these bytes stand, at most 4,094 of them. If power fails, the memory
+/// Replaces the stored region by the one that these bytes spell, at most 4,094 of them. If power fails, the memory
 /// holds the region before or this one. `area` is working space. There are at most two write calls.
 pub fn commit_record<S: Reaches<L>, L: Named, B: Board>(
     s: S,
@@ -116,7 +116,7 @@ pub fn commit_region<S: Reaches<L>, L: Named, B: Board>(
 }
 
 /// Applies the fate that is pending for the stored region. The meaning of the memory stays, wherever power fails. A
-/// fate applied twice leaves what it leaves once, and `Keep` writes nothing. There are at most two write calls.
+/// fate applied twice leaves the same as applied once, and `Keep` writes nothing. There are at most two write calls.
 pub fn apply_fate<S: Reaches<L>, L: Named, B: Board>(
     s: S,
     b: &mut B,

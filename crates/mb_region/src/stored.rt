@@ -47,8 +47,7 @@ fn commit_bytes<B: Board>(
     commit(b, slot, area)
 }
 
-/// Replaces the region in the slot by the one for which these bytes stand, at most 4,094 of them. `area` is working
-/// space.
+/// Replaces the region in the slot by the one that these bytes spell, at most 4,094 of them. `area` is working space.
 pub(crate) fn replace<B: Board>(
     b: &mut B,
     slot: u16,
@@ -129,7 +128,7 @@ pub fn read_area<B: Board>(b: &B, slot: u16, area: &mut Vec<u8>)
     read_current(b, slot, area);
 }
 
-/// Replaces `room.other` by the bytes that stand for the region in the slot after its fate.
+/// Replaces `room.other` by the bytes that spell the region in the slot after its fate.
 fn fate_bytes<B: Board>(b: &B, slot: u16, fate: &Fate, room: &mut Room)
     requires can_use { CanUse (B.seen b.now) slot }
     requires held { CanBeFated fate.now (area_of_slot (B.seen b.now).memory.bbram slot) }

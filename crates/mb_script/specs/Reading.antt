@@ -13,7 +13,7 @@ use Rattle.mb_script.specs.declared.script.ScriptEnd.TheVariants as end
 
 -- ---- a script
 
--- The text stands for these events, or this line of it is the first that is wrong. Nothing is said of a failed
+-- The text is a script of these events, or this line of it is the first that is wrong. Nothing is said of a failed
 -- allocation.
 abbrev pub ReadsScript : List ℕ → Result (List Event) ScriptEnd → Type 0
 ReadsScript text (Ok events) = ReadsLines IsScript text events
@@ -24,7 +24,7 @@ ReadsScript text (Err end.NoMemory) = Unit {0}
 abbrev pub lines_said : List (List ℕ) → List (List ℕ)
 lines_said lines = filter (λ line. not (is_skipped line)) lines
 
--- This line, from 1, says the event with this index, from 0: as many lines before it are not skipped. Or there are no
+-- This line, from 1, says the event with this index, from 0: that many lines before it are not skipped. Or there are no
 -- more events than that, and the line is the one after the last.
 pub data IsLineOf (text : List ℕ) (index n : ℕ) : Type 0 where
   says : (before : List (List ℕ)) (line : List ℕ) (later : List (List ℕ)) → HasLines text (before ++ line ∷ later)
@@ -49,7 +49,7 @@ pub record HasNameFirst (text name rest : List ℕ) : Type 0 where
   pub named : IsName name
   pub whole : text ≡ name ++ 32 ∷ rest
 
--- a word is bytes in hexadecimal that may fill
+-- a word spells in hexadecimal the bytes that fill, 1 to 16 of them
 pub record IsFill (word fill : List ℕ) : Type 0 where
   pub spelled : IsHex word fill
   pub some : 1 ≤ length fill
@@ -61,8 +61,8 @@ pub record SaysSecret (text : List ℕ) (region : ℕ) (name : List ℕ) : Type 
   pub named : IsName name
   pub whole : text ≡ decimal region ++ 32 ∷ name
 
--- What stands after the count of a cut: how many bytes are kept, where that is said, and the word of the bytes that
--- fill.
+-- What follows the count of a cut: how many bytes are kept, 0 if the text does not say so, and the word of the bytes
+-- that fill.
 pub data SaysTail (text : List ℕ) (keep : ℕ) (word : List ℕ) : Type 0 where
   kept_some : keep ≤ FLASH_LENGTH → text ≡ codes "keep " ++ decimal keep ++ 32 ∷ (codes "fill " ++ word)
       → SaysTail text keep word

@@ -11,8 +11,8 @@ use mb_model::{DRAW_LENGTH, Event, Events};
 #[derive(Clone, Copy, Debug, PartialEq, Eq)]
 pub struct ShortNoise;
 
-/// Gives each command its draw: the i-th, from 0, has the bytes 32 i to 32 i + 31 of the noise, and further noise is not
-/// used. It takes no memory. The number of events is a `u32`.
+/// Gives each command its draw: the i-th, from 0, gets bytes 32 i to 32 i + 31 of the noise, and further noise is not
+/// used. Takes no memory. The number of events fits into a `u32`.
 ///
 /// Errors: `ShortNoise` if the noise has fewer than 32 bytes for each command; the events are then as before.
 pub fn place_draws(events: &mut Events, noise: &[u8]) -> Result<(), ShortNoise>

@@ -88,7 +88,7 @@ fn read_cut(words: &[u8]) -> Option<Event>
     }
 }
 
-/// Reads how many bytes a tear keeps, and gives the word of the bytes that fill.
+/// Reads how many bytes a tear keeps; answers this number and the word of the bytes that fill.
 fn split_kept(words: &[u8]) -> Option<(u32, &[u8])>
     ensures { MatchOption result ((keep : ℕ) (word : List ℕ) → SaysTail words.now keep word → ⊥) (λ parts. SaysTail words.now parts.0 parts.1.now) }
 {

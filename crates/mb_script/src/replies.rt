@@ -11,8 +11,8 @@ ghost use Rattle.mb_bytes.specs.Puts.{Puts, Writes};
 use mb_bytes::put_slice;
 use mb_model::{NoMemory, Reply, Standing};
 
-/// Appends the line of a reply and its LF, or leaves `out` as it was. The answer is Ok if the capacity holds them. The
-/// line of a refusal whose number no device gives ends after the number and a space.
+/// Appends the line of a reply and its LF, or leaves `out` as it was. It does not fail if the capacity of `out` holds
+/// them. The line of a refusal whose number no device gives ends after the number and a space.
 pub fn write_reply(reply: &Reply, out: &mut Vec<u8>) -> Result<(), NoMemory>
     ensures { Writes (line_with_lf (reply_line reply.now)) out.old result out.new }
 {
@@ -113,7 +113,7 @@ fn put_refused(number: u8, out: &mut Vec<u8>) -> Result<(), NoMemory>
     put_slice(out, reason(number).as_bytes())
 }
 
-/// Appends the line of a status: the serial, the configuration number, the length of the log, and how each layer stands.
+/// Appends the line of a status: the serial, the configuration number, the log's length, and how each layer stands.
 fn put_status(
     serial: &[u8; 16],
     numbers: (u32, u32),

@@ -32,8 +32,8 @@ impl From<NoMemory> for ScriptEnd {
     }
 }
 
-/// Reads the events of a script of at most 4,194,304 bytes, in order. The draw of each command is all zeros. A line ends
-/// with LF, which the last may lack; empty lines and lines that begin with `#` are skipped.
+/// Reads the events of a script of at most 4,194,304 bytes, in order. The draw of each command is all zeros. A line
+/// ends with LF, which the last may lack; empty lines and lines that begin with `#` are skipped.
 ///
 /// Errors: `BadLine` with the first line that is not in the grammar or has the 65,537th event, and `NoMemory`.
 pub fn read_script(alloc: Global, text: &[u8]) -> Result<Events, ScriptEnd>

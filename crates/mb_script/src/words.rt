@@ -10,7 +10,7 @@ use mb_model::{Bytes, FILL_LIMIT, MESSAGE_LIMIT, NAME_LIMIT, Tear};
 use mb_words::{NotSaid, read_hex, read_number, split_at_byte};
 use std::alloc::Global;
 
-/// Reads a number, at most `most`, and a space, and gives what follows too.
+/// Reads a number, at most `most`, and a space; answers the number and what follows.
 pub(crate) fn split_number(text: &[u8], most: u32) -> Option<(u32, &[u8])>
     ensures { MatchOption result ((number : ℕ) (rest : List ℕ) → HasNumberFirst most text.now number rest → ⊥) (λ parts. HasNumberFirst most text.now parts.0 parts.1.now) }
 {
@@ -23,7 +23,7 @@ pub(crate) fn split_number(text: &[u8], most: u32) -> Option<(u32, &[u8])>
     }
 }
 
-/// Reads a region, 2 or 3, and a space, and gives what follows too.
+/// Reads a region, 2 or 3, and a space; answers the region and what follows.
 pub(crate) fn split_region(text: &[u8]) -> Option<(u8, &[u8])>
     ensures { MatchOption result ((region : ℕ) (rest : List ℕ) → HasRegionFirst text.now region rest → ⊥) (λ parts. HasRegionFirst text.now parts.0 parts.1.now) }
 {
@@ -33,7 +33,7 @@ pub(crate) fn split_region(text: &[u8]) -> Option<(u8, &[u8])>
     }
 }
 
-/// Reads a name and a space, and gives what follows too.
+/// Reads a name and a space; answers the name and what follows.
 pub(crate) fn split_name(text: &[u8]) -> Option<(&[u8], &[u8])>
     ensures { MatchOption result ((name rest : List ℕ) → HasNameFirst text.now name rest → ⊥) (λ parts. HasNameFirst text.now parts.0.now parts.1.now) }
 {
@@ -71,8 +71,8 @@ pub(crate) fn read_short(alloc: Global, word: &[u8]) -> Result<Bytes, NotSaid>
     Ok(bytes)
 }
 
-/// The tear that keeps `keep` bytes and fills with the 1 to 16 bytes of a hexadecimal word; `None` if the word is none
-/// of 1 to 16 bytes.
+/// The tear that keeps `keep` bytes and fills with the 1 to 16 bytes of a hexadecimal word; `None` if the word does not
+/// spell 1 to 16 bytes.
 pub fn read_tear(keep: u32, word: &[u8]) -> Option<Tear>
     ensures { MatchOption result ((fill : List ℕ) → IsFill word.now fill → ⊥) (λ tear. (fill : List ℕ) × IsFill word.now fill × (tear ≡ tear_of keep fill)) }
 {

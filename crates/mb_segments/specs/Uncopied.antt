@@ -1,4 +1,4 @@
--- What was read and not copied. For which value does it stand?
+-- What was read and not copied. Which value does it mean?
 use Rattle.std.specs.Prelude.{ℕ, List, Option}
 use Rattle.std.specs.Option.{option_copied}
 use Rattle.mb_model.specs.declared.stored.Header.{Header}
@@ -6,7 +6,7 @@ use Rattle.mb_segments.specs.declared.header.StoredTexts.{StoredTexts}
 use Rattle.mb_segments.specs.declared.header.StoredHeader.{StoredHeader}
 use Rattle.mb_segments.specs.declared.log.LogSector.{LogSector}
 
--- the first and the second unsigned entry
+-- the first and the second unsigned entry, as bytes
 abbrev pub texts_of : StoredTexts → Option (List ℕ) × Option (List ℕ)
 texts_of texts = (option_copied texts.first, option_copied texts.second)
 

@@ -21,7 +21,7 @@ use mb_model::{
 };
 use std::alloc::Global;
 
-/// The word by which a header is known.
+/// The word that a header begins with.
 const WORD: [u8; 4] = *b"MBH1";
 
 /// The unsigned entries of a header as bytes, in place.

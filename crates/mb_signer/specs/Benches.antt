@@ -4,7 +4,7 @@ use Rattle.mb_model.specs.declared.key.KeySeed.{KeySeed}
 use Rattle.mb_signer.specs.declared.bench.Bench.{Bench}
 use Rattle.mb_signer.specs.declared.key_tree.KeyTree.{KeyTree}
 
--- a slot of a bench has a tree, of this key
+-- a slot of a bench holds the tree of this key
 abbrev pub IsTreeAt : Option KeyTree → KeySeed → Type 0
 IsTreeAt None seed = ⊥
 IsTreeAt (Some own) seed = own.seed ≡ seed

@@ -7,7 +7,7 @@ use Rattle.mb_model.specs.Signing.{node_of}
 abbrev pub node_at : List (List ℕ) → ℕ → List ℕ
 node_at nodes r = slice_index_or nodes (r - 1) []
 
--- the nodes from a up to, and without, b are those of the key's tree
+-- the nodes from a to b - 1 are those of the key's tree
 pub record HasNodes (key : KeySeed) (nodes : List (List ℕ)) (a b : ℕ) : Type 0 where
   pub each : (r : ℕ) → a ≤ r → r < b → node_at nodes r ≡ node_of key r
 
@@ -20,13 +20,13 @@ pub record IsSomeTree (nodes : List (List ℕ)) : Type 0 where
   pub key : KeySeed
   pub tree : IsTreeOf key nodes
 
--- On each level from the root down to level n, the nodes stand that have only leaves before the next under them, where
--- `next` is the first number of level n that is still to come.
+-- The table has the nodes of level n that come before node `next`, and each node above them whose descendants on level
+-- n all come before `next`. The root is level 0.
 unfoldable pub IsFilled : KeySeed → List (List ℕ) → ℕ → ℕ → Type 0
 IsFilled key nodes zero next = HasNodes key nodes 1 next
 IsFilled key nodes (suc n) next = HasNodes key nodes (2 ^ suc n) next × IsFilled key nodes n (next / 2)
 
--- how many nodes stand on the levels above level n that have only leaves before the next under them
+-- how many nodes above level n have all their descendants on level n before node `next`, plus 2 ^ n - 1
 unfoldable pub joined_above : ℕ → ℕ → ℕ
 joined_above zero next = 0
 joined_above (suc n) next = next / 2 + joined_above n (next / 2)

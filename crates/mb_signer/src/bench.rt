@@ -16,7 +16,7 @@ use mb_model::{KeySeed, PublicKey, SIGNATURE_LENGTH};
 use std::sync::ledger::Ledger;
 
 /// The trees of at most two keys, each beside its key's seed, while one event is served. A tree is found by comparing
-/// seeds; if it is not there, it is built and kept. The bench is dropped with the event, so no seed on it outlives that.
+/// seeds; if it is not there, it is built and kept. The bench is dropped with the event, and so are the seeds on it.
 #[derive(Drop)]
 pub struct Bench {
     first: Option<KeyTree>,

@@ -2,8 +2,8 @@
 //! appendix A).
 //!
 //! This crate owns the rights to sign, each of which serves one signature; the tree of a key, which may be kept; the
-//! bench, which has the trees of the keys at hand while one event is served; and signing. It hashes by the counted
-//! hash of `mb_lms` alone. Each call that hashes does so on the count of its caller, and begins none. No call takes
+//! bench, which has the trees of the keys at hand while one event is served; and signing. It hashes with the counted
+//! hash of `mb_lms` alone. Each call that hashes adds to the count of its caller, and begins none. No call takes
 //! memory.
 #![tactic(auto)]
 

@@ -18,10 +18,10 @@ pub(crate) const CHAINS: u16 = 67;
 /// The number of steps of a chain.
 const CHAIN_STEPS: u8 = 15;
 
-/// The number in place of a chain's by which the randomizer of a signature is derived.
+/// The number that replaces a chain's when the randomizer of a signature is derived.
 const RANDOMIZER: u16 = 0xfffd;
 
-/// The number in place of a step's by which a private value is derived from the seed (RFC 8554, appendix A).
+/// The number that replaces a step's when a private value is derived from the seed (RFC 8554, appendix A).
 const SEED: u8 = 0xff;
 
 /// One step of a chain, whose text of 55 bytes is hashed at once (RFC 8554, section 4.3).

@@ -1,4 +1,4 @@
-//! Signing, by a kept tree or without one (RFC 8554, sections 4.5 and 5.4).
+//! Signing, with a kept tree or without one (RFC 8554, sections 4.5 and 5.4).
 
 ghost use Rattle.std.specs.Prelude.{◌≡◌, ◌+◌, ◌<◌, ◌≤◌, ◌++◌, take};
 ghost use Rattle.mb_model.specs.declared.key.KeySeed.{KeySeed};
@@ -37,7 +37,7 @@ pub fn public<L: Ledger>(seed: &KeySeed, hashes: &mut HashCount<L>) -> PublicKey
     public_kept(&KeptTree::build(seed, hashes), seed)
 }
 
-/// The public key of the seed, by the key's tree, in no hash (RFC 8554, section 5.3).
+/// The public key of the seed, from the key's tree, without a hash (RFC 8554, section 5.3).
 #[tactic(auto, unfolding(mb_model::specs::Signing::public_of))]
 pub fn public_kept(tree: &KeptTree, seed: &KeySeed) -> PublicKey
     requires { IsTreeOf seed.now tree.now }
@@ -52,7 +52,7 @@ pub fn public_kept(tree: &KeptTree, seed: &KeySeed) -> PublicKey
 }
 
 /// Writes the one signature of `head` followed by `body` at the right's index, in at most 35,473 hashes: those of the
-/// key's tree, and those of signing by it (RFC 8554, section 5.4.1).
+/// key's tree, and those of signing with it (RFC 8554, section 5.4.1).
 pub fn sign<L: Ledger>(
     right: OneUse,
     seed: &KeySeed,
@@ -68,7 +68,7 @@ pub fn sign<L: Ledger>(
     sign_kept(right, &tree, seed, head, body, out, hashes);
 }
 
-/// Writes the one signature of `head` followed by `body` at the right's index, by the key's tree, in at most 1,074
+/// Writes the one signature of `head` followed by `body` at the right's index, with the key's tree, in at most 1,074
 /// hashes: 67 private values, at most 1,005 steps of chains, C, and the hash of the text (RFC 8554, section 5.4.1).
 ///
 /// Each hash is a `mb_lms::hash` on the caller's count, and this crate makes hashes by no other call. So the clause

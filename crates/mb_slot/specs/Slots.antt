@@ -1,4 +1,4 @@
--- What a call on a slot of the battery-backed memory may need, and what it may change. Can a write to one slot reach
+-- What a call on a slot of the battery-backed memory needs, and what it may change. Can a write to one slot reach
 -- another?
 use Rattle.std.specs.Prelude.{◌≡◌, ◌≢◌, ℕ, ◌+◌, ◌<◌, ◌≤◌, ◌%◌, ◌==◌, ◌⊎◌, List, length, slice_index}
 use Rattle.std.specs.Prelude.{Bool, true, not, if◌then◌else◌, Result}
@@ -26,42 +26,43 @@ is_first_in_force bbram slot = selector_of bbram slot % 2 == 0
 abbrev pub area_offset : ℕ → Bool → ℕ
 area_offset slot is_first = if is_first then (slots slot).first else (slots slot).second
 
--- the offset of the current area, and of the inactive one
+-- the offset of the current area
 abbrev pub current_offset : List ℕ → ℕ → ℕ
 current_offset bbram slot = area_offset slot (is_first_in_force bbram slot)
 
+-- the offset of the inactive area
 abbrev pub other_offset : List ℕ → ℕ → ℕ
 other_offset bbram slot = area_offset slot (not (is_first_in_force bbram slot))
 
--- this is the offset wanted, and an area stands there that the level reaches
+-- this is the wanted offset, and an area stands there that the level reaches
 pub record IsAreaAt (level wanted at : ℕ) : Type 0 where
   pub same : at ≡ wanted
   pub within : at + AREA_LENGTH ≤ BBRAM_LENGTH
   pub reached : Reached level at AREA_LENGTH
 
--- the current area has become the inactive one, and the inactive one the current one
+-- the current area has become the inactive one, and the inactive area the current one
 pub record AreExchanged (slot : ℕ) (before after : List ℕ) : Type 0 where
   pub in_force : area_of_slot after slot ≡ inactive_area_of_slot before slot
   pub not_in_force : inactive_area_of_slot after slot ≡ area_of_slot before slot
 
 -- ---- what stays
 
--- an offset is outside of n bytes from another on
+-- an offset is outside the n bytes that begin at another
 abbrev pub IsOutside : ℕ → ℕ → ℕ → Type 0
 IsOutside at n offset = (offset < at) ⊎ (at + n ≤ offset)
 
--- two memories of one length are the same outside of n bytes
+-- two memories of one length are the same outside the n bytes that begin at an offset
 pub record IsSameOutside (at n : ℕ) (before after : List ℕ) : Type 0 where
   pub sized : length after ≡ length before
   pub bytes : (offset : ℕ) → IsOutside at n offset → slice_index after offset ≡ slice_index before offset
 
--- they are the same but for the selector and the areas of a slot
+-- two memories of one length are the same but for the selector and the areas of a slot
 pub record IsSameBut (slot : ℕ) (before after : List ℕ) : Type 0 where
   pub sized : length after ≡ length before
   pub bytes : (offset : ℕ) → offset ≢ (slots slot).selector → IsOutside (slots slot).first AREA_LENGTH offset
       → IsOutside (slots slot).second AREA_LENGTH offset → slice_index after offset ≡ slice_index before offset
 
--- they are the same but for the inactive area of a slot
+-- two memories of one length are the same but for the area of a slot that is inactive in the first
 abbrev pub IsSameButOther : ℕ → List ℕ → List ℕ → Type 0
 IsSameButOther slot before after = IsSameOutside (other_offset before slot) AREA_LENGTH before after
 

@@ -1,4 +1,4 @@
-//! The commands, as tables of plays: what each makes, by values of an independent program, and how it ends.
+//! The commands, as tables of plays: what each makes, against values of an independent program, and how it ends.
 
 mod applications;
 mod devices;

@@ -1,4 +1,4 @@
--- What is known of a memory before a call that a test makes.
+-- What is known of a memory before a call that a test makes?
 use Rattle.std.specs.Prelude.{◌≡◌, ℕ, List, Bool, false, Some}
 use Rattle.mb_model.specs.declared.state.State.{State}
 use Rattle.mb_model.specs.Memory.{area_of_slot}
@@ -7,7 +7,7 @@ use Rattle.mb_model.specs.Board.{Memory, IsLoaded, image_of}
 use Rattle.mb_region.specs.Regions.{HoldsSomeRegion}
 use Rattle.mb_boot.specs.Booting.{StandsForValid}
 
--- an image stands for a live state that a device can have
+-- an image means a live state that a device can have
 pub record IsLiveImage (image : List ℕ) : Type 0 where
   pub state : State
   pub well_formed : IsWellFormed image (Some state)

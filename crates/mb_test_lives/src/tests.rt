@@ -1,5 +1,5 @@
-//! Whole lives of devices, as tables of plays: words one after another, how each ends, and what files then hold. What they
-//! expect are values of an independent program.
+//! Whole lives of devices, as tables of plays: words one after another, how each ends, and what files then hold. They
+//! expect values of an independent program.
 
 mod chains;
 mod cutat;

@@ -1,4 +1,4 @@
-//! The birth of the device of the rows, the officers that give it orders, and the orders of a life, by values of an
+//! The birth of the device of the rows, the officers that give it orders, and the orders of a life, with values of an
 //! independent program.
 
 use crate::files::host_with;
@@ -13,7 +13,7 @@ pub const MAKER: &str = "owner 48995f84931c2e75a903a306f20e1d44ba9031ce4a7461428
 /// The line of the owner's public key.
 pub const OWNER: &str = "owner a40bf9d678da59a9e050d292356cbcb44ba41a7e2df7a4cc8f77c8f3acf75b0f\n";
 
-/// The line that tells the device's serial.
+/// The line of the device's serial.
 pub const SERIAL: &str = "serial c10b471ceff881272aa5ed819fd9a0e0\n";
 
 /// The hash of the device's image.

@@ -22,7 +22,7 @@ pub(crate) fn is_cut(program: &impl Program, host: &mut MemoryHost, cut: &Cut) -
     Err("too many writes")?
 }
 
-/// Power is lost at the write of this number, or there are fewer writes, which is the answer.
+/// Power is lost at the write of this number. Answers whether there are fewer writes.
 fn was_cut(
     program: &impl Program,
     host: &mut MemoryHost,
@@ -61,11 +61,11 @@ const NEW: &str = "new\n";
 
 const UNSTOPPED: &str = "unstopped\n";
 
-/// Each boot after a loss is cut at each of so many of its first writes.
+/// The number of first writes at which each boot after a loss is cut.
 const BOOT_WRITES: u32 = 3;
 
-/// Power is lost at each write of an event in turn. `cutat` answers `old` up to a write, then `new`, if the event leaves
-/// another state, and then `unstopped`. After each loss the device shows the state that `cutat` answered.
+/// Power is lost at each write of an event in turn. `cutat` answers `old` up to a write, then `new`, if the event
+/// leaves another state, and then `unstopped`. After each loss the device shows the state that `cutat` answered.
 pub(crate) fn is_cut_twice(
     program: &impl Program,
     host: &mut MemoryHost,
@@ -90,7 +90,8 @@ pub(crate) fn is_cut_twice(
     Err("too many writes")?
 }
 
-/// Whether a loss one write later may be answered so. `changes` says whether the event leaves another state.
+/// Whether `verdict` may be the answer for a loss one write later. `changes` says whether the event leaves another
+/// state.
 fn may_follow(last: &str, verdict: &str, changes: bool) -> bool {
     if verdict == OLD {
         last != NEW
@@ -101,7 +102,7 @@ fn may_follow(last: &str, verdict: &str, changes: bool) -> bool {
     }
 }
 
-/// What `cutat` answers for a loss in the write of this number. It writes nothing.
+/// The answer of `cutat`, which writes no file, for a loss in the write of this number.
 fn verdict_at(
     program: &impl Program,
     host: &mut MemoryHost,
@@ -125,7 +126,7 @@ fn verdict_at(
     Err("no verdict")?
 }
 
-/// Writes a script: the lines before the event, these lines, the event, and these.
+/// Writes a script: the lines before the event, the lines `armed`, the event, and the lines `rest`.
 fn write_script(
     alloc: Global,
     host: &mut MemoryHost,
@@ -176,8 +177,8 @@ fn boots_are_cut(
 /// What is printed once the case is opened.
 const DEAD: &str = "tampered\nrefused 3 zeroised\nrefused 3 zeroised\n";
 
-/// Power is lost in these writes of the event and of the boot that follows, and then the device is given these lines and
-/// prints these. Whether the boot had so many writes.
+/// Power is lost in these writes of the event and of the boot that follows, and then the device is given these lines
+/// and prints these replies. Answers whether the boot had that many writes.
 fn goes_on(
     program: &impl Program,
     host: &mut MemoryHost,

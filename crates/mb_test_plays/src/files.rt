@@ -73,7 +73,7 @@ fn laid(alloc: Global, pieces: &[(&str, usize, u8)]) -> Result<Vec<u8>, Fail> {
     Ok(bytes)
 }
 
-/// The text so many times.
+/// The text, `count` times.
 fn repeated(alloc: Global, text: &str, count: usize) -> Result<Vec<u8>, Fail> {
     let mut bytes = Vec::new(alloc);
     for _ in 0..count {
@@ -88,7 +88,7 @@ pub(crate) fn filled(mut bytes: Vec<u8>, length: usize, byte: u8) -> Result<Vec<
     Ok(bytes)
 }
 
-/// Writes the file of this name, of these parts.
+/// Writes the file of this name, made of these parts.
 pub fn write(alloc: Global, host: &mut MemoryHost, name: &str, parts: &[Part]) -> Result<(), Fail> {
     let content = content_of(alloc, host, parts)?;
     store(host, name, &content)
@@ -121,7 +121,7 @@ fn part_of<'a>(host: &'a MemoryHost, part: &Part) -> Result<&'a [u8], Fail> {
     }
 }
 
-/// The bytes without so many of the last.
+/// The bytes without the last `count`.
 fn without(bytes: &[u8], count: usize) -> Result<&[u8], Fail> {
     slice(bytes, 0, bytes.len().saturating_sub(count))
 }

@@ -1,5 +1,5 @@
 //! What a command meets of a hostile world: calls of the host that fail, files that are too long, and files that end
-//! early. Each is a kind of step, of which the tables of commands are made.
+//! early. The tables of commands are made of these kinds of steps.
 
 use crate::files::{file_of, filled, host_like, slice, store};
 use crate::play::{Program, ends, status_of};
@@ -17,8 +17,8 @@ struct Times<'a> {
     after: &'a MemoryHost,
 }
 
-/// Each call of the host by each command fails in turn. The line tells which, each file that was written before is what
-/// it is where no call fails, and nothing is written after it.
+/// Each call of the host by each command fails in turn. The line names the call, each file written before it is as if
+/// no call had failed, and nothing is written after it.
 pub fn calls_fail(program: &impl Program, host: &MemoryHost, table: &[Access]) -> Result<(), Fail> {
     for access in table {
         fails_in_turn(program, host, access)?;
@@ -61,7 +61,7 @@ fn writes_fail(program: &impl Program, times: &Times<'_>, access: &Access) -> Re
     Ok(())
 }
 
-/// The call of this number fails, from 0, which ends the words with this status and line.
+/// The call of this number, from 0, fails, and the words end with this status and line.
 fn call_fails(
     program: &impl Program,
     times: &Times<'_>,
@@ -100,7 +100,7 @@ fn files_are(
     Ok(())
 }
 
-/// The calls are those up to the one of this number, and so many prints.
+/// The calls are the reads and writes up to the one of this number, and `prints` prints.
 fn calls_are(host: &MemoryHost, access: &Access, call: usize, prints: u64) -> Result<(), Fail> {
     let calls = call.saturating_add(1);
     let reads = calls.min(access.reads.len());
@@ -161,7 +161,7 @@ fn ends_early(program: &impl Program, host: &mut MemoryHost, file: &ShortFile) -
     store(host, file.name, &whole)
 }
 
-/// The line of a file that ends at this offset.
+/// The line that is printed for a file that ends at this offset.
 fn line_at(alloc: Global, told: &Told, offset: usize) -> Result<String, NoMemory> {
     match told {
         Told::Line(line) => Ok(String::from_str(alloc, line)?),

@@ -1,8 +1,8 @@
 //! Plays: words that a program is given one after another over a host in memory, how each ends, and what files then
-//! hold. And the device, its officers and their orders with which the plays of most commands begin.
+//! hold. Also the device, its officers and their orders, with which the plays of most commands begin.
 //!
-//! This crate is for tests alone: its calls compare, and say what differs. It stands on no program, so it is proved
-//! before one is. What it expects are values of another program, `peers/`.
+//! This crate is for tests alone: its calls compare, and say what differs. It depends on no program, so it is proved
+//! before one is. It expects values of another program, `peers/`.
 #![tactic(auto)]
 
 mod births;

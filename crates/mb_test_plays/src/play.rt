@@ -125,14 +125,14 @@ fn serve(
     ends(program, host, &words, 0, lines)
 }
 
-/// These lines were printed by the words after so many bytes.
+/// The words printed these lines, after `seen` bytes that were there before.
 fn prints(host: &MemoryHost, words: &str, seen: usize, lines: &str) -> Result<(), Fail> {
     let printed = host.printed().get(seen..).unwrap_or_default();
     let found = str::from_utf8(printed).unwrap_or_default();
     expect(fit(printed, lines), format_args!("{words}: {found}"))
 }
 
-/// These bytes are one of these.
+/// The bytes fit one of these choices of lines.
 pub(crate) fn fit_one(printed: &[u8], choices: &[&str]) -> bool {
     for lines in choices {
         if fit(printed, lines) {
@@ -142,8 +142,8 @@ pub(crate) fn fit_one(printed: &[u8], choices: &[&str]) -> bool {
     false
 }
 
-/// These bytes are these lines. A line that ends in `*` stands for all that begin with what is before it, and a line `**`
-/// for all that follow.
+/// The bytes are these lines. A line that ends in `*` fits each line that begins with what is before it, and a line
+/// `**` fits all that follow.
 fn fit(printed: &[u8], lines: &str) -> bool {
     let mut found = printed.split(|byte| *byte == b'\n');
     for line in lines.split('\n') {

@@ -1,4 +1,4 @@
-//! What is seen of a host. Each call fails where it is not so.
+//! What is seen of a host. Each call fails if it is not so.
 
 use crate::files::{file_of, slice};
 use mb_host::MemoryHost;
@@ -44,7 +44,7 @@ fn sector_of<'a>(host: &'a MemoryHost, name: &str, number: usize) -> Result<&'a 
     slice(file_of(host, name)?, from, from + SECTOR_LENGTH)
 }
 
-/// Summaries were printed, and each tells the hash of the file of this name.
+/// Summaries were printed, and each names the hash of the file of this name.
 pub(crate) fn is_summarised(alloc: Global, host: &MemoryHost, name: &str) -> Result<(), Fail> {
     let mut is_told = false;
     for line in host.printed().split(|byte| *byte == b'\n') {
@@ -56,7 +56,7 @@ pub(crate) fn is_summarised(alloc: Global, host: &MemoryHost, name: &str) -> Res
     expect(is_told, format_args!("no summary of {name}"))
 }
 
-/// The file of this name ends in so many zeros.
+/// The file of this name ends in `count` zeros.
 pub(crate) fn ends_in_zeros(host: &MemoryHost, name: &str, count: usize) -> Result<(), Fail> {
     let bytes = file_of(host, name)?;
     let end = bytes
@@ -66,7 +66,7 @@ pub(crate) fn ends_in_zeros(host: &MemoryHost, name: &str, count: usize) -> Resu
     expect(is_right, format_args!("the end of {name}"))
 }
 
-/// So many reads, writes and prints were called.
+/// The host was called for these numbers of reads, writes and prints.
 pub(crate) fn was_called(host: &MemoryHost, calls: [u64; 3]) -> Result<(), Fail> {
     let [reads, writes, prints] = [host.reads(), host.writes(), host.prints()];
     let is_right = [reads, writes, prints] == calls;

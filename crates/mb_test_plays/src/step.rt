@@ -6,7 +6,7 @@ pub struct Given {
     pub content: Content,
 }
 
-/// What a file holds that is given.
+/// What a given file holds.
 pub enum Content {
     /// Bytes in hexadecimal.
     Hex(&'static str),
@@ -16,11 +16,11 @@ pub enum Content {
     Pieces(&'static [&'static str]),
     /// Pieces: what each begins with, in hexadecimal, where it ends, and the byte up to there.
     Laid(&'static [(&'static str, usize, u8)]),
-    /// So many bytes, all of them 7.
+    /// This many bytes, all of them 7.
     Sevens(usize),
-    /// So many digits, all of them 7.
+    /// This many digits, all of them 7.
     Digits(usize),
-    /// A text, so many times.
+    /// A text, this many times.
     Repeats(&'static str, usize),
 }
 
@@ -33,11 +33,11 @@ pub struct Play {
 
 /// What is done in a play, or seen of its host.
 pub enum Step {
-    /// The words end with this status and print these lines, of which one that ends in `*` stands for all that begin so, and
-    /// one that is `**` for all that follow. A space separates words; one may be empty.
+    /// The words end with this status and print these lines. A line that ends in `*` fits each line that begins so, and
+    /// a line `**` fits all that follow. A space separates words; one may be empty.
     Ends(&'static str, u8, &'static str),
-    /// The image is served a script of these parts, with the noise of this name, which ends with status 0 and prints these
-    /// lines.
+    /// The image is served a script of these parts, with the noise of this name, which ends with status 0 and prints
+    /// these lines.
     Serves(&'static [Part], &'static str, &'static str),
     /// The file of this name has these bytes, in hexadecimal.
     Holds(&'static str, &'static str),
@@ -47,7 +47,7 @@ pub enum Step {
     IsOrder(&'static str, &'static str),
     /// There is no file of this name.
     IsMissing(&'static str),
-    /// So many reads, writes and prints were called.
+    /// The host was called for these numbers of reads, writes and prints.
     WasCalled(u64, u64, u64),
     /// The file is written.
     Gives(Given),
@@ -57,7 +57,7 @@ pub enum Step {
     Matches(&'static str, &'static str),
     /// The flashes of the images of these names differ in these sectors, and in no other.
     Touches(&'static str, &'static str, &'static [usize]),
-    /// The file of this name ends in so many zeros.
+    /// The file of this name ends in this many zeros.
     EndsInZeros(&'static str, usize),
     /// Power is lost at each write in turn.
     IsCut(&'static Cut),
@@ -65,7 +65,7 @@ pub enum Step {
     IsCutTwice(&'static TwoCuts),
     /// The file of this name becomes the line of the statement that was printed last.
     KeepsStatement(&'static str),
-    /// Summaries were printed, and each tells the hash of the file of this name.
+    /// Summaries were printed, and each names the hash of the file of this name.
     IsSummarised(&'static str),
     /// Each call of the host by each of these commands fails in turn.
     CallsFail(&'static [Access]),
@@ -75,31 +75,31 @@ pub enum Step {
     InputsAreShort(&'static [ShortFile]),
 }
 
-/// A script on an image, in which power is lost at each write in turn of what comes after these lines.
+/// A script on an image, in which power is lost at each write in turn of what comes after the lines `before`.
 pub struct Cut {
     pub image: &'static str,
     pub before: &'static str,
     pub after: &'static [Part],
-    /// What may be printed where power is lost.
+    /// What may be printed if power is lost.
     pub torn: &'static [&'static str],
-    /// What is printed first where there are fewer writes.
+    /// What is printed first if there are fewer writes.
     pub whole: &'static str,
 }
 
-/// An event on an image, at each write of which power is lost in turn, and again at the first writes of the next boot.
+/// An event on an image. Power is lost at each of its writes in turn, and again at the first writes of the next boot.
 pub struct TwoCuts {
     pub image: &'static str,
     pub noise: &'static str,
     /// The lines before the event.
     pub before: &'static str,
-    /// What is printed for those.
+    /// What is printed for the lines before the event.
     pub opened: &'static str,
     pub event: &'static [Part],
-    /// The lines that ask for the state.
+    /// The lines whose replies show the state.
     pub asks: &'static str,
-    /// What they are answered in the state before the event.
+    /// The replies to `asks` in the state before the event.
     pub old: &'static str,
-    /// What they are answered in the state after it, or the same if the event leaves the state as it is.
+    /// The replies to `asks` in the state after the event. They equal `old` if the event leaves the state as it is.
     pub new: &'static str,
 }
 
@@ -110,7 +110,7 @@ pub enum Part {
     Text(&'static str),
     /// The content of the file of this name.
     File(&'static str),
-    /// The content of the file of this name, without so many of its last bytes.
+    /// The content of the file of this name, without this many of its last bytes.
     Without(&'static str, usize),
     /// The content of the file of this name from the first of these offsets up to the second.
     Slice(&'static str, usize, usize),
@@ -133,7 +133,7 @@ pub struct ShortFile {
     pub offsets: &'static [usize],
 }
 
-/// The line of a file that ends early.
+/// The line that is printed for a file that ends early.
 pub enum Told {
     /// This line.
     Line(&'static str),

@@ -23,7 +23,7 @@ impl Program for Miniboot {
     }
 }
 
-/// The program, which takes its memory of this runtime.
+/// The program, which takes its memory from this runtime.
 pub(crate) fn program_of(rt: &impl AllocGlobal) -> Miniboot {
     Miniboot { alloc: rt.alloc() }
 }

@@ -1,7 +1,7 @@
 //! What is allowed and what is accepted: orders, logs, chains and images by the rules, and a board's power losses.
 //!
-//! This crate has tests alone: of `mb_authority`, `mb_log`, `mb_orders`, `mb_verifier`, `mb_image` and `mb_board`.
-//! What they expect are values of other programs, and what the rules of the device give.
+//! This crate has only tests: of `mb_authority`, `mb_log`, `mb_orders`, `mb_verifier`, `mb_image` and `mb_board`. They
+//! expect values of other programs, and what the rules of the device give.
 #![tactic(auto)]
 
 #[cfg(test)]

@@ -1,5 +1,5 @@
--- How a command ends whose chain is not accepted, or that finds no memory to judge it. Is each reason told by its own
--- number, and at its own place?
+-- How a command ends if its chain is not accepted, or if there is no memory to verify it. Is each reason reported by
+-- its own number, and at its own place?
 use Rattle.std.specs.Prelude.{◌≡◌, Option, Some, None}
 use Rattle.mb_model.specs.Acceptance.{ChainRefusal}
 use Rattle.mb_model.specs.VerifyCommand.{chain_refusal_line}

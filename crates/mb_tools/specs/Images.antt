@@ -1,4 +1,5 @@
--- How a command ends that finds a fault in an image, or no memory to look for one. Is each fault told at its own place?
+-- How a command ends if its image has a fault, or if there is no memory to look for one. Is each fault reported at its
+-- own place?
 use Rattle.std.specs.Prelude.{◌≡◌, Option, Some, None}
 use Rattle.mb_model.specs.declared.role.Role.TheVariants as role
 use Rattle.mb_model.specs.Faults.{Fault}

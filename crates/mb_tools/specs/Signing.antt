@@ -1,4 +1,4 @@
--- How the commands end that sign, where the key has not signed. Does each cause have its end?
+-- How the commands that sign end if the key has not signed. Does each cause have its end?
 use Rattle.std.specs.Prelude.{◌≡◌, codes}
 use Rattle.mb_officer.specs.declared.signing.SignEnd.{SignEnd}
 use Rattle.mb_officer.specs.declared.signing.SignEnd.TheVariants as sign

@@ -23,7 +23,7 @@ use mb_verifier::{Report, verify as judge};
 use std::alloc::Global;
 use std::sync::ledger::Ledger;
 
-/// The names of the files of `audit`, and the number of the key that is asked for.
+/// The names of the files of `audit`, and the number of the key to audit.
 #[derive(Clone, Copy)]
 pub struct AuditNames<'a> {
     pub image: &'a str,
@@ -46,8 +46,8 @@ impl<'a> AuditNames<'a> {
     }
 }
 
-/// Audits a chain under the maker's public key: prints that it lists exactly the configurations in which the device held
-/// the key, or refuses.
+/// Audits a chain under the maker's public key: prints that it lists exactly the configurations in which the device
+/// held the key, or refuses.
 pub fn audit<H: Host, L: Ledger>(
     alloc: Global,
     names: &AuditNames<'_>,
@@ -136,7 +136,7 @@ fn compare<H: Host>(
     }
 }
 
-/// The configurations in which the device held the key, by as many of the first entries of its log.
+/// The configurations in which the device held the key, by the first `count` entries of its log.
 fn own_lives(alloc: Global, state: &State, count: u32, key: u32) -> Result<Lives, NoMemory>
     requires valid { IsValidState state.now }
     requires stored { IsStorableState state.now }

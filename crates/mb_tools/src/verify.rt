@@ -17,7 +17,7 @@ use mb_model::{PublicKey, Role};
 use mb_verifier::{ChainRefusal, Report, verify as judge, write_listing};
 use std::alloc::Global;
 
-/// The names of the files of `verify`, and the number of the key that is asked for.
+/// The names of the files of `verify`, and the number of the key to report on.
 #[derive(Clone, Copy)]
 pub struct VerifyNames<'a> {
     pub root: &'a str,

@@ -1,4 +1,4 @@
--- What the command `app` does. Does it tell how the stored code of a layer runs, and change nothing?
+-- What the command `app` does. Does it report how the stored code of a layer runs, and change nothing?
 use Rattle.std.specs.Prelude.{◌≡◌, ℕ, ◌==◌, List, [], ◌∷◌, codes, Option, Some, None, if◌then◌else◌}
 use Rattle.std.specs.Fmt.{decimal}
 use Rattle.mb_model.specs.declared.state.Codes.{Codes}
@@ -25,27 +25,27 @@ pub record AppNames : Type 0 where
 abbrev pub code_of_layer : Codes → ℕ → Option (List ℕ)
 code_of_layer codes layer = if layer == 2 then codes.two else codes.three
 
--- The stored code of the layer runs on the input, for at most so many steps, and ends so. It sees the secrets of the
--- regions that are not below the layer and name a layer that may run.
+-- The stored code of the layer runs on the input, for at most this many steps, and this is its end. It sees the secrets
+-- of the regions that are not below the layer and name a layer that may run.
 pub record RunsStoredCode (state : State) (layer : ℕ) (input : List ℕ) (steps : ℕ) (ending : AppEnd) : Type 0 where
   pub code : List ℕ
   pub stored : code_of_layer state.codes layer ≡ Some code
   pub run : AppRun code input (readable_secrets state.layers layer state.two state.three) steps ending
 
--- the line that tells how a run ends
+-- the line that reports how a run ends
 abbrev pub app_line : AppEnd → List ℕ
 app_line (end.Halted steps output) = spaced_words (codes "halted" ∷ decimal steps ∷ hex_word output ∷ [])
 app_line (end.Trap cause place output) =
     spaced_words (codes "trap" ∷ decimal (trap_number cause) ∷ decimal place ∷ hex_word output ∷ [])
 app_line (end.OutOfSteps output) = spaced_words (codes "out of steps" ∷ hex_word output ∷ [])
 
--- the line is printed where the run has halted; any other end is a refusal
+-- the line is printed if the run has halted; any other end is a refusal
 abbrev pub tell_end : AppEnd → Command
 tell_end (end.Halted steps output) = print (line_with_lf (app_line (end.Halted steps output)))
 tell_end (end.Trap cause place output) = refuse (app_line (end.Trap cause place output))
 tell_end (end.OutOfSteps output) = refuse (app_line (end.OutOfSteps output))
 
--- a dead device runs nothing, and any other runs the layer's code where that may run
+-- a dead device runs nothing, and any other runs the layer's code if the layer is runnable
 abbrev pub run_stored_code : AppNames → Option State → List ℕ → Command
 run_stored_code names None input = refuse (codes "zeroised")
 run_stored_code names (Some state) input =
@@ -56,6 +56,6 @@ run_stored_code names (Some state) input =
 abbrev pub app_device : AppNames → Option State → Command
 app_device names state = read (app_input names.input) (run_stored_code names state)
 
--- the device's image and the input are read, and the end of the run is told
+-- the device's image and the input are read, and the end of the run is reported
 unfoldable pub app : AppNames → Command
 app names = read (image_input names.image) (app_device names)

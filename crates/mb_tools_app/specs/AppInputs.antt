@@ -11,7 +11,7 @@ use Rattle.mb_appvm.specs.Instructions.{instruction_format}
 use Rattle.mb_appvm.specs.Assembly.{Assembles, AssemblyFailsAt}
 use Rattle.mb_appvm.specs.Listing.{listing_bytes, LacksInstruction}
 
--- what an application reads: any bytes
+-- what an application reads: arbitrary bytes
 abbrev pub app_input : List ℕ → Input (List ℕ)
 app_input name = record {
   role = role.Input;
@@ -20,7 +20,7 @@ app_input name = record {
   FaultyAt = λ bytes place. ⊥;
 }
 
--- an assembler text, which stands for its code; it is at fault at the first line that is wrong
+-- an assembler text, whose value is its code; it is at fault at the first line that is wrong
 abbrev pub assembly_input : List ℕ → Input (List ℕ)
 assembly_input name = record {
   role = role.Text;
@@ -29,20 +29,20 @@ assembly_input name = record {
   FaultyAt = λ bytes place. (n : ℕ) × (place ≡ fault.Line n) × AssemblyFailsAt bytes n;
 }
 
--- the bytes are at most those of a code, and are these instructions, one after another
+-- the bytes are no longer than a code may be, and spell these instructions, one after another
 pub record IsCodeOf (bytes : List ℕ) (listed : List Instruction) : Type 0 where
   pub short : length bytes ≤ CODE_LIMIT
   pub allowed : All instruction_format.Allowed listed
   pub whole : bytes ≡ listing_bytes listed
 
--- The bytes are no code that can be listed: they are longer than a code, or else no whole instruction stands at the
--- place.
+-- The bytes are no code that can be listed: they are longer than a code may be, or else no whole instruction stands at
+-- the place.
 abbrev pub ListingFailsAt : List ℕ → Place → Type 0
 ListingFailsAt bytes place =
     ((CODE_LIMIT < length bytes) × (place ≡ fault.Length))
     ⊎ ((length bytes ≤ CODE_LIMIT) × ((offset : ℕ) × (place ≡ fault.At offset) × LacksInstruction bytes offset))
 
--- a code that is listed, which stands for its instructions
+-- a code that is listed, whose value is its instructions
 abbrev pub listing_input : List ℕ → Input (List Instruction)
 listing_input name = record {
   role = role.Code;

@@ -19,16 +19,16 @@ pub record DisasmNames : Type 0 where
   pub code : List ℕ
   pub out : List ℕ
 
--- the line that tells how many of something there are
+-- the line of a word and a count
 abbrev pub line_of_count : List ℕ → ℕ → List ℕ
 line_of_count word count = spaced_words (word ∷ decimal count ∷ [])
 
--- the bytes are written, and a count is told
+-- the bytes are written, and a count is printed
 abbrev pub write_counted : List ℕ → List ℕ → List ℕ → ℕ → Command
 write_counted out bytes word count =
     write (record { role = role.Out; name = out; bytes = bytes }) (print (line_with_lf (line_of_count word count)))
 
--- the code of a text is written, and how many bytes it has is told
+-- the code of a text is written, and the number of its bytes is printed
 abbrev pub write_code : AsmNames → List ℕ → Command
 write_code names code = write_counted names.out code (codes "bytes") (length code)
 
@@ -36,7 +36,7 @@ write_code names code = write_counted names.out code (codes "bytes") (length cod
 unfoldable pub asm : AsmNames → Command
 asm names = read (assembly_input names.text) (write_code names)
 
--- the line of each instruction is written, and how many lines these are is told
+-- the line of each instruction is written, and the number of these lines is printed
 abbrev pub write_listing : DisasmNames → List Instruction → Command
 write_listing names listed =
     write_counted names.out (text_of (map instruction_line listed)) (codes "lines") (length listed)

@@ -1,4 +1,4 @@
--- What `app` can tell of a device. Can anything else of the device change its line?
+-- What `app` can report of a device. Can anything else of the device change its line?
 use Rattle.std.specs.Prelude.{◌≡◌, ℕ, ◌≤◌, ◌⊎◌, List, ◌++◌, Some}
 use Rattle.mb_format.specs.Format.{IsBytes}
 use Rattle.mb_model.specs.declared.state.State.{State}
@@ -12,7 +12,7 @@ pub record AgreeFor (layer : ℕ) (a b : State) : Type 0 where
   pub two : layer ≤ 2 → a.two.secrets ≡ b.two.secrets
   pub three : layer ≤ 3 → a.three.secrets ≡ b.three.secrets
 
--- An end at which the command is done or refused, of which the host tells what was printed; no call of the host failed.
+-- The command is done or refused, the host shows that this text was printed, and no call of the host failed.
 pub record ShowsPrinted (e : Ended) (text : List ℕ) : Type 0 where
   pub faultless : IsFaultless e.before e.after
   pub complete : (e.status ≡ 0) ⊎ (e.status ≡ 7)
@@ -20,8 +20,8 @@ pub record ShowsPrinted (e : Ended) (text : List ℕ) : Type 0 where
   pub before : e.before.printed ≡ Some shown
   pub after : e.after.printed ≡ Some (shown ++ text)
 
--- Over devices that agree on what the layer sees, the command has the same ends, whatever else differs; and where two
--- of these ends show what they print, they print the same, with the same status. The code's numbers are bytes.
+-- Over devices that agree on what the layer sees, the command has the same ends, whatever else differs; and if two of
+-- these ends show what they print, they print the same, with the same status. The code's numbers are bytes.
 pub record AppSeesNothingElse : Type 0 where
   pub same_ends : (names : AppNames) (a b : State) (input : List ℕ) (past : Past) (e : Ended)
       → AgreeFor names.layer a b

@@ -49,7 +49,7 @@ impl<'a> AppNames<'a> {
     }
 }
 
-/// Runs the stored code of a layer of a device on an input, and tells how it ends.
+/// Runs the stored code of a layer of a device on an input, and reports how it ends.
 pub fn app<H: Host, L: Ledger>(
     alloc: Global,
     names: &AppNames<'_>,
@@ -106,7 +106,7 @@ fn run_stored_code<H: Host>(
     }
 }
 
-/// How the run of the stored code of a layer ends that may run.
+/// How the run of the stored code of a runnable layer ends.
 fn run_layer(
     alloc: Global,
     state: &State,
@@ -146,7 +146,7 @@ fn code_of_layer(codes: &Codes, layer: u8) -> &[u8]
     }
 }
 
-/// Tells how a run ends: prints the line of a halt, and refuses with that of any other end.
+/// Reports how a run ends: prints the line of a halt, and refuses with the line of any other end.
 fn tell_end<H: Host>(alloc: Global, ending: &AppEnd, host: &mut H) -> Result<(), End>
     ensures { CarriesOut (tell_end ending.now) (H.outside host.old) result (H.outside host.new) }
 {
@@ -160,7 +160,7 @@ fn tell_end<H: Host>(alloc: Global, ending: &AppEnd, host: &mut H) -> Result<(),
     }
 }
 
-/// The line that tells how a run ends.
+/// The line that reports how a run ends.
 fn app_line(alloc: Global, ending: &AppEnd) -> Result<String, NoMemory>
     ensures { IfOk result (λ line. string_bytes line ≡ app_line ending.now) }
 {

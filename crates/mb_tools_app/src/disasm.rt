@@ -40,7 +40,7 @@ pub fn disasm<H: Host>(alloc: Global, names: &DisasmNames<'_>, host: &mut H) -> 
     write_counted(alloc, names.out, text, "lines", count_lines(text), host)
 }
 
-/// How many LFs a text has, which are its lines where each ends with one.
+/// The number of LFs of a text, which is that of its lines if each ends with one.
 fn count_lines(text: &[u8]) -> usize
     ensures { result ≡ count_by (λ byte. byte == 10) text.now }
 {

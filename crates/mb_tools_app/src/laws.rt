@@ -5,7 +5,7 @@ ghost use Rattle.mb_model.specs.Inputs.{IsClearInput};
 ghost use Rattle.mb_tools_app.specs.AppInputs.{app_input, assembly_input, listing_input};
 ghost use Rattle.mb_tools_app.specs.Seeing.{AppSeesNothingElse};
 
-/// No input stands for a value and is at fault.
+/// No input both means a value and is at fault.
 pub fn inputs_are_clear()
     ensures app { (name : List ℕ) → IsClearInput (app_input name) }
     ensures assembly { (name : List ℕ) → IsClearInput (assembly_input name) }

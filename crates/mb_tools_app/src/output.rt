@@ -1,4 +1,4 @@
-//! The output of `asm` and of `disasm`, and the line that tells how much was written.
+//! The output of `asm` and of `disasm`, and the line that reports how much was written.
 
 ghost use Rattle.std.specs.Prelude.{◌≡◌, IfOk, string_bytes};
 ghost use Rattle.mb_model.specs.Texts.{line_with_lf};
@@ -10,7 +10,7 @@ use mb_host::Host;
 use mb_model::{NoMemory, Role};
 use std::alloc::Global;
 
-/// Writes the bytes, and tells a count after a word.
+/// Writes the bytes, and prints a count after a word.
 pub(crate) fn write_counted<H: Host>(
     alloc: Global,
     out: &str,

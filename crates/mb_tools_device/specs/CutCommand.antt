@@ -31,7 +31,7 @@ pub record CutNames : Type 0 where
 
 -- ---- the script
 
--- Events of which the last can be cut: there is one, none is a cut itself, and there is room for three events more.
+-- Events whose last one can be cut: there is at least one, none is a cut itself, and there is room for three more.
 pub record AreUncut (events : List Event) : Type 0 where
   pub some : events ≢ []
   pub uncut : All (λ e. is_cut e ≡ false) events
@@ -42,14 +42,14 @@ pub record IsUncutScript (lines : List (List ℕ)) (events : List Event) : Type 
   pub script : IsScript lines events
   pub uncut : AreUncut events
 
--- Where a text is a script, this line is the first that is wrong in a script whose last event can be cut.
+-- The text is a script, and this line is the first that is wrong in a script whose last event can be cut.
 pub record IsRefusedAt (text : List ℕ) (n : ℕ) : Type 0 where
   pub events : List Event
   pub script : ReadsLines IsScript text events
   pub fails : TextFailsAtLine IsUncutScript text n
 
--- It is at fault at the first line that is wrong in a script, or, where there is none, in one whose last event can be
--- cut.
+-- A script whose last event can be cut. It is at fault at the first line that is wrong in a script, or, if there is
+-- none, at the first that is wrong in a script whose last event can be cut.
 abbrev pub uncut_script_input : List ℕ → Input (List Event)
 uncut_script_input name = record {
   role = role.Script;
@@ -66,22 +66,22 @@ pub record CutRun : Type 0 where
   pub last : Event
   pub tear : Tear
 
--- They are the events of a script. Nothing is kept of the write, and the bytes of this word fill its range.
+-- The run has the events of a script. Nothing is kept of the write, and the bytes of this word fill its range.
 pub record IsCutRun (fill_word : List ℕ) (events : List Event) (cut : CutRun) : Type 0 where
   pub whole : events ≡ cut.first ++ cut.last ∷ []
   pub fill : List ℕ
   pub filled : IsHex fill_word fill
   pub torn : cut.tear ≡ tear_of 0 fill
 
--- the events of the second run: power fails in the last event of the script, and then the device is booted
+-- the events of the second run: a power loss in the script's last event, then a boot, and power off
 abbrev pub cut_events : ℕ → CutRun → List Event
 cut_events count cut = cut.first ++ event.Cut count cut.tear ∷ cut.last ∷ event.Boot ∷ event.Off ∷ []
 
--- memory was wanted for one of the events
+-- an allocation failed at one of the events
 abbrev pub AnyLacksMemory : List Answered → Type 0
 AnyLacksMemory answered = Any (λ a. a.reply ≡ reply.NoMemory) answered
 
--- the third answer from the end, which is that to the script's last event, is that power failed
+-- the third answer from the end, to the script's last event, is that power failed
 pub record LastIsStopped (answered : List Answered) : Type 0 where
   pub before : List Answered
   pub last : Answered
@@ -96,14 +96,14 @@ pub record ShowsState (held : Held) (state : Option State) : Type 0 where
   pub shown : Shows held world
   pub is : world.state ≡ state
 
--- The first run was served. Unless memory was wanted, it leaves the state to which the machine comes.
+-- The first run was served. Unless an allocation failed, it leaves the state to which the machine comes.
 pub record IsRehearsed (state : Option State) (cut : CutRun) (answered : List Answered) (held : Held) : Type 0 where
   pub served : IsServed state cut.first answered held
   pub whole : (AnyLacksMemory answered → ⊥)
       → (old : Option State) × ShowsState held old × MachineComesTo state cut.first old
 
--- The second run was served. Where power failed in the script's last event, it leaves the state to which the machine
--- comes before that event, or after it.
+-- The second run was served. If no allocation failed and power failed in the script's last event, it leaves the state
+-- to which the machine comes before that event, or after it.
 pub record IsCutServed
     (state : Option State)
     (count : ℕ)
@@ -123,7 +123,7 @@ pub record ShowSame (held final : Held) : Type 0 where
 
 -- ---- the command
 
--- which state is left where power failed
+-- which state is left if power failed: the old one if both runs leave one state, else the new one
 abbrev pub tell_state : Held → Held → Command
 tell_state held final =
     either_command (ShowSame held final) (print (line_with_lf (codes "old"))) (print (line_with_lf (codes "new")))

@@ -19,7 +19,7 @@ pub record CutCounterExamples : Type 0 where
   pub none : (fill_word : List ℕ) (run : CutRun) → IsCutRun fill_word [] run → ⊥
   pub other : (fill_word : List ℕ) (run : CutRun) (last : Event)
       → run.last ≢ last → IsCutRun fill_word (last ∷ []) run → ⊥
-  -- power did not fail in the last event where fewer than three events were answered, or its reply is another
+  -- power did not fail in the last event if fewer than three events were answered, or if its reply is another
   pub few : (answered : List Answered) → length answered ≤ 2 → LastIsStopped answered → ⊥
   pub told : (before : List Answered) (last boot off : Answered) → last.reply ≢ reply.Stopped
       → LastIsStopped (before ++ last ∷ boot ∷ off ∷ []) → ⊥

@@ -9,10 +9,10 @@ use Rattle.mb_console.specs.declared.end.End.TheVariants as end
 abbrev pub HoldsAnswered : Seen → Type 0
 HoldsAnswered seen = seen.ledger.standing ≡ held_in seen
 
--- it does but for its power, which was turned off since
+-- a board holds what it held at its last answer, but for its power, which was turned off since
 abbrev pub HoldsShut : Seen → Type 0
 HoldsShut seen = held_in seen ≡ record seen.ledger.standing { phase = off }
 
--- It holds what it held at its last answer. Or an allocation failed between two runs, and power was turned off.
+-- A board holds what it held at its last answer. Or an allocation failed between two runs, and power was turned off.
 abbrev pub EndsHolding : Result (Unit {0}) End → Seen → Type 0
 EndsHolding result seen = HoldsAnswered seen ⊎ ((result ≡ Err end.NoMemory) × HoldsShut seen)

@@ -8,13 +8,13 @@ use Rattle.mb_model.specs.declared.reply.Reply.TheVariants as reply
 use Rattle.mb_model.specs.declared.state.State.{State}
 use Rattle.mb_model.specs.Machine.{World, Machine, Run, opening_world}
 
--- the events lead from a world to next, each with the machine's own answer
+-- the events lead from one world to another, each with the machine's own answer
 abbrev pub MachineRun : World → List Event → World → Type 0
 MachineRun world [] next = next ≡ world
 MachineRun world (this ∷ rest) next =
     (answer : Reply) × (mid : World) × Machine world this answer mid × MachineRun mid rest next
 
--- the machine takes a device with the first state over these events to the second
+-- over these events the machine takes a device from the first state to the second
 pub record MachineComesTo (first : Option State) (events : List Event) (second : Option State) : Type 0 where
   pub last : World
   pub run : MachineRun (opening_world first) events last
@@ -39,7 +39,7 @@ pub record IsPlain (answered : Answered) : Type 0 where
   pub uncut : is_cut answered.event ≡ false
   pub found : answered.reply ≢ reply.NoMemory
 
--- A run of plain events, before which no power loss is armed, is the machine's own.
+-- A run of plain events that begins with no power loss armed is the machine's own.
 abbrev pub PlainRunsAreTheMachines : Type 0
 PlainRunsAreTheMachines =
     (world : World) (list : List Answered) (next : World) → world.armed ≡ false → All IsPlain list

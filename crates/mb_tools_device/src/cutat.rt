@@ -38,7 +38,7 @@ pub struct CutNames<'a> {
     pub noise: &'a str,
     /// The number of the write, 1 to 100,000.
     pub count: u32,
-    /// 1 to 16 bytes in hexadecimal.
+    /// What fills the range of the write, 1 to 16 bytes in hexadecimal.
     pub fill: &'a str,
 }
 
@@ -204,7 +204,7 @@ fn serve_first<H: Host, B: Board, L: Ledger>(
     serve_cut(alloc, names, image, &before, second, host, board, hashes)
 }
 
-/// Serves the second run from the same image, and tells what it leaves. `before` is the image that the first run left.
+/// Serves the second run from the same image, and prints what it leaves. `before` is the image that the first run left.
 fn serve_cut<H: Host, B: Board, L: Ledger>(
     alloc: Global,
     names: &CutNames<'_>,
@@ -235,7 +235,7 @@ fn serve_cut<H: Host, B: Board, L: Ledger>(
     tell_cut(alloc, image, before, host, board, hashes)
 }
 
-/// Tells whether power failed in the last event, and which state is left. The bytes of `image` are room for the image
+/// Prints whether power failed in the last event, and which state is left. The bytes of `image` are room for the image
 /// that the board holds.
 fn tell_cut<H: Host, B: Board, L: Ledger>(
     alloc: Global,
@@ -265,8 +265,8 @@ fn tell_cut<H: Host, B: Board, L: Ledger>(
     tell_state(alloc, before, &image, host, hashes)
 }
 
-/// Tells whether two images stand for one state. Each is a board's, so that it stands for a state, and nothing but want
-/// of memory keeps it from being read.
+/// Prints whether two images mean one state. Each is a board's, so it means a state, and only want of memory keeps it
+/// from being read.
 fn tell_state<H: Host, L: Ledger>(
     alloc: Global,
     before: &[u8],

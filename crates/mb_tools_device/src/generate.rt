@@ -35,7 +35,7 @@ use std::sync::ledger::Ledger;
 #[derive(Clone, Copy)]
 pub struct GenerateNames<'a> {
     pub number: u32,
-    /// 1 to 24.
+    /// The number of rounds, 1 to 24.
     pub rounds: u32,
     pub image: &'a str,
     pub script: &'a str,
@@ -161,8 +161,8 @@ fn write_files<H: Host>(
 }
 
 /// Prints the summary of the answered events, with the length of the log and the hash of the image as the board holds
-/// them now. The bytes `image` are room for that image. If an allocation failed while the events were served, there is no
-/// summary.
+/// them now. The bytes of `image` are room for that image. If an allocation failed while the events were served, there
+/// is no summary.
 fn summarise<H: Host, B: Board>(mut image: Vec<u8>, host: &mut H, board: &B) -> Result<(), End>
     requires loaded { IsLoaded (B.seen board.now).memory }
     requires answered { (B.seen board.now).ledger.standing.memory ≡ (B.seen board.now).memory }

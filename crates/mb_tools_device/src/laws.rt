@@ -11,7 +11,7 @@ pub fn plain_runs_are_the_machines()
     ensures { PlainRunsAreTheMachines }
 {}
 
-/// No script of `cutat` stands for events and is at fault.
+/// No script of `cutat` both means events and is at fault.
 pub fn uncut_scripts_are_clear()
     ensures { (name : List ℕ) → IsClearInput (uncut_script_input name) }
 {}

@@ -85,7 +85,7 @@ impl Form for UncutScriptForm {
 const UNCUT_LIMIT: usize = EVENT_LIMIT - 3;
 
 /// The index, from 0, of the first event that keeps a script from having its last event cut: a cut, or the first for
-/// which there is no room. In a script without events it is the one that is missing.
+/// which there is no room. In a script without events it is 0, that of the missing one.
 fn refused_event(events: &[Event]) -> Option<usize>
     ensures { MatchOption result (AreUncut events.now) (IsFirstRefused events.now) }
 {

@@ -14,13 +14,13 @@ use std::alloc::Global;
 /// The events of the two runs.
 #[derive(Drop)]
 pub struct TwoRuns {
-    /// Those of the script but for the last.
+    /// The events of the script but for the last.
     pub first: Events,
-    /// The same, a power loss, the last event, and then a boot.
+    /// The events of `first`, a power loss, the last event, a boot, and power off.
     pub second: Events,
 }
 
-/// Makes the events of the two runs of those of a script. Power fails in the write with the number `count`, in whose
+/// Makes the events of the two runs from those of a script. Power fails in the write with the number `count`, in whose
 /// range the bytes of a hexadecimal word are left.
 pub fn two_runs(alloc: Global, events: Events, count: u32, fill: &str) -> Result<TwoRuns, NoMemory>
     requires uncut { AreUncut events }

@@ -1,5 +1,5 @@
 -- What the command `fleet` does. Are the items served one after another over the register, and is the register kept
--- before an answer is told?
+-- before an answer is printed?
 use Rattle.std.specs.Prelude.{◌≢◌, ℕ, List, Option}
 use Rattle.mb_model.specs.declared.key.PublicKey.{PublicKey}
 use Rattle.mb_model.specs.declared.role.Role.TheVariants as role
@@ -18,7 +18,7 @@ pub record FleetNames : Type 0 where
   pub register : List ℕ
   pub items : List ℕ
 
--- what items come to that are served
+-- what serving items comes to
 pub data FleetOutcome : Type 0 where
   -- the text of all answers, and the rows at the end
   all_served : List ℕ → List Row → FleetOutcome
@@ -30,7 +30,7 @@ abbrev pub ServingComesTo : PublicKey → List Row → List Item → FleetOutcom
 ServingComesTo maker rows listed (all_served text after) = AreServed maker rows listed text after
 ServingComesTo maker rows listed text_too_long = IsTooLong maker rows listed
 
--- the register is written, changed or not, and then the answers are told; answers that are too long lack memory
+-- the register is written, changed or not, and then the answers are printed; if these are too long, memory is lacking
 abbrev pub keep_register : List ℕ → FleetOutcome → Command
 keep_register name (all_served text after) =
     write (record { role = role.Register; name = name; bytes = register_format.spelling after }) (print text)

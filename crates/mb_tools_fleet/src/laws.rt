@@ -2,7 +2,7 @@
 
 ghost use Rattle.mb_tools_fleet.specs.FleetCommand.{FleetIsNotRefused};
 
-/// The command is refused at nothing, whatever the answers to the items are.
+/// The command is never refused, whatever the answers to the items are.
 pub fn fleet_is_not_refused()
     ensures { FleetIsNotRefused }
 {}

@@ -27,7 +27,7 @@ endorsed_text root = ENDORSED_TEXT ∷ key_bytes root
 abbrev pub number_used : Maker → Maker
 number_used maker = record maker { next = maker.next + 1 }
 
--- The maker's file is written with its next number used, then the signature by that number, and the number is told.
+-- The maker's file is written with its next number used, then that number's signature, and the number is printed.
 unfoldable pub use_number : EndorseNames → Maker → PublicKey → Command
 use_number names maker root =
     write (record { role = role.Key; name = names.key; bytes = maker_format.spelling (number_used maker) })
@@ -38,7 +38,7 @@ use_number names maker root =
     })
     (print (index_text maker.next)))
 
--- the maker endorses the root key, unless its 32^levels numbers are used
+-- the maker endorses the root key, unless all its 32^levels numbers are used
 unfoldable pub endorse_root : EndorseNames → Maker → PublicKey → Command
 endorse_root names maker root =
     either_command (maker.next ≡ 32 ^ maker.levels) (refuse (codes "spent")) (use_number names maker root)

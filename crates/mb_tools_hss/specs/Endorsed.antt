@@ -1,4 +1,4 @@
--- What the command `endorsed` does. Is a root key accepted exactly where the maker's HSS key has signed it?
+-- What the command `endorsed` does. Is a root key accepted exactly if the maker's HSS key has signed it?
 use Rattle.std.specs.Prelude.{ℕ, List, codes}
 use Rattle.mb_model.specs.declared.key.PublicKey.{PublicKey}
 use Rattle.mb_model.specs.Texts.{line_with_lf}
@@ -27,6 +27,6 @@ endorsed_root names key root = read (endorsement_input names.endorsement) (judge
 abbrev pub endorsed_under : EndorsedNames → HssKey → Command
 endorsed_under names key = read (root_input names.root) (endorsed_root names key)
 
--- the maker's public key, the root key and the endorsement are read, and the endorsement is judged
+-- the maker's public key, the root key and the endorsement are read, and the endorsement is verified
 unfoldable pub endorsed : EndorsedNames → Command
 endorsed names = read (hss_key_input names.public) (endorsed_under names)

@@ -19,17 +19,17 @@ pub record HsskeygenNames : Type 0 where
   pub key : List ℕ
   pub public : List ℕ
 
--- the line that tells the hash of a maker's public key
+-- the line with the hash of a maker's public key
 abbrev pub maker_text : List ℕ → List ℕ
 maker_text public = line_with_lf (codes "maker " ++ encode_lower (sha256 public))
 
--- the maker's file is written, then its public key, and the public key's hash is told
+-- the maker's file is written, then its public key, and the public key's hash is printed
 unfoldable pub write_maker_key : HsskeygenNames → Maker → List ℕ → Command
 write_maker_key names maker public =
     write (record { role = role.Key; name = names.key; bytes = maker_format.spelling maker })
     (write (record { role = role.Public; name = names.public; bytes = public }) (print (maker_text public)))
 
--- the maker has used none of its numbers
+-- a new maker is derived from the noise, and its key is written; none of its numbers is used
 unfoldable pub hsskeygen : HsskeygenNames → Command
 hsskeygen names = read (maker_noise_input names.noise) (λ noise.
     write_maker_key names (new_maker noise names.levels)

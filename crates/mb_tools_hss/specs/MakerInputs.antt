@@ -1,5 +1,5 @@
--- The inputs of the commands of a maker's HSS key: for which value the bytes of each stand, and at which place they are
--- at fault.
+-- The inputs of the commands of a maker's HSS key: which value the bytes of each mean, and at which place they are at
+-- fault.
 use Rattle.std.specs.Prelude.{◌≡◌, ℕ, List}
 use Rattle.mb_model.specs.declared.limits.TheConstants.{DRAW_LENGTH}
 use Rattle.mb_model.specs.declared.role.Role.TheVariants as role
@@ -22,7 +22,7 @@ maker_input name = binary_input role.Key maker_format name
 abbrev pub hss_key_input : List ℕ → Input HssKey
 hss_key_input name = binary_input role.Public hss_key_format name
 
--- the bytes of an endorsement that is to be judged: whether they are a signature is the judgement's to say
+-- the bytes of an endorsement that is to be verified; whether they are a signature is not decided here
 abbrev pub endorsement_input : List ℕ → Input (List ℕ)
 endorsement_input name = record {
   role = role.Endorsement;

@@ -1,4 +1,4 @@
--- How `endorse` ends where the maker has not signed. Does each cause have its end?
+-- How `endorse` ends if the maker has not signed. Does each cause have its end?
 use Rattle.std.specs.Prelude.{◌≡◌, codes}
 use Rattle.mb_hss.specs.declared.signing.HssEnd.{HssEnd}
 use Rattle.mb_hss.specs.declared.signing.HssEnd.TheVariants as cause

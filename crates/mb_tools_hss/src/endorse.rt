@@ -22,8 +22,8 @@ use mb_tools::PublicKeyForm;
 use std::alloc::Global;
 use std::sync::ledger::Ledger;
 
-/// What a maker's HSS key signs of a root key begins with this byte. It is a domain separator, apart from those of what
-/// owners, devices and regions sign.
+/// Domain separator of what a maker's HSS key signs to endorse a root key. It differs from those of what owners,
+/// devices and regions sign.
 pub const ENDORSED_TEXT: u8 = 0x05;
 
 /// The names of the files of `endorse`.
@@ -91,7 +91,7 @@ fn end_of(end: HssEnd) -> End
     }
 }
 
-/// Writes a maker's file with one more of its numbers used, and the signature by that number, which is printed.
+/// Writes a maker's file with one more of its numbers used, then the signature with that number, and prints the number.
 fn write_endorsement<H: Host>(
     alloc: Global,
     names: &EndorseNames<'_>,

@@ -37,7 +37,7 @@ impl<'a> EndorsedNames<'a> {
     }
 }
 
-/// Judges an endorsement of a root key under a maker's public key: prints that it is endorsed, or refuses.
+/// Verifies an endorsement of a root key under a maker's public key: prints that the root key is endorsed, or refuses.
 pub fn endorsed<H: Host>(alloc: Global, names: &EndorsedNames<'_>, host: &mut H) -> Result<(), End>
     ensures { CarriesOut (endorsed (endorsed_files names.now)) (H.outside host.old) result (H.outside host.new) }
 {
@@ -45,7 +45,7 @@ pub fn endorsed<H: Host>(alloc: Global, names: &EndorsedNames<'_>, host: &mut H)
     endorsed_under(alloc, names, &key, host)
 }
 
-/// Judges an endorsement under this key.
+/// Verifies an endorsement under this key.
 fn endorsed_under<H: Host>(
     alloc: Global,
     names: &EndorsedNames<'_>,
@@ -60,7 +60,7 @@ fn endorsed_under<H: Host>(
     endorsed_root(alloc, names, key, &root, host)
 }
 
-/// Judges an endorsement of this root key under this key.
+/// Verifies an endorsement of this root key under this key.
 fn endorsed_root<H: Host>(
     alloc: Global,
     names: &EndorsedNames<'_>,

@@ -22,7 +22,7 @@ use std::sync::ledger::Ledger;
 #[derive(Clone, Copy)]
 pub struct HsskeygenNames<'a> {
     pub noise: &'a str,
-    /// 1 to 8.
+    /// The number of levels, 1 to 8.
     pub levels: u32,
     pub key: &'a str,
     pub public: &'a str,

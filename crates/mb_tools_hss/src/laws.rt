@@ -4,7 +4,7 @@ ghost use Rattle.std.specs.Prelude.{ℕ, List};
 ghost use Rattle.mb_model.specs.Inputs.{IsClearInput};
 ghost use Rattle.mb_tools_hss.specs.MakerInputs.{maker_noise_input, maker_input, hss_key_input, endorsement_input};
 
-/// An input that is at fault stands for no value, whichever of the commands reads it.
+/// No input both means a value and is at fault, whichever of the commands reads it.
 pub fn inputs_are_clear()
     ensures noise { (name : List ℕ) → IsClearInput (maker_noise_input name) }
     ensures key { (name : List ℕ) → IsClearInput (maker_input name) }

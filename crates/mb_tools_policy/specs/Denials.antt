@@ -1,4 +1,4 @@
--- How the command ends if a configuration is denied, or if there is no memory to tell so.
+-- How the command ends if a configuration is denied, or if there is no memory to say so.
 use Rattle.std.specs.Prelude.{◌≡◌, ◌⊎◌, ℕ, List}
 use Rattle.mb_console.specs.declared.end.End.{End}
 use Rattle.mb_console.specs.declared.end.End.TheVariants as end

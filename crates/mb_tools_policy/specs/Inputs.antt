@@ -1,4 +1,4 @@
--- The input of a relying party: its policy. Does each text stand for one policy, or fail at one line?
+-- The input of a relying party: its policy. Does each text say one policy, or fail at one line?
 use Rattle.std.specs.Prelude.{ℕ, List}
 use Rattle.mb_model.specs.declared.role.Role.TheVariants as role
 use Rattle.mb_model.specs.Commands.{Input}

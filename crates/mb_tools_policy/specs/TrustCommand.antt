@@ -14,14 +14,14 @@ use Rattle.mb_policy.specs.Policies.{PolicyItem}
 use Rattle.mb_policy.specs.Judging.{IsJudged}
 use Rattle.mb_tools_policy.specs.Inputs.{policy_input}
 
--- the names of the files, and the number of the key that is asked for
+-- the names of the files, and the number of the key that is reported on
 pub record TrustNames : Type 0 where
   pub root : List ℕ
   pub chain : List ℕ
   pub key : ℕ
   pub policy : List ℕ
 
--- the line that tells which configuration is denied, and the name of the rule that denies it
+-- the line with the number of the configuration that is denied, and the name of the rule that denies it
 abbrev pub denied_line : ℕ → List ℕ → List ℕ
 denied_line number rule = codes "denied " ++ decimal number ++ codes " " ++ rule
 
@@ -44,6 +44,6 @@ trust_chain names maker bytes = read (policy_input names.policy) (trust_by_polic
 abbrev pub trust_under : TrustNames → PublicKey → Command
 trust_under names maker = read (chain_bytes_input names.chain) (trust_chain names maker)
 
--- the maker's public key, the chain and the policy are read; then the chain is judged, and then its report
+-- the maker's public key, the chain and the policy are read; then the chain is verified, and its report judged
 unfoldable pub trust : TrustNames → Command
 trust names = read (root_input names.root) (trust_under names)

@@ -20,7 +20,7 @@ use mb_tools::{AnyBytes, PublicKeyForm};
 use mb_verifier::{Report, verify};
 use std::alloc::Global;
 
-/// The names of the files of `trust`, and the number of the key that is asked for.
+/// The names of the files of `trust`, and the number of the key that is reported on.
 #[derive(Clone, Copy)]
 pub struct TrustNames<'a> {
     pub root: &'a str,
@@ -43,8 +43,8 @@ impl<'a> TrustNames<'a> {
     }
 }
 
-/// Judges a chain under the maker's public key, and then by a policy what it says of a key: prints that the policy allows
-/// each configuration, or refuses.
+/// Verifies a chain under the maker's public key, and then judges by a policy what it says of a key: prints that the
+/// policy allows each configuration, or refuses.
 pub fn trust<H: Host>(alloc: Global, names: &TrustNames<'_>, host: &mut H) -> Result<(), End>
     ensures { CarriesOut (trust (trust_files names.now)) (H.outside host.old) result (H.outside host.new) }
 {
@@ -52,7 +52,7 @@ pub fn trust<H: Host>(alloc: Global, names: &TrustNames<'_>, host: &mut H) -> Re
     trust_under(alloc, names, &root, host)
 }
 
-/// Judges a chain under this key, and its report.
+/// Verifies a chain under this key, and judges its report.
 fn trust_under<H: Host>(
     alloc: Global,
     names: &TrustNames<'_>,
@@ -65,7 +65,7 @@ fn trust_under<H: Host>(
     trust_chain(alloc, names, root, &chain, host)
 }
 
-/// Judges this chain, and its report by a policy.
+/// Verifies this chain, and judges its report by a policy.
 fn trust_chain<H: Host>(
     alloc: Global,
     names: &TrustNames<'_>,
@@ -80,7 +80,7 @@ fn trust_chain<H: Host>(
     trust_by_policy(alloc, names, root, chain, &policy, host)
 }
 
-/// Judges this chain, and its report by this policy.
+/// Verifies this chain, and judges its report by this policy.
 fn trust_by_policy<H: Host>(
     alloc: Global,
     names: &TrustNames<'_>,
@@ -121,7 +121,7 @@ fn end_of_denial(alloc: Global, number: u32, rule: &[u8]) -> End
     }
 }
 
-/// The line that tells which configuration is denied, and the name of the rule that denies it.
+/// The line with the number of the configuration that is denied, and the name of the rule that denies it.
 fn denied_line(alloc: Global, number: u32, rule: &[u8]) -> Result<LongLine, NoMemory>
     ensures { IfOk result (λ line. line ≡ denied_line number rule.now) }
 {

@@ -7,5 +7,5 @@ use Rattle.mb_top.specs.Top.{Ends}
 pub record EndCounterExamples (words : List (List ℕ)) (e : Ended) : Type 0 where
   -- the program ends with another status than 2
   pub status : length words ≤ 2 → e.status ≢ 2 → Ends words e → ⊥
-  -- it has answered an event
+  -- the program has answered an event
   pub answered : length words ≤ 2 → e.answered ≢ [] → Ends words e → ⊥

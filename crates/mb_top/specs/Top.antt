@@ -41,7 +41,7 @@ use Rattle.mb_top.specs.declared.table.Command.TheVariants as command
 unfoldable pub commands : List (Row Command)
 commands = map (λ row. (row.0, row.1.now, map (λ word. word.1) row.2.now)) COMMANDS
 
--- what is done at a command with these arguments, each command's in the order of its words
+-- what a command does with these arguments, which are in the order of its words
 abbrev pub command_of : Command → List Argument → Does
 command_of command.Run given = run (run_given given)
 command_of command.Cutat given = cutat (cut_given given)
@@ -69,7 +69,7 @@ pub data Ends (words : List (List ℕ)) (e : Ended) : Type 0 where
   -- 2: the words call no command
   no_command : ((called : Command) (given : List Argument) → IsCall commands words called given → ⊥)
       → Stops (codes "words") 2 at_first e → Ends words e
-  -- they call one, and it has ended so
+  -- the words call a command, and it has ended in this way
   did : (called : Command) (given : List Argument) → IsCall commands words called given
       → CommandEnds (command_of called given) at_first e → Ends words e
 

@@ -1,11 +1,11 @@
--- What `--help` prints: for each command its name and words on a line, and then what it does. Is each command told,
--- with the words by which it is called?
+-- What `--help` prints: for each command its name and words on a line, and then what it does. Is each command listed,
+-- with the words that call it?
 use Rattle.std.specs.Prelude.{ℕ, ◌≤◌, List, [], ◌∷◌, ◌++◌, codes, flat_map}
 use Rattle.mb_console.specs.declared.words.TheConstants.{WORD_LIMIT}
 use Rattle.mb_top.specs.declared.table.TheConstants.{COMMANDS}
 use Rattle.mb_top.specs.declared.command_line.TheConstants.{HEAD, STATUSES}
 
--- what is told of a command: its name, the words after it with a space before each, and what it does
+-- the text about a command: its name, the words after it with a space before each, and what it does
 abbrev pub usage_line : List ℕ → List ℕ → List ℕ → List ℕ
 usage_line name words does = codes "  miniboot " ++ name ++ words ++ does ++ codes "\n"
 

@@ -139,7 +139,7 @@ pub const COMMANDS: [Row; 20] = [
         "verify",
         &[ROOT, CHAIN, KEYNUMBER],
         "
-      judges the chain under the maker's public key, and lists every configuration of code that could have
+      verifies the chain under the maker's public key, and lists every configuration of code that could have
       used the key with this number",
     ),
     (
@@ -147,15 +147,14 @@ pub const COMMANDS: [Row; 20] = [
         "audit",
         &[IMAGE, ROOT, CHAIN, KEYNUMBER],
         "
-      judges the chain, and compares what it lists for the key with the log of the device of IMAGE",
+      verifies the chain, and compares what it lists for the key with the log of the device of IMAGE",
     ),
     (
         Command::Trust,
         "trust",
         &[ROOT, CHAIN, KEYNUMBER, POLICY],
         "
-      judges the chain as verify does, and then by the policy each configuration that could have used the
-      key",
+      verifies the chain, and then judges by the policy each configuration that could have used the key",
     ),
     (
         Command::Chain,
@@ -232,7 +231,7 @@ pub const COMMANDS: [Row; 20] = [
         "endorsed",
         &[PUBLIC, ROOT, ENDORSEMENT],
         "
-      judges the endorsement of the public key in ROOT under the public key of a maker's HSS key",
+      verifies the endorsement of the public key in ROOT under the public key of a maker's HSS key",
     ),
     (
         Command::Migrate,
@@ -274,7 +273,7 @@ pub const COMMANDS: [Row; 20] = [
     ),
 ];
 
-/// A command, and what the words after its name stand for.
+/// A command, and what the words after its name mean.
 #[derive(Drop)]
 pub struct Call<'a> {
     pub command: Command,

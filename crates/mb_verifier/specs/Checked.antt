@@ -10,7 +10,7 @@ use Rattle.mb_model.specs.Acceptance.{ChainRefusal, bad_form, bad_signature, bad
 use Rattle.mb_model.specs.Acceptance.{bad_statement, wrong_number, key_ended, IsCertified, IsInPlace, AreGood}
 use Rattle.mb_model.specs.Acceptance.{KeyEntry, is_alive, IsStated}
 
--- an entry after a log with these figures is refused for this, and for nothing that is tried before it
+-- an entry after a log with these figures is refused for this, the first check that it fails
 abbrev pub IsBadEntry : PublicKey → Figures → SignedEntry → ChainRefusal → Type 0
 IsBadEntry maker before signed (bad_signature i) = (i ≡ before.length) × (IsCertified maker before signed → ⊥)
 IsBadEntry maker before signed (bad_order i) =
@@ -33,7 +33,7 @@ pub record HasBadEntry (maker : PublicKey) (log : List SignedEntry) (why : Chain
   pub good : AreGood maker before
   pub bad : IsBadEntry maker (figures_of (entries_of before)) signed why
 
--- the statement of a key that the log makes is refused for this, and for nothing that is tried before it
+-- the statement of a key that the log makes is refused for this, the first check that it fails
 abbrev pub IsBadStatement : List Entry → ℕ → KeyEntry → Statement → ChainRefusal → Type 0
 IsBadStatement log n made statement bad_statement = IsStated log n made.key statement → ⊥
 IsBadStatement log n made statement (wrong_number named last) =

@@ -4,7 +4,7 @@ use Rattle.mb_model.specs.Acceptance as acceptance
 use Rattle.mb_verifier.specs.declared.refusal.ChainRefusal.{ChainRefusal}
 use Rattle.mb_verifier.specs.declared.refusal.ChainRefusal.TheVariants as why
 
--- the refusal of a chain; want of memory is none
+-- the refusal that an answer names; a failed allocation is no refusal of the chain
 abbrev pub chain_refusal_of : ChainRefusal → Option acceptance.ChainRefusal
 chain_refusal_of (why.Form at) = Some (acceptance.bad_form at)
 chain_refusal_of (why.Signature entry) = Some (acceptance.bad_signature entry)

@@ -1,4 +1,4 @@
--- Why the entries of a chain are refused, whichever key is asked for. Is the reason one that its statement cannot give?
+-- Why the entries of a chain are refused, whatever the key. Is the reason one that its statement cannot give?
 use Rattle.std.specs.Prelude.{ℕ, List}
 use Rattle.mb_model.specs.declared.key.PublicKey.{PublicKey}
 use Rattle.mb_model.specs.Acceptance.{ChainRefusal, bad_form, bad_signature, bad_order, breaks_rules, key_unknown}
@@ -15,7 +15,7 @@ IsOfEntries bad_statement = ⊥
 IsOfEntries (wrong_number named last) = ⊥
 IsOfEntries key_ended = ⊥
 
--- the bytes are refused for their form or an entry, whichever key is asked for
+-- the bytes are refused for their form or an entry, whatever the key
 pub record IsEntriesRefused (maker : PublicKey) (bytes : List ℕ) (why : ChainRefusal) : Type 0 where
   pub of_entries : IsOfEntries why
   pub refused : (n : ℕ) → IsRefused maker bytes n why

@@ -13,6 +13,6 @@ key_line key report =
     spaced_words (codes "key" ∷ decimal key ∷ kind_word report.kind
     ∷ codes "layer" ∷ decimal report.layer ∷ life_word report.alive ∷ [])
 
--- the line of the layer with the number m, where it is one of the layers up to this one
+-- the line of layer m, or none if m is above `last`
 abbrev pub line_upto : ℕ → ℕ → Layer → List (List ℕ)
 line_upto last m layer = if nat_le m last then layer_line m layer ∷ [] else []

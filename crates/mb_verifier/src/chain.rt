@@ -70,8 +70,8 @@ fn report_on(
     })
 }
 
-/// The chain of at most 4,194,304 bytes, if its entries are good under the maker's key `root`. A statement counts only
-/// by its form. Each signature of an entry is checked once; no clause says so.
+/// The chain of at most 4,194,304 bytes, if its entries are good under the maker's key `root`. Of a statement, only the
+/// form is checked. Each signature of an entry is checked once; no clause says so.
 ///
 /// Errors: those of `ChainRefusal` that the form or an entry gives (`Form`, `Signature`, `Order`, `Rules`), and
 /// `NoMemory`.
@@ -89,7 +89,7 @@ pub fn verify_entries(alloc: Global, root: &PublicKey, chain: &[u8]) -> Result<C
 }
 
 /// The chain, if its entries are good; else why the first that is not good is refused. No entry makes the key with the
-/// number 0, so that its life takes no memory.
+/// number 0, so its life takes no memory.
 fn good_chain(alloc: Global, root: &PublicKey, chain: Chain) -> Result<Chain, ChainRefusal>
     requires { chain_format.Allowed chain }
     ensures same { IfOk result (λ whole. whole ≡ chain) }

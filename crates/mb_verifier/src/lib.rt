@@ -1,7 +1,7 @@
 //! The verdict on a chain of certificates under a maker's key, and the report on a key of a region.
 //!
-//! This crate owns the verifier: the checks of a chain in their order, the reasons for which it is refused, the report
-//! on a key of a region, and the listing of the report.
+//! This crate owns the verifier: the checks of a chain in their order, the reasons for a refusal, the report on a key
+//! of a region, and the listing of the report.
 #![tactic(auto)]
 
 mod chain;

@@ -6,7 +6,7 @@ use mb_cert::ChainEnd;
 use mb_model::NoMemory;
 
 /// Why a chain is not accepted: the first check that fails, in the order of this list. The three checks of an entry are
-/// made for one entry after another. `NoMemory` may stand in place of any.
+/// made for one entry after another. `NoMemory` may come in place of any.
 #[derive(Clone, Copy, Debug, PartialEq, Eq)]
 pub enum ChainRefusal {
     /// The bytes are no chain.
@@ -14,8 +14,8 @@ pub enum ChainRefusal {
         /// The offset of the first field that lacks bytes or is not allowed, or of the first byte after the last field.
         at: u32,
     },
-    /// An entry is not signed by the key in charge: the maker's key for the first entry, and for each other the device
-    /// key that the entries before it name last.
+    /// An entry is not signed by the key in charge: the maker's key for the first entry, and for each later one the
+    /// device key that the entries before it name last.
     Signature {
         /// The index of the entry, from 0.
         entry: u32,

@@ -16,8 +16,8 @@ use mb_log::{BornKey, serial_of};
 use mb_model::separators::STATEMENT_TEXT;
 use mb_model::{PublicKey, SignedEntry, Statement};
 
-/// Checks that the statement is by the key that was born as given, of the chain's last configuration, and that the key
-/// is alive; else answers why it is refused. `judged` has the results of the log.
+/// Checks that the statement is by the key `born`, of the chain's last configuration, and that the key is alive; else
+/// answers why it is refused. `judged` has the results of the log.
 pub(crate) fn check_statement(
     log: &[SignedEntry],
     judged: &Judged,

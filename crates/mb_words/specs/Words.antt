@@ -6,18 +6,18 @@ use Rattle.mb_words.specs.declared.said.NotSaid.TheVariants as why
 
 -- ---- words
 
--- what is found is so, or nothing is; of a failed allocation nothing is said
+-- what is found has the property, or nothing has it; nothing is said of a failed allocation
 abbrev pub Finds : {A : Type 0} → (A → Type 0) → Result A NotSaid → Type 0
 Finds Is (Ok a) = Is a
 Finds {A} Is (Err why.Form) = (a : A) → Is a → ⊥
 Finds Is (Err why.NoMemory) = Unit {0}
 
--- the same where nothing is allocated
+-- what is found has the property, or nothing has it
 abbrev pub FindsSome : {A : Type 0} → (A → Type 0) → Option A → Type 0
 FindsSome Is (Some a) = Is a
 FindsSome {A} Is None = (a : A) → Is a → ⊥
 
--- a text is cut at the first of this byte
+-- a text is split at the first occurrence of this byte
 pub record IsSplit (byte : ℕ) (text front rest : List ℕ) : Type 0 where
   pub first : All (λ b. b ≢ byte) front
   pub whole : text ≡ front ++ byte ∷ rest

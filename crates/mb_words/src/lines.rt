@@ -3,7 +3,7 @@
 ghost use Rattle.std.specs.Prelude.{◌≡◌, ◌≢◌, ◌++◌, ℕ, List, All, MatchOption};
 ghost use Rattle.mb_words.specs.Words.{IsSplit, SplitsLine};
 
-/// The text before the first of this byte, and the text after it; `None` if the text has no such byte.
+/// The text before the first occurrence of this byte, and the text after it; `None` if the text has no such byte.
 pub fn split_at_byte(text: &[u8], byte: u8) -> Option<(&[u8], &[u8])>
     ensures { MatchOption result (All (λ b. b ≢ byte) text.now) (λ parts. IsSplit byte text.now parts.0.now parts.1.now) }
 {

@@ -7,7 +7,7 @@ ghost use Rattle.mb_words.specs.Words.{FindsSome};
 /// The most digits of a number.
 const MOST_DIGITS: usize = 10;
 
-/// The number that the word is, in decimal without leading zeros; `None` if it is no number, or above `most`.
+/// The number that the word spells in decimal without leading zeros; `None` if it is no number, or above `most`.
 pub fn read_number(word: &[u8], most: u32) -> Option<u32>
     ensures { FindsSome (IsNumber most word.now) result }
 {
@@ -17,7 +17,7 @@ pub fn read_number(word: &[u8], most: u32) -> Option<u32>
     }
 }
 
-/// The number of the word, digit by digit from the last.
+/// The number that the word spells, read digit by digit from the last.
 fn read_digits(word: &[u8]) -> Option<u32>
     ensures { FindsSome (IsNumber number_limit word.now) result }
 {

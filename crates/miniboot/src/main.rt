@@ -1,7 +1,7 @@
 //! `miniboot`: the program over the system's files, its standard output and a simulated board.
 //!
-//! This crate owns nothing but the edge: it takes the words of the command line apart from the program's name, and
-//! hands them to `mb_top` with the host and the board.
+//! This crate owns nothing but the edge: it takes the words of the command line without the program's name, and hands
+//! them to `mb_top` with the host and the board.
 #![tactic(auto)]
 
 use mb_board::SimBoard;

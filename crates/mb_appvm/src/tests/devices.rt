@@ -35,7 +35,7 @@ fn layer_of(reliable: bool) -> Layer {
     }
 }
 
-/// The layers of a device of which this may be read.
+/// The layers of a device in which this may be read.
 pub fn layers_of(sight: Sight) -> Layers {
     Layers {
         one: layer_of(true),
@@ -54,7 +54,7 @@ fn keep(secrets: &mut Secrets, alloc: Global, name: &str, value: &[u8]) -> Resul
     Ok(())
 }
 
-/// Region 2: `k` is 07 08, and `e` is nothing.
+/// Region 2: `k` is 07 08, and `e` is empty.
 pub fn region_two(alloc: Global) -> Result<Region, Fail> {
     let mut secrets = Items::new(alloc);
     keep(&mut secrets, alloc, "k", b"\x07\x08")?;

@@ -14,7 +14,7 @@ pub fn bytes_of(alloc: Global, text: &str) -> Result<Vec<u8>, Fail>
     Ok(bytes)
 }
 
-/// Appends what the word in hexadecimal spells, so many times.
+/// Appends what the word in hexadecimal spells this many times.
 fn append(out: &mut Vec<u8>, alloc: Global, text: &str, times: usize) -> Result<(), Fail> {
     let piece = hex::decode(alloc, text)?;
     for _i in 0..times {
@@ -23,7 +23,7 @@ fn append(out: &mut Vec<u8>, alloc: Global, text: &str, times: usize) -> Result<
     Ok(())
 }
 
-/// The bytes that the pieces spell in hexadecimal, each so many times.
+/// The bytes that the pieces spell in hexadecimal, each repeated its number of times.
 pub fn joined(alloc: Global, pieces: &[(&str, usize)]) -> Result<Vec<u8>, Fail>
     ensures { IfOk result (λ bytes. vec_len bytes ≤ 4000) }
 {
@@ -35,7 +35,7 @@ pub fn joined(alloc: Global, pieces: &[(&str, usize)]) -> Result<Vec<u8>, Fail>
     Ok(bytes)
 }
 
-/// Appends a text, so many times.
+/// Appends a text this many times.
 fn append_text(out: &mut Vec<u8>, text: &str, times: usize) -> Result<(), Fail> {
     for _i in 0..times {
         out.extend_from_slice(text.as_bytes())?;
@@ -43,7 +43,7 @@ fn append_text(out: &mut Vec<u8>, text: &str, times: usize) -> Result<(), Fail> 
     Ok(())
 }
 
-/// The text of the pieces, each so many times.
+/// The text of the pieces, each repeated its number of times.
 pub fn text_of(alloc: Global, pieces: &[(&str, usize)]) -> Result<Vec<u8>, Fail>
     ensures { IfOk result (λ text. vec_len text ≤ 1000000) }
 {

@@ -1,4 +1,4 @@
-//! Runs, by the ends that another program gives.
+//! Runs, checked against the ends that another program gives.
 
 ghost use Rattle.std.specs.Prelude.{◌≤◌, length};
 

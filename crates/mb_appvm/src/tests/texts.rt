@@ -1,4 +1,4 @@
-//! Texts and codes, by what another program makes of them.
+//! Texts and codes, checked against what another program makes of them.
 
 use super::pieces::{bytes_of, text_of};
 use crate::{AsmEnd, DisasmEnd, assemble, disassemble};
@@ -93,7 +93,7 @@ fn texts_are_assembled(rt: HostRuntime) -> Result<(), Fail> {
     Ok(())
 }
 
-/// So many lines `push 7`, then so many `halt`, then a line; and the size of their code, or its first bad line.
+/// This many lines `push 7`, then this many `halt`, then a line; and the size of their code, or the first bad line.
 const LONG_TEXTS: &[(usize, usize, &str, Result<usize, u32>)] = &[
     (6_553, 3, "", Ok(32_768)),
     (6_553, 3, "halt\n", Err(6_557)),

@@ -1,4 +1,4 @@
-//! Entries of two devices with their signatures, by another program.
+//! Entries of two devices with their signatures, made by another program.
 
 /// The first entry of a device, and its signature.
 pub const FIRST: &str =

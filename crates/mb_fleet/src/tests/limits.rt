@@ -12,7 +12,7 @@ use mb_model::Bytes;
 use std::alloc::Global;
 use std::test::Fail;
 
-/// The row of the device that shows `FIRST` and `NEXT_TWO`, by another program.
+/// The row of the device that shows `FIRST` and `NEXT_TWO`, made by another program.
 const SHOWN: &str =
     "e77cff2486ff16314c9990f68ac68f9000000002017692c3ad3540bb803c020b3aee66cd8887123234ea0c6e7143c0add73f\
      f431ed01ba7816bf8f01cfea414140de5dae2223b00361a396177a9cb410ff61f20015ad0000039141fb7ffba5f026cad5e009be05f2b71176\
@@ -24,7 +24,7 @@ const ANSWERS: &str = "refused 32 full\n\
     refused 31 older e77cff2486ff16314c9990f68ac68f90 3\n\
     same e77cff2486ff16314c9990f68ac68f90 3\n";
 
-/// Appends the row of a made device, whose serial and whose code of layer 1 begin with this number.
+/// Appends the row of an invented device: its serial and the hash of its layer 1's code begin with this number.
 fn put_made(out: &mut Vec<u8>, number: u32) -> Result<(), Fail> {
     put_u32(out, number)?;
     put_slice(out, &[0; 12])?;
@@ -38,7 +38,7 @@ fn put_made(out: &mut Vec<u8>, number: u32) -> Result<(), Fail> {
     Ok(())
 }
 
-/// The bytes of a register of made devices, and the device that has shown three entries.
+/// The bytes of a register of invented devices, and of the device that has shown three entries.
 fn full_register(alloc: Global) -> Result<Vec<u8>, Fail> {
     let mut register = Vec::from_slice(alloc, b"MBF1")?;
     put_u16(&mut register, DEVICE_LIMIT)?;
@@ -93,7 +93,7 @@ fn a_full_register_tells_all_codes(rt: HostRuntime) -> Result<(), Fail> {
     Ok(())
 }
 
-/// Appends a question for the codes of a layer, so many times.
+/// Appends a question for the codes of a layer this many times.
 fn ask(out: &mut Vec<u8>, layer: u8, times: u32) -> Result<(), Fail> {
     for _i in 0..times {
         put_slice(out, &[3, layer])?;
@@ -102,7 +102,7 @@ fn ask(out: &mut Vec<u8>, layer: u8, times: u32) -> Result<(), Fail> {
 }
 
 /// What a full register answers to 7,276 questions for its codes of layer 1, which make 268,295,224 bytes of text, and
-/// to so many for those of layer 3, where it has none: 8 bytes each.
+/// to `empty` questions for those of layer 3, where it has none: 8 bytes each.
 fn serve_long(alloc: Global, empty: u32) -> Result<Result<Bytes, ServeEnd>, Fail> {
     let mut items = Vec::new(alloc);
     ask(&mut items, 1, 7_276)?;

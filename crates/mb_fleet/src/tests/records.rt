@@ -1,4 +1,4 @@
-//! Registers and items that are read and written, by values of another program.
+//! Registers and items that are read and written, checked against values of another program.
 
 use crate::{Fleet, FleetReadEnd, read_items};
 use mb_model::BadRecord;

@@ -1,4 +1,4 @@
-//! Items that are served one file after another, by values of another program.
+//! Items that are served one file after another, checked against values of another program.
 
 ghost use Rattle.std.specs.Prelude.{◌≤◌, length};
 ghost use Rattle.mb_model.specs.declared.limits.TheConstants.{FILE_LIMIT};
@@ -35,7 +35,7 @@ const TWO: &str =
      00034503a2c53af454e852c96f6ceabeafa67a85e646009e6818c1d0f9767d6321c95bad9e23f15d9da99f7fdbf05c751d331d50b10eb1b408\
      918ff0ce88ddc4662cc62497041b13f9eba2e930abd3db884ebf35b71d6a3a1cdf4ea948efb3c56265";
 
-/// The register after the first device went on.
+/// The register after the first device has shown one more entry.
 const LONGER: &str =
     "4d4246310002e77cff2486ff16314c9990f68ac68f9000000003017692c3ad3540bb803c020b3aee66cd8887123234ea0\
      c6e7143c0add73ff431ed01d9298a10d1b0735837dc4bd85dac641b0f3cef27a47e5d53a54f2f3f5b2fcffa0000049141fb7ffba5f026cad5e\
@@ -96,7 +96,7 @@ fn append(alloc: Global, out: &mut Vec<u8>, word: &str) -> Result<(), Fail> {
     Ok(())
 }
 
-/// A chain of so many entries, which are given in hexadecimal pieces.
+/// A chain of this many entries, which are given in hexadecimal pieces.
 pub fn chain_of(alloc: Global, count: u16, pieces: &[&str]) -> Result<Vec<u8>, Fail> {
     let mut chain = Vec::from_slice(alloc, b"MBC1")?;
     put_u16(&mut chain, count)?;
@@ -115,7 +115,7 @@ pub fn show(out: &mut Vec<u8>, chain: &[u8]) -> Result<(), Fail> {
     Ok(())
 }
 
-/// Appends the question which devices have a code in a layer.
+/// Appends the question of which devices have a code in a layer.
 fn find(alloc: Global, out: &mut Vec<u8>, layer: u8, hash: &str) -> Result<(), Fail> {
     put_slice(out, &[2, layer])?;
     append(alloc, out, hash)

@@ -25,7 +25,7 @@ fn expect_maker(
     Ok(())
 }
 
-/// The bytes are no maker's file, which fails at the offset.
+/// The bytes are no maker's file, and fail at the offset.
 fn expect_bad_maker(rt: &impl Abort, alloc: Global, at: u32, bytes: &str) -> Result<(), Fail> {
     let bytes = hex::decode(alloc, bytes)?;
     assert!(rt; bytes.len() < 100);
@@ -33,7 +33,7 @@ fn expect_bad_maker(rt: &impl Abort, alloc: Global, at: u32, bytes: &str) -> Res
     Ok(())
 }
 
-/// The bytes are no public key, which fails at the offset.
+/// The bytes are no public key, and fail at the offset.
 fn expect_bad_key(rt: &impl Abort, alloc: Global, at: u32, bytes: &str) -> Result<(), Fail> {
     let bytes = hex::decode(alloc, bytes)?;
     assert!(rt; bytes.len() < 100);

@@ -1,4 +1,4 @@
-//! Endorsements that verify, and such that do not.
+//! Endorsements that verify, and some that do not.
 
 ghost use Rattle.std.specs.Prelude.{◌≡◌, IfOk};
 
@@ -31,7 +31,7 @@ fn refuses_byte(rt: &impl Abort, sig: &mut [u8], at: usize, byte: u8) -> Result<
     Ok(())
 }
 
-/// Its first bytes alone are no endorsement.
+/// A prefix of an endorsement is no endorsement.
 fn refuses_front(rt: &impl Abort, sig: &[u8], length: usize) -> Result<(), Fail> {
     assert!(rt; length < sig.len());
     assert!(rt; !endorses(rt, 2, &sig[..length])?, "the first {length}");

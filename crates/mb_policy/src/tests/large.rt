@@ -18,7 +18,7 @@ fn append_rules(alloc: Global, out: &mut Vec<u8>, count: u32) -> Result<(), Fail
     Ok(())
 }
 
-/// Whether a policy of so many rules comes to this.
+/// Whether a policy of this many rules comes to this.
 fn are_rules(alloc: Global, report: &Report, count: u32, expected: Expected) -> Result<bool, Fail> {
     let mut text = Vec::new(alloc);
     append_rules(alloc, &mut text, count)?;
@@ -26,7 +26,7 @@ fn are_rules(alloc: Global, report: &Report, count: u32, expected: Expected) -> 
     comes_to(alloc, report, text.as_slice(), expected)
 }
 
-/// Whether a policy with a set of so many hashes comes to this.
+/// Whether a policy with a set of this many hashes comes to this.
 fn is_wide(alloc: Global, report: &Report, count: usize, expected: Expected) -> Result<bool, Fail> {
     let pieces = [("set wide", 1), (HASH, count), ("\nallow a alive\n", 1)];
     let text = text_of(alloc, &pieces)?;
@@ -52,7 +52,8 @@ fn a_set_has_64_hashes(rt: HostRuntime) -> Result<(), Fail> {
 /// A test of four tests of owners and codes.
 const FOUR: &str = "or or owner 1 a code 2 a or owner 2 a code 3 a ";
 
-/// Whether a policy comes to this that allows by 64 tests of owners and codes, none of which holds, or by the last one.
+/// Whether a policy comes to this. Its rule allows by an `or` of 64 tests of owners and codes, none of which holds, and
+/// a last test.
 fn is_joined(alloc: Global, report: &Report, last: &str, expected: Expected) -> Result<bool, Fail> {
     let pieces = [
         ("set a", 1),

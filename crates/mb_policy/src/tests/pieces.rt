@@ -50,7 +50,7 @@ fn layer(owner: &str, code: &str, trust: Trust) -> Result<Layer, Fail> {
     })
 }
 
-/// A configuration of the key, in which layer 1 is so.
+/// A configuration of the key, with this layer 1.
 fn configuration(number: u32, one: Layer) -> Result<Configuration, Fail> {
     Ok(Configuration {
         number,
@@ -81,7 +81,7 @@ pub fn report(alloc: Global) -> Result<Report, Fail> {
     })
 }
 
-/// Appends a text, so many times.
+/// Appends a text this many times.
 fn append(out: &mut Vec<u8>, text: &str, times: usize) -> Result<(), Fail> {
     for _i in 0..times {
         out.extend_from_slice(text.as_bytes())?;
@@ -89,7 +89,7 @@ fn append(out: &mut Vec<u8>, text: &str, times: usize) -> Result<(), Fail> {
     Ok(())
 }
 
-/// The text of the pieces, each so many times.
+/// The text of the pieces, each repeated its number of times.
 pub fn text_of(alloc: Global, pieces: &[(&str, usize)]) -> Result<Vec<u8>, Fail>
     ensures { IfOk result (λ text. vec_len text ≤ 4194304) }
 {

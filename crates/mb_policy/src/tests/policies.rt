@@ -58,7 +58,7 @@ const AFTER_SETS: &[(&str, Expected)] = &[
     ("allow r version 1 2 3 4\n", Line(4)),
 ];
 
-/// Nested tests after the three sets: so many of the first word, so many of `alive `, and the end of the line.
+/// Nested tests after the three sets: this many of the first word, this many of `alive `, and the end of the line.
 const NESTED: &[(usize, &str, usize, &str, Expected)] = &[
     (31, "not ", 0, "statement\n", Allowed),
     (30, "not ", 0, "alive\n", Allowed),
@@ -130,7 +130,7 @@ const MORE: &[(&str, Expected)] = &[
     ),
 ];
 
-/// The policy of the pieces comes to this.
+/// Whether the policy of the pieces comes to this.
 fn is_policy(
     alloc: Global,
     report: &Report,

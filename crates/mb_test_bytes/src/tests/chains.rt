@@ -36,7 +36,7 @@ fn a_chain_goes_both_ways(rt: HostRuntime) -> Result<(), Fail> {
     Ok(())
 }
 
-/// Whether the chain has so many entries, and a statement.
+/// Whether the chain has `count` entries and a statement.
 fn has_statement(chain: &Chain, count: usize) -> bool {
     chain.entries.as_slice().len() == count && chain.statement.is_some()
 }
@@ -58,7 +58,7 @@ fn chain_of(alloc: Global, log: &[Entry]) -> Result<Chain, Fail>
     })
 }
 
-/// So many of the entries stand beside a statement of the configuration number.
+/// Attaching a statement of configuration `number` to a chain of the log leaves `count` entries beside it.
 fn keeps(
     rt: &impl Abort,
     alloc: Global,

@@ -1,4 +1,4 @@
-//! Stored bytes that are edited.
+//! Edits of stored bytes.
 
 use super::spelled::bytes_of;
 use super::values::KEY_NINE;
@@ -9,7 +9,7 @@ use std::alloc::Global;
 use std::process::Abort;
 use std::test::Fail;
 
-/// The record after its fate is this one.
+/// The fate turns the record `text` into `expected`.
 fn fate_gives(
     rt: &impl Abort,
     alloc: Global,
@@ -30,7 +30,7 @@ const EPOCH_ALONE: &str = "02020370696e04313233340000010201740000000003010000000
     005757575757575757575757575757575758585858585858585858585858585858585858585858585858\
     5858585858585820";
 
-/// Regions, their fates, and what they become, which is of version 2.
+/// Regions, their fates, and what they become, in version 2.
 const FATES: &[(&str, Fate, &str)] = &[
     (vectors::OLD_REGION, Fate::Keep, vectors::REGION),
     (vectors::OLD_REGION, Fate::DropConfiguration, EPOCH_ALONE),
@@ -55,7 +55,7 @@ const UNUSED: RegionKey = RegionKey {
     ..KEY_NINE
 };
 
-/// Each region becomes what its fate makes of it, and stays so when the fate comes again.
+/// Each fate turns its region into the expected one, and leaves the expected one as it is.
 #[test]
 fn regions_take_their_fates(rt: HostRuntime) -> Result<(), Fail> {
     for (text, fate, expected) in FATES {
@@ -65,8 +65,8 @@ fn regions_take_their_fates(rt: HostRuntime) -> Result<(), Fail> {
     Ok(())
 }
 
-/// Using the key of this number answers so, and the record afterwards is of version 2 and ends with this byte, or is
-/// empty.
+/// Using key `number` answers `expected`. The record afterwards has version 2 and ends with `last`, or is empty if
+/// `last` is empty.
 fn using_gives(
     rt: &impl Abort,
     alloc: Global,

@@ -1,4 +1,4 @@
-//! Each field read and written, by bytes that are written out.
+//! Each field read and written, against bytes that are written out.
 
 use mb_bytes::example::{Example, NotRead, read_example, read_whole_example, write_example};
 use mb_bytes::{
@@ -129,7 +129,7 @@ fn put(out: &mut Vec<u8>, field: &Field) -> Result<(), NoMemory> {
     }
 }
 
-/// The fields that are spelled below.
+/// The fields that `SPELLED` spells.
 const WRITTEN: &[Field] = &[
     Field::U8(7),
     Field::U16(0x0102),
@@ -154,7 +154,8 @@ const WRITTEN: &[Field] = &[
     Field::Kind(KeyKind::Configuration),
 ];
 
-/// Numbers and bytes, bytes after their lengths, a key of types 5 and 3, a seed, and choices.
+/// The spelling of `WRITTEN`: numbers and bytes, bytes after their lengths, a key of types 5 and 3, a seed, and
+/// choices.
 const SPELLED: &[u8] = b"\x07\x01\x02\xDE\xAD\xBE\xEFab\x09\x08\x07\
     \x02ab\0\x02cd\0\0\0\x01e\x01\0\
     \0\0\0\x05\0\0\0\x03an identifier 16the root of a tree with 32 bytes\

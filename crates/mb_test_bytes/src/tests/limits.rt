@@ -1,5 +1,5 @@
-//! The limits: where there is memory, the largest order is read and written, the longest bytes are copied, and lists
-//! grow to their limits.
+//! The limits: if there is memory, the largest order is read and written, the longest bytes are copied, and lists grow
+//! to their limits.
 
 use super::orders::is_written;
 use super::spelled::joined;
@@ -12,8 +12,8 @@ use std::alloc::Global;
 use std::process::Abort;
 use std::test::Fail;
 
-/// The body of a load of layer 1 with eight targets, two trusts and 32,768 bytes of code, and its signature and the countersignatures
-/// of layers 2 and 3, each of 9,324 bytes after their length.
+/// The largest order: the body of a load of layer 1 with eight targets, two trusts and 32,768 bytes of code, its
+/// signature, and the countersignatures of layers 2 and 3. Each signature has 9,324 bytes, after their length.
 pub const LARGEST_ORDER: &[(&str, usize)] = &[
     ("130108", 1),
     ("0301", 1),
@@ -31,10 +31,10 @@ pub const LARGEST_ORDER: &[(&str, usize)] = &[
     ("c3", 9_324),
 ];
 
-/// How many of those bytes are the body.
+/// The length of the body of `LARGEST_ORDER`.
 pub const BODY: usize = 32_850;
 
-/// The lengths of the lists of an order, and of its signature.
+/// The number of targets, the length of the signature, and the number of countersignatures of an order.
 fn lengths(order: &Order) -> (usize, usize, usize) {
     (
         order.targets.as_slice().len(),
@@ -53,7 +53,7 @@ fn the_largest_order_goes_both_ways(rt: HostRuntime) -> Result<(), Fail> {
     Ok(())
 }
 
-/// So many bytes are copied.
+/// `count` bytes are copied.
 fn copies(rt: &impl Abort, alloc: Global, count: usize) -> Result<(), Fail> {
     let bytes = vec![in alloc; 7; count]?;
     let copy = Bytes::copy(alloc, bytes.as_slice())?;
@@ -68,7 +68,7 @@ fn long_bytes_are_copied(rt: HostRuntime) -> Result<(), Fail> {
     copies(&rt, rt.alloc(), 4_194_304)
 }
 
-/// The length of a list to which the item is added so many times.
+/// The length of a list to which the item is added `times` times.
 fn filled<T: Copy + Drop>(alloc: Global, item: T, times: usize) -> Result<usize, NoMemory> {
     let mut items = Items::new(alloc);
     for _i in 0..times {
@@ -77,7 +77,7 @@ fn filled<T: Copy + Drop>(alloc: Global, item: T, times: usize) -> Result<usize,
     Ok(items.as_slice().len())
 }
 
-/// The length of a list of so many secrets, each as long as a secret may be.
+/// The length of a list of `times` secrets, each as long as a secret may be.
 fn secrets(alloc: Global, times: usize) -> Result<usize, NoMemory> {
     let mut items = Items::new(alloc);
     for _i in 0..times {

@@ -1,4 +1,4 @@
-//! That the calls which take memory succeed where there is memory.
+//! Calls that take memory succeed if there is memory.
 
 use mb_model::{Bytes, Event, Items};
 use std::test::Fail;

@@ -1,4 +1,4 @@
-//! Orders both ways, by bytes of another program and by bytes that are written out.
+//! Orders both ways, against bytes of another program and bytes that are written out.
 
 ghost use Rattle.mb_model.specs.OrderFormat.{order_format};
 
@@ -12,7 +12,7 @@ use std::test::Fail;
 /// A signature of no bytes, and no countersignatures.
 const UNSIGNED: &str = "000000";
 
-/// Whether the order is written as the bytes, of which so many are the body, which is what is signed.
+/// Whether the order is written as the bytes, and the first `body` bytes are its body, which is what is signed.
 pub fn is_written(alloc: Global, order: &Order, bytes: &[u8], body: usize) -> Result<bool, NoMemory>
     requires { order_format.Allowed order.now }
 {
@@ -29,7 +29,7 @@ pub fn is_written(alloc: Global, order: &Order, bytes: &[u8], body: usize) -> Re
     )
 }
 
-/// The body and the signatures are read as an order, which is written as they are again.
+/// The body and the signatures are read as an order, and the order is written as the same bytes.
 fn goes_both_ways(
     rt: &impl Abort,
     alloc: Global,

@@ -1,4 +1,4 @@
-//! Orders that are read in pieces: cut into two wherever one may cut, and byte by byte.
+//! Orders that are read in pieces: in two, divided at every offset, and byte by byte.
 
 ghost use Rattle.std.specs.Prelude.{◌≤◌, length};
 
@@ -10,7 +10,7 @@ use std::alloc::Global;
 use std::process::Abort;
 use std::test::Fail;
 
-/// The bytes, of which so many are the body, are read as an order from two pieces.
+/// The bytes, the first `body` of them the body, are read as an order from two pieces, divided at `cut`.
 fn reads_in_two(
     rt: &impl Abort,
     alloc: Global,
@@ -28,7 +28,7 @@ fn reads_in_two(
     Ok(())
 }
 
-/// The bytes are read as an order from two pieces, at every place of the cut.
+/// The bytes are read as an order from two pieces, divided at every offset.
 fn reads_at_every_cut(
     rt: &impl Abort,
     alloc: Global,
@@ -55,14 +55,14 @@ fn the_largest_order_is_read_from_two_pieces(rt: HostRuntime) -> Result<(), Fail
     let alloc = rt.alloc();
     let bytes = joined(alloc, LARGEST_ORDER)?;
     for i in 0..40usize {
-        // one place after another, and far apart
+        // one offset after another, far apart
         let cut = (i * 25_033) % (bytes.len() + 1);
         reads_in_two(&rt, alloc, &bytes, BODY, cut)?;
     }
     Ok(())
 }
 
-/// The bytes, of which so many are the body, are read as an order byte by byte.
+/// The bytes, the first `body` of them the body, are read as an order byte by byte.
 fn reads_byte_by_byte(
     rt: &impl Abort,
     alloc: Global,
@@ -100,7 +100,7 @@ fn the_largest_order_is_read_byte_by_byte(rt: HostRuntime) -> Result<(), Fail> {
     reads_byte_by_byte(&rt, rt.alloc(), LARGEST_ORDER, BODY)
 }
 
-/// The bytes fail at the offset as soon as so many of them were fed, and each later call answers the same.
+/// The bytes fail at offset `at` as soon as `known` of them have been fed, and each later call answers the same.
 fn fails_after(
     rt: &impl Abort,
     alloc: Global,
@@ -124,7 +124,7 @@ fn fails_after(
     Ok(())
 }
 
-/// Pieces of bytes that are no order, the place at which they fail, and how many bytes show it.
+/// Pieces of bytes that are no order, the offset at which they fail, and how many bytes show it.
 const FAILING: &[(&[(&str, usize)], u32, usize)] = &[
     // the order of 2,411 bytes with byte 0 set to 9
     (&[("0902000000000500000003", 1), ("31", 48)], 0, 1),
@@ -138,7 +138,7 @@ const FAILING: &[(&[(&str, usize)], u32, usize)] = &[
     (&[("030201030022", 1)], 4, 5),
     // two trusts that are equal
     (&[("13030000000102000000000003616263", 1)], 8, 9),
-    // a type number of a key: each of its bytes can tell that it is too large, the last one that it is too small
+    // a type number of a key: each of its bytes can show that it is too large, the last one that it is too small
     (&[("01030001000000", 1)], 3, 4),
     (&[("01030000010000", 1)], 3, 5),
     (&[("01030000000100", 1)], 3, 6),
@@ -173,7 +173,7 @@ fn a_failing_order_is_known_at_once(rt: HostRuntime) -> Result<(), Fail> {
     Ok(())
 }
 
-/// Pieces of bytes that begin an order, and the place of the field that lacks bytes.
+/// Pieces of bytes that begin an order, and the offset of the field that lacks bytes.
 const BEGINNINGS: &[(&[(&str, usize)], u32)] = &[
     (&[("", 1)], 0),
     (&[("010300000000", 1)], 3),
@@ -184,7 +184,7 @@ const BEGINNINGS: &[(&[(&str, usize)], u32)] = &[
     (&[("02020102000000070002aa", 1)], 10),
 ];
 
-/// The bytes can become an order, and fail as a whole at the offset.
+/// The bytes can begin an order, and as a whole fail at the offset.
 fn lacks_bytes(
     rt: &impl Abort,
     alloc: Global,

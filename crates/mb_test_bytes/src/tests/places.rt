@@ -1,4 +1,4 @@
-//! Bytes that spell nothing, and the place at which each fails.
+//! Bytes that spell nothing, and the offset at which each fails.
 
 ghost use Rattle.std.specs.Prelude.{◌≤◌, length};
 
@@ -28,7 +28,7 @@ enum Form {
     Statement,
 }
 
-/// The place at which the bytes fail, where they are not of the form.
+/// The offset at which the bytes fail, if they are not of the form.
 fn failing_place(alloc: Global, form: Form, bytes: &[u8]) -> Option<u32>
     requires { length bytes.now ≤ 100000 }
 {
@@ -68,7 +68,7 @@ fn failing_place(alloc: Global, form: Form, bytes: &[u8]) -> Option<u32>
     }
 }
 
-/// The bytes of the pieces fail at the place.
+/// The bytes of the pieces fail at offset `at`.
 fn fails(
     rt: &impl Abort,
     alloc: Global,
@@ -89,7 +89,7 @@ const BIRTH: (&str, usize) = (vectors::BIRTH, 1);
 
 const SIGNATURE: (&str, usize) = ("61", 2_348);
 
-/// Pieces of bytes that are no layer, entry, root or region, and the place at which they fail.
+/// Pieces of bytes that are no layer, entry, root or region, and the offset at which they fail.
 const RECORDS: &[(Form, &[(&str, usize)], u32)] = &[
     // a layer without an owner never trusts
     (Form::OldLayer, &[("0000", 1)], 1),
@@ -126,7 +126,7 @@ const RECORDS: &[(Form, &[(&str, usize)], u32)] = &[
     (Form::Region, &[(vectors::BYTE_LEFT_OVER, 1)], 131),
 ];
 
-/// Pieces of bytes that are no order, and the place at which they fail.
+/// Pieces of bytes that are no order, and the offset at which they fail.
 const ORDERS: &[(Form, &[(&str, usize)], u32)] = &[
     // a surrender has no countersignatures
     (Form::Order, &[("0202010200000007000001", 1)], 10),
@@ -187,7 +187,7 @@ const ORDERS: &[(Form, &[(&str, usize)], u32)] = &[
     (Form::Order, &[("030300000000000000000000000001", 1)], 14),
 ];
 
-/// Pieces of bytes that are no chain or statement, and the place at which they fail.
+/// Pieces of bytes that are no chain or statement, and the offset at which they fail.
 const CHAINS: &[(Form, &[(&str, usize)], u32)] = &[
     (Form::Chain, &[("4d4243", 1)], 0),
     (Form::Chain, &[("4d42434b0001", 1)], 0),

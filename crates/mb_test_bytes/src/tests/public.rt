@@ -1,4 +1,4 @@
-//! The public record of a flash that is not divided into segments, by bytes of another program.
+//! The public record of a flash that is not divided into segments, against bytes of another program.
 
 ghost use Rattle.std.specs.Prelude.{◌≤◌, length};
 
@@ -116,7 +116,7 @@ fn holds_public(alloc: Global, area: &[u8]) -> Result<bool, NoMemory> {
     }
 }
 
-/// A flash area with the length of that record, the record, and erased bytes.
+/// A flash area: the length of the record of the vectors, the record, and erased bytes.
 const AREA: &[(&str, usize)] = &[
     ("0000139c", 1),
     (CODES_OF_THREE, 1),

@@ -1,4 +1,4 @@
-//! Records of a device both ways, by bytes of another program.
+//! Records of a device both ways, against bytes of another program.
 
 ghost use Rattle.std.specs.Prelude.{◌≡◌, ◌≤◌, ◌⊎◌, length, vec_len, IfOk};
 ghost use Rattle.mb_model.specs.declared.limits.TheConstants.{REGION_VERSION};
@@ -33,7 +33,7 @@ enum Value {
     Root(Root),
 }
 
-/// Whether the layer of an entry of the version is read at the cursor, and its bytes, which are appended.
+/// Whether the expected layer, of an entry of this version, is read at the cursor. Appends the bytes of the layer read.
 fn is_layer(
     cursor: &mut Cursor,
     expected: &Layer,
@@ -47,7 +47,7 @@ fn is_layer(
     Ok(layer == *expected)
 }
 
-/// Whether the bytes are read as this value, up to their end, and its bytes, which are appended.
+/// Whether the bytes are read up to their end as the expected value. Appends the bytes of the value read.
 fn is_read(bytes: &[u8], expected: &Value, out: &mut Vec<u8>) -> Result<bool, Fail>
     requires { length bytes.now ≤ 4000 }
 {
@@ -69,7 +69,7 @@ fn is_read(bytes: &[u8], expected: &Value, out: &mut Vec<u8>) -> Result<bool, Fa
     Ok(is_same && cursor.left() == 0)
 }
 
-/// The text is read as the value, which is written as it again.
+/// The text is read as the value, and the value is written as the text.
 fn goes_both_ways(
     rt: &impl Abort,
     alloc: Global,
@@ -163,8 +163,8 @@ fn a_region_goes_both_ways(rt: HostRuntime) -> Result<(), Fail> {
     Ok(())
 }
 
-/// The record of a region of so many secrets and key 9. The secret of number n is `s` and two digits, with n bytes of n,
-/// put at n.
+/// The record of a region of `count` secrets and key 9. Secret n is named `s` and two digits, has n bytes of n, and was
+/// put at configuration number n.
 fn numbered(alloc: Global, count: u8) -> Result<Vec<u8>, Fail>
     ensures { IfOk result (λ bytes. vec_len bytes ≤ 4000) }
 {

@@ -9,7 +9,7 @@ use mb_model::Entry;
 use std::alloc::Global;
 use std::test::Fail;
 
-/// Appends what the text spells, so many times.
+/// Appends what the text spells, `times` times.
 fn append(out: &mut Vec<u8>, alloc: Global, text: &str, times: usize) -> Result<(), Fail> {
     let piece = hex::decode(alloc, text)?;
     for _i in 0..times {
@@ -18,7 +18,7 @@ fn append(out: &mut Vec<u8>, alloc: Global, text: &str, times: usize) -> Result<
     Ok(())
 }
 
-/// The bytes of a vector, of which there are few.
+/// The bytes of a vector, at most 4,000 of them.
 pub fn bytes_of(alloc: Global, text: &str) -> Result<Vec<u8>, Fail>
     ensures { IfOk result (λ bytes. vec_len bytes ≤ 4000) }
 {
@@ -27,7 +27,7 @@ pub fn bytes_of(alloc: Global, text: &str) -> Result<Vec<u8>, Fail>
     Ok(bytes)
 }
 
-/// What the pieces spell, each so many times.
+/// What the pieces spell, each as often as its number says.
 pub fn joined(alloc: Global, pieces: &[(&str, usize)]) -> Result<Vec<u8>, Fail>
     ensures { IfOk result (λ bytes. vec_len bytes ≤ 100000) }
 {

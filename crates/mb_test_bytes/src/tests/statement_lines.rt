@@ -1,4 +1,4 @@
-//! Lines of statements, by bytes of another program.
+//! Lines of statements, against bytes of another program.
 
 use super::statements::{FIRST, is_hello};
 use mb_cert::{StatementLineEnd, read_statement_line};
@@ -6,7 +6,7 @@ use std::alloc::Global;
 use std::process::Abort;
 use std::test::Fail;
 
-/// The pieces, each so many times.
+/// The text of the pieces, each as often as its number says.
 fn text_of(alloc: Global, pieces: &[(&str, usize)]) -> Result<String, Fail> {
     let mut text = String::new(alloc);
     for (piece, times) in pieces {
@@ -15,7 +15,7 @@ fn text_of(alloc: Global, pieces: &[(&str, usize)]) -> Result<String, Fail> {
     Ok(text)
 }
 
-/// Appends the piece so many times.
+/// Appends the piece `times` times.
 fn append(text: &mut String, piece: &str, times: usize) -> Result<(), Fail> {
     for _i in 0..times {
         text.push_str(piece)?;
@@ -44,7 +44,7 @@ const WRONG: &[(&[(&str, usize)], u32)] = &[
     (&[FIRST, ("63", 2_348), ("\nboot", 1)], 2),
 ];
 
-/// The text of the pieces has this first wrong line.
+/// The first wrong line of the text of the pieces is `line`.
 fn is_wrong(
     rt: &impl Abort,
     alloc: Global,

@@ -1,4 +1,4 @@
-//! Statements both ways, by bytes of another program.
+//! Statements both ways, against bytes of another program.
 
 use super::spelled::joined;
 use mb_cert::{Statement, read_statement, write_statement};
@@ -7,10 +7,10 @@ use std::test::Fail;
 /// The number 5 and the message hello, as another program spelled them before a signature.
 pub const FIRST: (&str, usize) = ("000000050568656c6c6f", 1);
 
-/// Those and a signature of bytes 0x63.
+/// A statement: the bytes of `FIRST`, and a signature of bytes 0x63.
 const STATEMENT: &[(&str, usize)] = &[FIRST, ("63", 2_348)];
 
-/// Whether the statement has that number, that message and that signature.
+/// Whether the statement has the number 5, the message hello, and a signature of bytes 0x63.
 pub fn is_hello(statement: &Statement) -> bool {
     statement.number == 5
         && statement.message.as_slice() == b"hello".as_slice()

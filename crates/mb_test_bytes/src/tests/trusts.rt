@@ -1,5 +1,5 @@
-//! Layers and entries of version 2, which spells both trusts of a layer, as another program spelled them, in hexadecimal,
-//! and bytes that are no entry.
+//! Layers and entries of version 2, which spells both trusts of a layer, as another program spelled them, in
+//! hexadecimal, and bytes that are no entry.
 
 /// A layer of owner 11 with code 13 of version 258, reliable, that trusts always.
 pub const RELIABLE_LAYER: &str = "07000000000005000000031111111111111111111111111111\
@@ -32,15 +32,15 @@ pub const OWNED_LAYER_APART: &str = "0101020000000500000003313131313131313131313
 /// A layer without an owner.
 pub const UNOWNED_LAYER: &str = "000101";
 
-/// A birth: serial 41, key 43, the first of the layers above and two unowned ones.
+/// A birth: serial 41, key 43, the layer `RELIABLE_LAYER` and two unowned ones.
 pub const BIRTH: &str = "10414141414141414141414141414141410000000500000003434343434\
     343434343434343434343434444444444444444444444444444444444444444444444444444444444444\
     444070000000000050000000311111111111111111111111111111111121212121212121212121212121\
     212121212121212121212121212121212121213131313131313131313131313131313131313131313131\
     3131313131313131300000102000101000101";
 
-/// A change at position 5, number 4: a load of layer 1, cosigned by 3, region 2 kept, next key 45. The trusts of layer 2
-/// differ.
+/// A change at position 5, number 4: a load of layer 1, cosigned by 3, region 2 kept, next key 45. The trusts of layer
+/// 2 differ.
 pub const CHANGE: &str = "1100000005000000040301020107000000000005000000031111111111\
     111111111111111111111112121212121212121212121212121212121212121212121212121212121212\
     121313131313131313131313131313131313131313131313131313131313131313000001020300010000\
@@ -79,7 +79,7 @@ pub const NO_SUCH_SECOND_TRUST: &str = "1100000005000000040301020107000300000005
     454545454545454545454545454646464646464646464646464646464646464646464646464646464646\
     464646";
 
-/// No entry, from byte 15 on: the change above with the tag of version 1.
+/// No entry, from byte 15 on: `CHANGE` with the tag of version 1.
 pub const TWO_TRUSTS_IN_VERSION_ONE: &str = "010000000500000004030102010700000000000\
     500000003111111111111111111111111111111111212121212121212121212121212121212121212121\
     212121212121212121212131313131313131313131313131313131313131313131313131313131313131\

@@ -1,5 +1,5 @@
-//! The values whose bytes the other program spelled. A key is named by the byte that fills its identifier, and its root or
-//! its seed is filled with the next byte.
+//! The values whose bytes the other program spelled. A key is named by the byte that fills its identifier, and its root
+//! or its seed is filled with the next byte.
 
 use mb_model::{
     Chains, ChangeKind, CodeName, Entry, Fate, KeyKind, KeySeed, Layer, Layers, Outgoing, Pair,
@@ -132,7 +132,7 @@ pub const UNOWNED: Layer = Layer {
     },
 };
 
-/// The first layer, which trusts countersigned loads of layer 1 and all loads of layer 2.
+/// The layer of owner 11, which trusts countersigned loads of layer 1 and all loads of layer 2.
 pub const RELIABLE_APART: Layer = Layer {
     trust: Trusts {
         one: Trust::Countersigned,

@@ -1,5 +1,5 @@
-//! The commands `app`, `asm` and `disasm`: how codes of layers run, and the texts of codes, by values of an independent
-//! program and by the rules of the machine.
+//! The commands `app`, `asm` and `disasm`: how codes of layers run, and the texts of codes, against values of an
+//! independent program and by the rules of the machine.
 
 use super::births::owned_device_goes_through;
 use super::devices::KEY;
@@ -7,7 +7,7 @@ use super::{Content, Given, OWNER, Part, Play, SERIAL, Step, go_through, host_wi
 use mb_model::{FLASH_LENGTH, IMAGE_LENGTH};
 use std::test::Fail;
 
-/// Layers 2 and 3 have the code that answers with the secret `token` of region 3. It was put before.
+/// Layers 2 and 3 have the code that answers with the secret `token` of region 3. The secret was put before.
 const A_SECRET_IS_READ: &[Step] = &[
     Step::Serves(
         &[Part::Text("boot\ngo\nput 2 pin 31323334\ngo\nput 3 token 00ff\noff\n")],
@@ -49,7 +49,7 @@ const A_SECRET_IS_READ: &[Step] = &[
     Step::Matches("image", "before"),
 ];
 
-/// Without its agreement to the load of layer 2, layer 3 is not reliable: its region may not be read, and it may not run.
+/// Layer 3 did not agree to the load of layer 2, and is not reliable: its region may not be read, and it may not run.
 const A_SECRET_IS_NOT_READ: &[Step] = &[
     Step::Writes("image", &[Part::File("keyed")]),
     Step::Serves(
@@ -107,7 +107,7 @@ fn codes_read_the_secrets_of_their_layers(rt: HostRuntime) -> Result<(), Fail> {
     )
 }
 
-/// What a device is made of whose layer 2 has code, and inputs that are too long or not in their forms.
+/// The files that make a device whose layer 2 has code, and inputs that are too long or not in their forms.
 const FILES: &[Given] = &[
     Given {
         name: "noise1",
@@ -205,8 +205,8 @@ const STEPS_ARE_COUNTED: &[Step] = &[
     Step::WasCalled(20, 11, 9),
 ];
 
-/// Words that are no command, and inputs that are not right: the first that is not is told, and then a dead device before
-/// a layer that may not run.
+/// Words that are no command, and inputs that are not right: the first wrong one is reported, and then a dead device
+/// before a layer that may not run.
 const OTHER_ENDS: &[Step] = &[
     Step::Ends("app image 1 nothing 3", 2, "words\n"),
     Step::Ends("app image 4 nothing 3", 2, "words\n"),
@@ -232,7 +232,7 @@ fn the_stored_code_runs(rt: HostRuntime) -> Result<(), Fail> {
     coded_device_goes_through(&rt, &[], &[STEPS_ARE_COUNTED, OTHER_ENDS])
 }
 
-/// The line of a code that does not halt has its status where it cannot be printed, too.
+/// A code that does not halt ends with its status even if its line cannot be printed.
 const NOT_PRINTED: &[Step] = &[Step::Ends("app image 2 nothing 2", 7, "")];
 
 #[test]
@@ -379,7 +379,7 @@ const TEXTS: &[Given] = &[
     },
 ];
 
-/// Texts are assembled, and their first bad lines told.
+/// Texts are assembled, and their first bad lines reported.
 const ASSEMBLED: &[Step] = &[
     Step::Ends("asm empty out", 0, "bytes 0\n"),
     Step::Holds("out", ""),
@@ -403,7 +403,7 @@ const ASSEMBLED: &[Step] = &[
     Step::IsMissing("none"),
 ];
 
-/// Codes are listed, and the place is told at which no whole instruction stands.
+/// Codes are listed, and the offset at which no whole instruction stands is reported.
 const LISTED: &[Step] = &[
     Step::Ends("disasm empty out", 0, "lines 0\n"),
     Step::Holds("out", ""),

@@ -1,4 +1,4 @@
-//! The command `factory`, by a device that an independent program made.
+//! The command `factory`, against a device that an independent program made.
 
 use super::{Content, Given, IMAGE, MAKER, OWNER, Play, SERIAL, Step, perform};
 use std::test::Fail;
@@ -99,7 +99,7 @@ fn a_device_is_made(rt: HostRuntime) -> Result<(), Fail> {
     perform(&rt, FILES, A_DEVICE_IS_MADE)
 }
 
-/// What is refused writes nothing.
+/// Refused commands write nothing.
 const REFUSED: &[Play] = &[Play {
     failing: &[],
     steps: &[

@@ -1,5 +1,5 @@
-//! The commands `hsskeygen`, `endorse` and `endorsed`, by makers and endorsements of an independent program, and over a
-//! host whose calls fail.
+//! The commands `hsskeygen`, `endorse` and `endorsed`, against makers and endorsements of an independent program, and
+//! over a host whose calls fail.
 
 use super::{Content, Given, Part, Play, Step, ends, go_on, host_with, perform};
 use std::test::Fail;
@@ -7,7 +7,7 @@ use std::test::Fail;
 /// The noise of a maker.
 const NOISE: &str = "000102030405060708090a0b0c0d0e0f101112131415161718191a1b1c1d1e1f";
 
-/// The files of its makers of one and of two levels, which have signed nothing, and their public keys.
+/// The files of the makers of one and of two levels made of `NOISE`, which have signed nothing, and their public keys.
 const ONE: &str =
     "4d424b3201136b8c60f7349e4e452847a2b564f20a1e0642410e09d0ba9ae7a13915d483190000000000000000";
 
@@ -22,7 +22,7 @@ const TWO_PUBLIC: &str = "\
     000000020000000500000003ec1b77804d0b7d73e6b29b7af6b8498a1b15cc212083944aeacb532a50b5fbe9951a6555c1e02060c0570115\
     138b9a32";
 
-/// What is printed of each.
+/// What is printed for each of the two makers.
 const ONE_LINE: &str = "maker 947bc68a614ab9812cd14fcd397022ed1807b239b66c1b1558e9ab150cc603a7\n";
 
 const TWO_LINE: &str = "maker d54325968cb96cfed2b10a72297e5019230de2aa9d135a4dba2f28506296c652\n";
@@ -36,7 +36,7 @@ const ROOT: &str =
     "00000005000000037051ba5d3680f56ccdc72fffce8c33c2f40bb5bd489e2a41ddf67f10a026cea5b33a14ad098e3fe1\
         2d8d1b16c8d4189d";
 
-/// Its endorsements by the number 0 of the makers of one and of two levels have these hashes.
+/// The hashes of the endorsements of `ROOT` by the makers of one and of two levels with number 0.
 const ONE_HASH: &str = "d8f435db690e98cdd3ad2c0c6a37ccf727352d40bc3fa48254338b1fb21c2d70";
 
 const TWO_HASH: &str = "5eb74066695326036d2df3d2d460354ab19466e8274193cb3aee25d72ae1c550";
@@ -271,7 +271,7 @@ fn makers_are_made(rt: HostRuntime) -> Result<(), Fail> {
     perform(&rt, FILES, MAKERS_ARE_MADE)
 }
 
-/// An endorsement of two levels has 4,756 bytes. It is of its root key alone, under its maker's public key alone.
+/// An endorsement of two levels has 4,756 bytes. It holds for its root key alone, under its maker's public key alone.
 const TWO_LEVELS: &[Play] = &[
     Play {
         failing: &[],
@@ -420,8 +420,8 @@ fn levels_are_spent(rt: HostRuntime) -> Result<(), Fail> {
     go_on(&rt, &mut host, LAST_OF_ONE)
 }
 
-/// An endorsement that another program made with keys of other types is accepted, and refused where it is changed or
-/// cut at the beginning of a field.
+/// An endorsement that another program made with keys of other types is accepted, and refused if it is changed or cut
+/// at the beginning of a field.
 const FOREIGN_ENDORSEMENTS: &[Play] = &[Play {
     failing: &[],
     steps: &[
@@ -485,7 +485,7 @@ fn foreign_endorsements(rt: HostRuntime) -> Result<(), Fail> {
     perform(&rt, FILES, FOREIGN_ENDORSEMENTS)
 }
 
-/// What is refused has its status where its line cannot be printed, too.
+/// Refused commands end with their status even if their line cannot be printed.
 const NOT_PRINTED: &[Play] = &[
     Play {
         failing: &[3],
@@ -502,7 +502,7 @@ fn a_refusal_is_not_printed(rt: HostRuntime) -> Result<(), Fail> {
     perform(&rt, FILES, NOT_PRINTED)
 }
 
-/// What is refused writes nothing, and the first input that is not right is named.
+/// Refused commands write nothing, and name the first input that is not right.
 const REFUSED: &[Play] = &[Play {
     failing: &[],
     steps: &[

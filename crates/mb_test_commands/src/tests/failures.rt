@@ -1,6 +1,6 @@
-//! Each command over a hostile world: each of its calls of the host fails in turn, and each of its inputs has one byte more
-//! than an input may have. The lines are those that the rules of the commands give. Inputs that end where a field or a
-//! word begins are in `short_files.rt`.
+//! Each command over a hostile world: each of its calls of the host fails in turn, and each of its inputs has one byte
+//! more than an input may have. The lines are those that the rules of the commands give. Inputs that end where a field
+//! or a word begins are in `short_files.rt`.
 
 use super::births::owned_device_goes_through;
 use super::{A_NEW_DEVICE, A_WHOLE_LIFE, Access, Content, Given, Part, Step};
@@ -205,7 +205,7 @@ const COMMANDS: &[Access] = &[
     },
 ];
 
-/// Calls fail, of a command that writes several files also after the first was written.
+/// Calls fail. A command that writes several files also fails after the first is written.
 const CALLS_FAIL: &[Step] = &[Step::CallsFail(COMMANDS)];
 
 const INPUTS_ARE_LONG: &[Step] = &[Step::InputsAreLong(COMMANDS)];

@@ -1,5 +1,5 @@
-//! The command `fleet`: devices that are shown and asked for, by values of an independent program and by the rules of
-//! the command, and inputs and calls that fail.
+//! The command `fleet`: devices that are shown and asked for, against values of an independent program and by the rules
+//! of the command, and inputs and calls that fail.
 
 use super::births::owned_device_goes_through;
 use super::{
@@ -9,7 +9,7 @@ use super::{
 use std::alloc::Global;
 use std::test::Fail;
 
-/// A register of no devices, and what stands in items before chains of 15,300 and of 20,650 bytes.
+/// A register of no devices, and the bytes that stand in items before chains of 15,300 and of 20,650 bytes.
 const A_REGISTER_BEGINS: &[Step] = &[
     Step::Gives(Given {
         name: "register",
@@ -211,8 +211,8 @@ const A_COPY_IS_CAUGHT: &[Step] = &[
     ),
 ];
 
-/// A maker's key, a register of two devices, and questions with bytes that are no chain among them; and two devices with
-/// codes of layer 1 that differ.
+/// A maker's key, a register of two devices, and questions with bytes that are no chain among them; and two devices
+/// with codes of layer 1 that differ.
 const FILES: &[Given] = &[
     Given {
         name: "root",
@@ -269,7 +269,7 @@ const ANSWERS: &str = "codes 1\n\
     codes 1\n\
     code 2323232323232323232323232323232323232323232323232323232323232323 1\n";
 
-/// Each input is read once, and the register written, also where it is unchanged.
+/// Each input is read once, and the register is written even if it is unchanged.
 const INPUTS: &[Play] = &[Play {
     failing: &[],
     steps: &[
@@ -302,7 +302,7 @@ const INPUTS: &[Play] = &[Play {
     ],
 }];
 
-/// Neither the answers nor the line of the failure are printed: the register is written.
+/// Neither the answers nor the line of the failure can be printed, and the register is written.
 const NOTHING_IS_PRINTED: &[Play] = &[Play {
     failing: &[4, 5],
     steps: &[
@@ -350,10 +350,10 @@ const FIELDS_ARE_MISSING: &[Play] = &[Play {
     steps: &[Step::InputsAreShort(SHORT)],
 }];
 
-/// Each question for the two codes of layer 1 is answered by 152 bytes, and so many of them by more than 268,435,456.
+/// How many questions there are for the two codes of layer 1. An answer has 152 bytes, and all have over 268,435,456.
 const QUESTIONS: u32 = 1_766_023;
 
-/// The questions.
+/// `QUESTIONS` questions for the codes of layer 1.
 fn questions(alloc: Global) -> Result<Vec<u8>, Fail> {
     let mut items = Vec::new(alloc);
     for _number in 0..QUESTIONS {
@@ -362,7 +362,7 @@ fn questions(alloc: Global) -> Result<Vec<u8>, Fail> {
     Ok(items)
 }
 
-/// Answers that are too long want memory before anything is written: the one write is that of the questions.
+/// Answers that are too long need memory before anything is written: the one write is that of the questions.
 const TOO_LONG: &[Step] = &[
     Step::Ends("fleet root two questions", 6, "no memory\n"),
     Step::WasCalled(3, 1, 1),

@@ -1,6 +1,6 @@
-//! What is as long as the rules allow, and one more: a script and the code of an order. And the longest log of a device,
-//! whose last entry is spoilt in each way that a chain can be refused for. The chains are those of an independent
-//! program, which also signed what no device signs.
+//! What is as long as the rules allow, and one more: a script and the code of an order. Also the longest log of a
+//! device, whose last entry is spoilt in each way that a chain can be refused for. The chains are those of an
+//! independent program, which also signed what no device signs.
 
 use super::births::new_device_goes_through;
 use super::{Content, Given, Part, ShortFile, Step, Told, ends, file_of, host_with};
@@ -300,7 +300,7 @@ const A_KEY: &str =
     9cda934020e11b177111488eecb63d00d1b5838fe3fcb2e0375a8b9a5f9fd2744ce9a0471140599e65aaea6be4fcb62e50c2\
     e904cf6cb186215f5e397cf93a413f66e8fa1c";
 
-/// A load of layer 1 in the last place, to which layer 2 says nothing, so that its keys end.
+/// A load of layer 1 in the last place, to which layer 2 does not agree, so that its keys end.
 const AN_END: &str =
     "110000007f0000007c0301000007000000000005000000032c1e471084d7886d5f0740149d4a4dd663675ac2fc0917d5ccba\
     80ed9aa73ad44c990ee150f972892aeb3c35912a162e7692c3ad3540bb803c020b3aee66cd8887123234ea0c6e7143c0add7\
@@ -356,7 +356,7 @@ const AN_END: &str =
     7111488eecb63d00d1b5838fe3fcb2e0375a8b9a5f9fd2744ce9a0471140599e65aaea6be4fcb62e50c2e904cf6cb186215f\
     5e397cf93a413f66e8fa1c";
 
-/// A statement by the key that ended so, which names that load's number.
+/// A statement by the key that ended with the load of `AN_END`, which names that load's number.
 const A_LATE_STATEMENT: &str =
     "0000007c0268690000000500000003d5034fcc63346658b7922a3fa2fe73384c3c25e9a0a5b914e7a67983727e7a6d6b13fa\
     a8ad04db6b882258c2fa2716ca529c5ea1d229084a6ff1fcd8b931323a955f39829585399085f0938feef6d2997be642916b\
@@ -442,7 +442,7 @@ const ITS_END_IS_FORGED: &[Step] = &[
     Step::Ends("verify public0 spoilt 1", 7, "refused 27\n"),
 ];
 
-/// A script of the most lines is served, each line of which is its own reply. With one line more it is refused.
+/// A script of the most lines is served, and each line is its own reply. With one line more it is refused.
 fn long_scripts(rt: &(impl Abort + AllocGlobal), host: &mut MemoryHost) -> Result<(), Fail> {
     ends(
         rt,

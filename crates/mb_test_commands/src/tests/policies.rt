@@ -1,5 +1,5 @@
-//! Keys that are judged by a policy: what `trust` answers for the chain of a life, and each of its other ends. What the
-//! chain lists is by an independent program (`ITS_LISTING`).
+//! Keys that are judged by a policy: what `trust` answers for the chain of a life, and each of its other ends. The
+//! listing of the chain is that of an independent program (`ITS_LISTING`).
 
 use super::births::owned;
 use super::{
@@ -136,8 +136,8 @@ const POLICIES: &[Given] = &[
     },
 ];
 
-/// The calls of a host that fail, from 2 on, the words, the status and what is printed. Where a line cannot be printed, the
-/// status is the same.
+/// The calls of a host that fail, from 2 on, the words, the status and what is printed. If a line cannot be printed,
+/// the status is the same.
 const CALLS_FAIL: &[(&[u64], &str, u8, &str)] = &[
     (&[5, 6], "trust public0 chain 1 policy", 5, ""),
     (&[5], "trust public0 chain 1 denies", 7, ""),
@@ -149,7 +149,7 @@ const CALLS_FAIL: &[(&[u64], &str, u8, &str)] = &[
     ),
 ];
 
-/// The policy comes to this for key 1 of the chain.
+/// Under this policy, `trust` has this status and prints these lines for key 1 of the chain.
 fn is_judged(
     rt: &impl AllocGlobal,
     host: &mut MemoryHost,
@@ -161,8 +161,8 @@ fn is_judged(
     ends(rt, host, "trust public0 chain 1 policy", status, lines)
 }
 
-/// On a host with the maker's public key and the chain of this one, whose calls of these numbers fail, the words end so.
-/// Its first two calls are those that write these two files.
+/// The words end with this status and these lines on a host that has the maker's public key and the chain of the host
+/// given, and whose calls of these numbers fail. The first two calls of that host write these two files.
 fn calls_fail(
     rt: &impl AllocGlobal,
     host: &MemoryHost,

@@ -37,7 +37,7 @@ const FILES: &[Given] = &[
     },
 ];
 
-/// Neither the replies nor the line that tells of it can be printed: the image is the new one.
+/// Neither the replies nor the line that reports this can be printed: the image is the new one.
 const NOTHING_IS_PRINTED: &[Play] = &[Play {
     failing: &[11, 12],
     steps: &[

@@ -1,4 +1,4 @@
-//! Files that end where a field or a word begins: the offsets at which they end, and the line that tells of it.
+//! Files that end where a field or a word begins: the offsets at which they end, and the line that reports it.
 
 use super::births::owned_device_goes_through;
 use super::failures::{FILES_ARE_MADE, TOOLS_ARE_MADE};
@@ -391,8 +391,8 @@ const ENDORSEMENT: &[usize] = &[
     4_596, 4_755,
 ];
 
-/// Inputs of the commands on makers' keys, policies and the code of applications end early. Those of `fleet` stand beside
-/// its registers.
+/// Inputs of the commands on makers' keys, policies and the code of applications end early. Those of `fleet` stand
+/// beside its registers.
 const TOOLS_ARE_SHORT: &[ShortFile] = &[
     ShortFile {
         words: "hsskeygen noise0 1 out out",

@@ -1,4 +1,4 @@
-//! The commands `sign` and `countersign`, by orders that an independent program signed.
+//! The commands `sign` and `countersign`, against orders that an independent program signed.
 
 use super::{Content, Given, Play, Step, perform};
 use std::test::Fail;
@@ -191,7 +191,7 @@ fn orders_are_signed(rt: HostRuntime) -> Result<(), Fail> {
     perform(&rt, FILES, ORDERS_ARE_SIGNED)
 }
 
-/// What is refused writes nothing.
+/// Refused commands write nothing.
 const REFUSED: &[Play] = &[Play {
     failing: &[],
     steps: &[

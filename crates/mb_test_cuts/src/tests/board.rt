@@ -24,7 +24,7 @@ fn loaded_board(alloc: Global, image: &[u8], event: Event) -> Result<SimBoard, F
     Ok(board)
 }
 
-/// A board with this image, on which power will fail in the write call of this number, whose bytes are all `fill` then.
+/// A board with this image, on which power will fail in write call `count` and leave all bytes of that call as `fill`.
 pub fn armed_board(alloc: Global, image: &[u8], count: u32, fill: u8) -> Result<SimBoard, Fail>
     requires image { length image.now ≡ 1077248 }
     requires least { 1 ≤ count }

@@ -13,10 +13,10 @@ use std::alloc::Global;
 use std::process::Abort;
 use std::test::Fail;
 
-/// With what the bytes of a write are filled in which power fails.
+/// The bytes that fill a write in which power fails.
 pub const FILLS: &[u8] = &[0, 0xff, 0x7e, 1];
 
-/// No call has as many writes.
+/// More writes than any call makes.
 pub const MANY: u32 = 300;
 
 fn signatures_of(state: &State) -> [u8; 32] {
@@ -27,7 +27,7 @@ fn signatures_of(state: &State) -> [u8; 32] {
     hasher.finalize()
 }
 
-/// The state is the one of which the other program says this.
+/// The state has the numbers of entries, uses and items, and the signatures, that the other program says.
 fn expect_state(rt: &impl Abort, state: &State, left: &Left) -> Result<(), Fail> {
     let items = [
         state.two.secrets.as_slice().len(),
@@ -45,7 +45,7 @@ fn expect_state(rt: &impl Abort, state: &State, left: &Left) -> Result<(), Fail>
     Ok(())
 }
 
-/// Whether a boot left this state, and a clean memory where power did not fail in it.
+/// Whether a boot left this state, and, if power did not fail in it, a clean memory.
 fn keeps(after: &After, like: &State) -> bool {
     (after.stopped || after.is_clean) && is_same(&after.device.state, like)
 }
@@ -63,8 +63,8 @@ fn comes_up(rt: &impl Abort, alloc: Global, image: &[u8], like: &State) -> Resul
     Ok(())
 }
 
-/// The device has its state after power failed in the write of this number as it comes up, and has it once it is up then.
-/// Whether power failed.
+/// The device keeps its state if power fails in write `count` of a boot, and once it is up after that. Answers whether
+/// power failed.
 fn fails_coming_up(
     rt: &impl Abort,
     alloc: Global,
@@ -84,7 +84,8 @@ fn fails_coming_up(
     Ok(after.stopped)
 }
 
-/// The device has its state wherever power fails as it comes up, and has it once it is up. How many writes there are.
+/// The device keeps its state wherever power fails in a boot, and once it is up. Answers how many writes the boot
+/// makes.
 pub fn comes_up_at_last(
     rt: &impl Abort,
     alloc: Global,
@@ -115,9 +116,9 @@ fn expect_writes(
     Ok(())
 }
 
-/// The device has the state that the other program tells wherever power fails as it comes up, and once it is up. There are
-/// two writes for each region that something is to be done to, two for each entry that is not signed, two for the header,
-/// two for the root, and one for each area that is left with old bytes.
+/// The device keeps the state that the other program says wherever power fails in a boot, and once it is up. A boot
+/// makes two writes for each region with pending work, two for each entry that is not signed, two for the header, two
+/// for the root, and one for each area that is left with old bytes.
 fn expect(rt: &impl Abort, alloc: Global, left: &Left, writes: u32) -> Result<(), Fail> {
     let device = device_of(alloc, left, None)?;
     expect_state(rt, &device.state, left)?;

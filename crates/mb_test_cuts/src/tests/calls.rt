@@ -37,7 +37,7 @@ pub enum Call {
     /// The region of this record is stored.
     StoreTwo(&'static str),
     StoreThree(&'static str),
-    /// The root of this record is put in force.
+    /// The root of this record is made current.
     PutRoot(&'static str),
 }
 
@@ -50,7 +50,7 @@ pub struct After {
     pub device: Box<Device>,
 }
 
-/// The region for which a record stands.
+/// The region that the record spells.
 pub fn region_of(alloc: Global, record: &str) -> Result<Region, Fail>
     ensures { IfOk result CanBeWritten }
 {
@@ -64,7 +64,7 @@ pub fn region_of(alloc: Global, record: &str) -> Result<Region, Fail>
     }
 }
 
-/// The root for which a record stands.
+/// The root that the record spells.
 fn root_of(alloc: Global, record: &str) -> Result<Root, Fail>
     ensures { IfOk result (λ root. root_format.Allowed root) }
 {
@@ -78,7 +78,7 @@ fn root_of(alloc: Global, record: &str) -> Result<Root, Fail>
     }
 }
 
-/// The device comes up; whether power failed.
+/// Boots the device, and answers whether power failed.
 #[tactic(auto, using(crate::proofs::Staging::still_loaded))]
 fn come_up<L: Ledger>(
     alloc: Global,
@@ -96,7 +96,7 @@ fn come_up<L: Ledger>(
     }
 }
 
-/// A key of a region is bound, and a message signed by it; whether power failed.
+/// Binds a key of a region and signs a message with it, and answers whether power failed.
 fn bind_key<P: Named, L: Ledger>(
     alloc: Global,
     board: &mut SimBoard,
@@ -124,7 +124,7 @@ fn bind_key<P: Named, L: Ledger>(
     }
 }
 
-/// A region is stored, and the one before it wiped; whether power failed.
+/// Stores a region and wipes the one before it, and answers whether power failed.
 fn store_region<P: Named>(alloc: Global, board: &mut SimBoard, record: &str) -> Result<bool, Fail>
     requires off { board.old.power ≡ false }
     requires loaded { IsLoaded board.old.memory }
@@ -139,7 +139,7 @@ fn store_region<P: Named>(alloc: Global, board: &mut SimBoard, record: &str) -> 
     }
 }
 
-/// A root is put in force; whether power failed.
+/// Makes a root current, and answers whether power failed.
 fn put_root(alloc: Global, board: &mut SimBoard, record: &str) -> Result<bool, Fail>
     requires off { board.old.power ≡ false }
     requires loaded { IsLoaded board.old.memory }
@@ -158,7 +158,7 @@ fn put_root(alloc: Global, board: &mut SimBoard, record: &str) -> Result<bool, F
     }
 }
 
-/// Makes the call; whether power failed in it.
+/// Makes the call, and answers whether power failed in it.
 fn make<L: Ledger>(
     alloc: Global,
     call: Call,
@@ -179,7 +179,8 @@ fn make<L: Ledger>(
     }
 }
 
-/// Makes the call on a board with this image, in whose write of this number power fails; whether power failed.
+/// Makes the call on a board with this image, with a power loss armed for write `count`, and answers whether power
+/// failed.
 #[tactic(auto, using(crate::proofs::Staging::live_length))]
 fn make_on<L: Ledger>(
     alloc: Global,
@@ -228,7 +229,8 @@ fn stopped_counted<L: Ledger>(
     })
 }
 
-/// What a call leaves of an image, in whose write of this number power fails, so that all bytes of it are `fill`.
+/// What a call leaves of an image if power fails in write `count` of the call and leaves all bytes of that write as
+/// `fill`.
 pub fn stopped(alloc: Global, image: &[u8], call: Call, count: u32, fill: u8) -> Result<After, Fail>
     requires live { IsLiveImage image.now }
     requires least { 1 ≤ count }

@@ -13,7 +13,7 @@ use std::marker::Brand;
 use std::sync::ledger::{Blank, Ledger};
 use std::test::Fail;
 
-/// What an order has left, and what it stands for. Bytes are in hexadecimal.
+/// What an order has left, and what that means. Bytes are in hexadecimal.
 pub struct Left {
     /// The device key that signed every entry so far but the birth.
     identifier: &'static str,
@@ -24,7 +24,7 @@ pub struct Left {
     codes: [&'static str; 3],
     /// All entries, signed or not.
     pub entries: &'static [&'static str],
-    /// How many of them are not signed yet.
+    /// How many of the entries are not signed yet.
     unsigned: usize,
     pub root: &'static str,
     /// The records of regions 2 and 3.
@@ -103,7 +103,7 @@ pub const ENTRY: Left = Left {
     signatures: "01b38531e312a2775cb766308b66d4638b111d2f06faa9562f92241491afabff",
 };
 
-/// A load of layer 1, by which the device has its next key: both regions lose their configuration keys.
+/// A load of layer 1 that gives the device its next key: both regions lose their configuration keys.
 pub const RENEWAL: Left = Left {
     identifier: "e4f1a113ee7ce457619d3d0d324c363a",
     seed: "9340c5a93a0446d41683fa018ee70553484f9ac0794cd0c20074f6d1e05dddd0",
@@ -172,7 +172,7 @@ pub const RENEWAL: Left = Left {
     signatures: "b47f6a96e6fb389433b667fff12420f36b6e4fb22e5daf595c32767d088a8e26",
 };
 
-/// A new key of region 3, which its fate has.
+/// A new key of region 3, which the region's fate holds.
 pub const NEW_KEY: Left = Left {
     identifier: "e4f1a113ee7ce457619d3d0d324c363a",
     seed: "9340c5a93a0446d41683fa018ee70553484f9ac0794cd0c20074f6d1e05dddd0",
@@ -229,8 +229,8 @@ pub const NEW_KEY: Left = Left {
     signatures: "1b0a864b5ef909ccf550dc8f7c8bbb37dc01f477479902374994ed488be401e9",
 };
 
-/// A surrender of layer 2 at the last index of the device key: the next device key and the change are not signed, and both
-/// regions are emptied.
+/// A surrender of layer 2 at the last index of the device key: the next device key and the change are not signed, and
+/// both regions are emptied.
 pub const SUCCESSION: Left = Left {
     identifier: "e4f1a113ee7ce457619d3d0d324c363a",
     seed: "9340c5a93a0446d41683fa018ee70553484f9ac0794cd0c20074f6d1e05dddd0",
@@ -393,8 +393,8 @@ pub const BORN: Left = Left {
     signatures: "6375e911546068bfae125746efe9903ae70edaddccb0e0838381759e3d99381e",
 };
 
-/// What stands in the flash of a device for another root: a header in the second header area, and one more entry of the
-/// log, which it counts, in the sector after those of the device. Bytes are in hexadecimal.
+/// What the flash of a device holds for another root: a header in the second header area, and one more entry of the
+/// log, which that header counts, in the sector after those of the device. Bytes are in hexadecimal.
 pub struct Next {
     pub header: &'static str,
     pub entry: &'static str,
@@ -418,7 +418,7 @@ fn key_of(left: &Left) -> Result<KeySeed, Fail> {
     })
 }
 
-/// The right by which the entry of this number is signed, from 1.
+/// The right to sign the entry of this number, from 1.
 fn right_at(number: usize) -> Result<OneUse, Fail> {
     let before = u32::try_from(number)?.saturating_sub(1);
     if before > 32 {
@@ -468,7 +468,7 @@ fn put(image: &mut Vec<u8>, first: &[u8], second: &[u8], end: usize, fill: u8) -
     Ok(())
 }
 
-/// Puts a record into the next two areas, of which the first is in force, up to this end.
+/// Puts a slot's two areas, up to this end: the first, with the record, is current.
 fn put_areas(alloc: Global, image: &mut Vec<u8>, record: &str, end: usize) -> Result<(), Fail> {
     let record = hex::decode(alloc, record)?;
     let length = u16::try_from(record.len())?;
@@ -499,7 +499,7 @@ fn put_codes(alloc: Global, image: &mut Vec<u8>, left: &Left) -> Result<(), Fail
     Ok(())
 }
 
-/// Puts the signed entries into the sectors of the log, and one more after them.
+/// Puts the signed entries into the sectors of the log, and, if there is a next root, its entry after them.
 fn put_log<L: Ledger>(
     alloc: Global,
     image: &mut Vec<u8>,
@@ -534,7 +534,7 @@ fn put_flash<L: Ledger>(
     put(image, &[], &[], FLASH_LENGTH, 0xff)
 }
 
-/// The image, with the first of two areas in force everywhere.
+/// The image, in which the first of each two areas is current.
 fn image_of<L: Ledger>(
     alloc: Global,
     left: &Left,
@@ -566,7 +566,7 @@ fn device_counted<L: Ledger>(
     read(alloc, image, &mut hashes)
 }
 
-/// The device that an order left; its flash may hold what another root names besides.
+/// The device that an order left. Its flash may also hold what another root names.
 pub fn device_of(alloc: Global, left: &Left, next: Option<&Next>) -> Result<Box<Device>, Fail>
     ensures { IfOk result (λ device. IsLiveImage device.value.image.items) }
 {

@@ -1,4 +1,4 @@
-//! Calls that replace a region, and a boot, stopped at each of their writes, and so the boots that follow each.
+//! Calls that replace a region, and a boot, stopped at each of their writes, as are the boots that follow.
 
 ghost use Rattle.std.specs.Prelude.{◌≤◌, IfOk};
 ghost use Rattle.mb_test_cuts.specs.Staged.{IsLiveImage};
@@ -17,12 +17,12 @@ const TWO: &str =
     "01010370696e043132333400000004010000000101bb85e69f768b454548412a965c3436199a21ceb74d969db602db1cb46e\
     4a5eefe94cd49a7cafd9830ae5d03bf0a7862d00";
 
-/// Region 3 of it: key 2.
+/// Region 3 of the device of `TWO`: key 2.
 const THREE: &str =
     "01000100000002002b98f80d867125f7622b17092bb5aec0baef31f723051f380f1ce09412fd2358fc74211fc5054269b941\
     06e0d3ee50f200";
 
-/// Each after one more use of its key, in version 2.
+/// Regions 2 and 3 after one more use of the key, in version 2.
 const TWO_USED: &str =
     "02010370696e043132333400000004010000000101bb85e69f768b454548412a965c3436199a21ceb74d969db602db1c\
     b46e4a5eefe94cd49a7cafd9830ae5d03bf0a7862d01";
@@ -39,7 +39,7 @@ const TWO_PUT: &str =
 const THREE_PUT: &str = "02010370696e043132333400000004010000000\
     2002b98f80d867125f7622b17092bb5aec0baef31f723051f380f1ce09412fd2358fc74211fc5054269b94106e0d3ee50f200";
 
-/// A call, the records of both regions after it, its writes, and with what the bytes of a torn one are filled.
+/// A call, the records of both regions after it, the number of its writes, and the bytes that fill a torn one.
 struct Row {
     call: Call,
     two: &'static str,
@@ -77,8 +77,8 @@ fn wanted_of(alloc: Global, row: &Row) -> Result<Wanted, Fail>
     })
 }
 
-/// Whether what a call left has the state before it, or the same but for these regions; and, where power did not fail, the
-/// latter, and its memory is clean.
+/// Whether a call left the state before it, or that state with the wanted regions. If power did not fail, it left the
+/// latter and a clean memory.
 fn is_wanted(after: &After, wanted: &Wanted) -> bool {
     let state = &after.device.state;
     let like = &wanted.before.state;
@@ -89,8 +89,8 @@ fn is_wanted(after: &After, wanted: &Wanted) -> bool {
     }
 }
 
-/// Power fails in the write of this number of a call: the device is as wanted, and it comes up with the state it has,
-/// wherever power fails then. Whether power failed in the call.
+/// Power fails in write `count` of a call: the device is as wanted, and keeps its state wherever power fails in the
+/// boots that follow. Answers whether power failed in the call.
 fn fails_in(
     rt: &impl Abort,
     alloc: Global,
@@ -109,7 +109,7 @@ fn fails_in(
     Ok(after.stopped)
 }
 
-/// The device is as wanted wherever power fails in a call, and after it. How many writes the call makes.
+/// The device is as wanted wherever power fails in a call, and after it. Answers how many writes the call makes.
 fn ends_at(
     rt: &impl Abort,
     alloc: Global,
@@ -159,7 +159,7 @@ const COMES_UP: Row = Row {
     fills: &[0xff],
 };
 
-/// Key 1 of region 2 is bound. The last of the three writes wipes the region before, here and in what follows.
+/// Key 1 of region 2 is bound. The last of the three writes wipes the region before, as in each row that replaces one.
 const BINDS_TWO: Row = Row {
     call: Call::BindTwo(1),
     two: TWO_USED,

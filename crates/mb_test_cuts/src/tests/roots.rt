@@ -1,4 +1,4 @@
-//! A root that is put in force, where the selector held zero.
+//! A root that is made current, with a selector that held zero.
 
 ghost use Rattle.std.specs.Prelude.{◌≤◌};
 ghost use Rattle.mb_test_cuts.specs.Staged.{IsLiveImage};
@@ -12,7 +12,8 @@ use std::alloc::Global;
 use std::process::Abort;
 use std::test::Fail;
 
-/// The header, in the second header area, of that new device once layer 2 has an owner, and the entry of that change.
+/// The header, in the second header area, of the device of `BORN` once layer 2 has an owner, and the entry of that
+/// change.
 const NEXT: Next = Next {
     header: "4d424831010000000f00000000000000000000000200",
     entry: "01000000010000000101020000070000000005000000035fbf6e19e56a012089bf1ee10e30e07dc43caf0ed4b61d72dc\
@@ -21,7 +22,7 @@ const NEXT: Next = Next {
         367036f41aff327c57e5a17d8e9f94ae177816f284000100",
 };
 
-/// The root of that device, which names the second header area.
+/// The root of the device of `NEXT`, which names the second header area.
 const NEXT_ROOT: &str =
     "01010144b1defcf7561087015f8d830d65b1e4f1a113ee7ce457619d3d0d324c363a9340c5a93a0446d41683fa018ee7055348\
     4f9ac0794cd0c20074f6d1e05dddd00100";
@@ -31,8 +32,8 @@ fn is_next(state: &State) -> bool {
     state.log.as_slice().len() == 2
 }
 
-/// Power fails in the write of this number of a root: this one of the two is in force then, and the device comes up with
-/// it.
+/// Power fails in write `count` of the call that makes the next root current. The next root is then current exactly if
+/// `is_put`, and the device keeps that state when it comes up.
 fn expect_torn(
     rt: &impl Abort,
     alloc: Global,
@@ -52,7 +53,7 @@ fn expect_torn(
     Ok(())
 }
 
-/// Which of the two roots is in force after that, at which fill.
+/// Checks which root is current after a power loss in write `count`, for each fill.
 fn expect(rt: &impl Abort, alloc: Global, count: u32, rows: &[(u8, bool)]) -> Result<(), Fail>
     requires least { 1 ≤ count }
     requires most { count ≤ 100000 }
@@ -64,11 +65,11 @@ fn expect(rt: &impl Abort, alloc: Global, count: u32, rows: &[(u8, bool)]) -> Re
     Ok(())
 }
 
-/// With what the bytes of a torn root are filled: it is never in force.
+/// Fills of a torn root, which is never current.
 const ROOT: &[(u8, bool)] = &[(0, false), (0xff, false), (0x7e, false), (1, false)];
 
-/// With what a torn selector is filled. It counts by its parity: 0 and 0x7e leave the root before in force, 0xff and 1 put
-/// the next one there.
+/// Fills of a torn selector, which counts by its parity: 0 and 0x7e leave the old root current, 0xff and 1 make the
+/// next one current.
 const SELECTOR: &[(u8, bool)] = &[(0, false), (0xff, true), (0x7e, false), (1, true)];
 
 #[test]

@@ -1,4 +1,4 @@
-//! For which state an image stands, whether it is that of another, and whether the image is clean.
+//! The state that an image means, whether it is that of another, and whether the image is clean.
 
 ghost use Rattle.std.specs.Prelude.{◌≡◌, ◌≤◌, length, IfOk};
 ghost use Rattle.mb_test_cuts.specs.Staged.{IsLiveImage};
@@ -11,7 +11,7 @@ use std::alloc::Global;
 use std::sync::ledger::Ledger;
 use std::test::Fail;
 
-/// An image, and the state for which it stands.
+/// An image, and the state that it means.
 #[derive(Drop)]
 pub struct Device {
     pub image: Vec<u8>,
@@ -94,7 +94,7 @@ fn is_blank(bytes: &[u8]) -> bool {
     bytes.iter().all(|byte| *byte == 0)
 }
 
-/// The two areas of a slot: that in force by the selector, and the other.
+/// The two areas of a slot: the one that the selector makes current, and the other.
 fn areas_of(bbram: &[u8], slot: usize) -> (&[u8], &[u8])
     requires sized { length bbram.now ≡ 28672 }
     requires first { 1 ≤ slot }
@@ -110,8 +110,8 @@ fn areas_of(bbram: &[u8], slot: usize) -> (&[u8], &[u8])
     }
 }
 
-/// Whether nothing is pending in an image of a live device, and all is zero in its battery-backed memory but the life byte,
-/// the selectors and the areas in force.
+/// Whether an image of a live device has no pending work, and its battery-backed memory is zero but for the life byte,
+/// the selectors and the current areas.
 pub fn is_clean(image: &[u8]) -> bool
     requires { length image.now ≡ 1077248 }
 {

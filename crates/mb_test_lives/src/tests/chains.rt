@@ -1,5 +1,5 @@
-//! The chains of devices: handed out, verified, cut and changed, attached to and audited, by values of an independent
-//! program. The device was made with entries of version 1 or of version 2.
+//! The chains of devices: handed out, verified, shortened and changed, attached to and audited, against values of an
+//! independent program. The device was made with entries of version 1 or of version 2.
 
 use super::births::{owned, owned_device_goes_through};
 use super::{
@@ -29,7 +29,7 @@ const A_STATEMENT_IS_ATTACHED: &[Step] = &[
     Step::IsMissing("again"),
 ];
 
-/// A host cuts and changes a chain.
+/// A host shortens and changes a chain.
 const A_CHAIN_IS_CHANGED: &[Step] = &[
     Step::Writes(
         "shorter",
@@ -88,7 +88,7 @@ const A_CHAIN_IS_CHANGED: &[Step] = &[
     Step::IsMissing("again"),
 ];
 
-/// What is refused writes nothing, and says the first thing that is wrong.
+/// Refused commands write nothing, and report the first thing that is wrong.
 const INPUTS_ARE_REFUSED: &[Step] = &[
     Step::Ends("verify public0 chain", 2, "words\n"),
     Step::Ends("verify public0 chain 01", 2, "words\n"),
@@ -115,7 +115,7 @@ const INPUTS_ARE_REFUSED: &[Step] = &[
     Step::IsMissing("out"),
 ];
 
-/// Another device of the same maker has a key of that number too, which was born in another configuration.
+/// Another device of the same maker also has a key 1, which was born in another configuration.
 const ANOTHER_DEVICE: &[Step] = &[
     Step::Writes("noise48", &[Part::Slice("noise", 0, 48)]),
     Step::Ends(
@@ -153,7 +153,7 @@ const ANOTHER_DEVICE: &[Step] = &[
     Step::Ends("verify public0 mixed 1", 7, "refused 24\n"),
 ];
 
-/// A key of a configuration lists that one alone, and ends with it.
+/// A configuration key lists its one configuration alone, and ends with it.
 const A_KEY_OF_A_CONFIGURATION: &[Step] = &[
     Step::Ends("sign officer2 draft9 order9", 0, "index 3\n"),
     Step::Ends("sign officer2 draft8 order8", 0, "index 4\n"),
@@ -194,8 +194,8 @@ const A_KEY_OF_A_CONFIGURATION: &[Step] = &[
     Step::Ends("audit image public0 chain 1", 0, "agrees\n"),
 ];
 
-/// The case of a device is opened after an order counts and before its entry is signed. The device tells nothing any
-/// more, whatever the chain is.
+/// The case of a device is opened after an order is committed and before its entry is signed. The device gives no
+/// answers any more, whatever the chain is.
 const THE_CASE_IS_OPENED: &[Step] = &[
     Step::Ends("chain fresh born", 0, "entries 1\n"),
     Step::Ends("verify public0 born 1", 7, "refused 24\n"),
@@ -221,12 +221,12 @@ const THE_CASE_IS_OPENED: &[Step] = &[
     Step::IsMissing("out"),
 ];
 
-/// Bytes of an entry of a chain whose last bit is turned, and what is refused then.
+/// Offsets in an entry of a chain, and what is refused when the last bit of the byte at one of them is flipped.
 struct Turned {
     entry: u32,
-    /// At these offsets the form stands, and the entry is no longer what was signed.
+    /// At these offsets the form holds, and the entry is no longer what was signed.
     unsigned: &'static [usize],
-    /// At the first of each two offsets the form fails, at the second.
+    /// Pairs of offsets: a flip at the first makes the form fail at the second.
     formless: &'static [(usize, u32)],
 }
 
@@ -298,7 +298,7 @@ const TURNED: &[Turned] = &[
     },
 ];
 
-/// Each entry of the chain is turned in each of its fields.
+/// A bit of each field of each entry of the chain is flipped in turn.
 fn entries_are_turned(rt: &impl AllocGlobal, host: &mut MemoryHost) -> Result<(), Fail> {
     for turned in TURNED {
         entry_is_turned(rt, host, turned)?;
@@ -306,7 +306,7 @@ fn entries_are_turned(rt: &impl AllocGlobal, host: &mut MemoryHost) -> Result<()
     Ok(())
 }
 
-/// An entry of the chain is turned in each of its fields.
+/// A bit of each field of an entry of the chain is flipped in turn.
 fn entry_is_turned(
     rt: &impl AllocGlobal,
     host: &mut MemoryHost,
@@ -318,7 +318,7 @@ fn entry_is_turned(
     has_no_form(rt, host, turned.formless)
 }
 
-/// The form fails at the second of each two offsets where the byte at the first is turned.
+/// A flip at the first offset of each pair makes the form fail at the second.
 fn has_no_form(
     rt: &impl AllocGlobal,
     host: &mut MemoryHost,
@@ -330,7 +330,7 @@ fn has_no_form(
     Ok(())
 }
 
-/// The chain whose byte at this offset has its last bit turned is refused with this number, which tells of this place.
+/// The chain with the last bit of the byte at this offset flipped is refused with `number` and `told`.
 fn is_refused(
     rt: &impl AllocGlobal,
     host: &mut MemoryHost,
@@ -343,7 +343,7 @@ fn is_refused(
     ends(rt, host, "verify public0 turned 1", 7, &line)
 }
 
-/// Writes the chain with the last bit of the byte at this offset turned.
+/// Writes the chain with the last bit of the byte at this offset flipped.
 fn turn(alloc: Global, host: &mut MemoryHost, at: usize) -> Result<(), Fail> {
     let mut bytes = Vec::from_slice(alloc, file_of(host, "chain")?)?;
     let byte = bytes.get_mut(at).ok_or("no such byte")?;
@@ -351,7 +351,7 @@ fn turn(alloc: Global, host: &mut MemoryHost, at: usize) -> Result<(), Fail> {
     store(host, "turned", &bytes)
 }
 
-/// What is done before the chain is turned.
+/// What is done before bits of the chain are flipped.
 const BEFORE_TURNING: &[&[Step]] = &[
     A_NEW_DEVICE,
     A_WHOLE_LIFE,
@@ -365,10 +365,10 @@ const BEFORE_TURNING: &[&[Step]] = &[
 /// The header of a device whose birth has version 1: the code of layer 1 in slot 1, and one signed entry.
 const OLD_HEADER: &str = "4d424831010000000900000000000000000000000100";
 
-/// The code of its layer 1.
+/// The code of layer 1 of the old device.
 const OLD_CODE: &str = "6c61796572206f6e65";
 
-/// What the log of that device begins with: its birth after its length, and the signature of the birth.
+/// The beginning of the log of the old device: its birth after its length, and the signature of the birth.
 const OLD_BIRTH: &str =
     "00ab00c10b471ceff881272aa5ed819fd9a0e00000000500000003508e3ea9591a42a7ac26572be34701ad7ccc5eecd66b18\
     d58bbcd5d20d341c905e3841eb7bb25b02750e4fb00b8bc163070000000005000000032c1e471084d7886d5f0740149d4a4d\
@@ -422,12 +422,12 @@ const OLD_BIRTH: &str =
     f93854982abc50a408b2e20ba52817e53c44bc3d951fcdcc85ba450431e39cc20c1b4e068000ee6b3ffc5e7ee6b955f361d0\
     8cb667be0eab3d129dce71b553206966a5dcfe8e23";
 
-/// The root record of that device with its length.
+/// The root record of the old device with its length.
 const OLD_ROOT: &str =
     "00440100c10b471ceff881272aa5ed819fd9a0e0508e3ea9591a42a7ac26572be34701ad271f729e829f128a0ae659f3fccf\
     28888d9a2123be7cc22c3683992563c6e1450000";
 
-/// The image of that device.
+/// The image of the old device.
 const AN_OLD_DEVICE: &[Step] = &[
     Step::Gives(Given {
         name: "image",
@@ -445,7 +445,7 @@ const AN_OLD_DEVICE: &[Step] = &[
     ),
 ];
 
-/// The chain of such a life of that device: a birth of version 1, and changes of version 2.
+/// The chain of `A_WHOLE_LIFE` of the old device: a birth of version 1, and changes of version 2.
 const AN_OLD_CHAIN: &[Step] = &[Step::HasHash(
     "chain",
     "c0bbbbd027969361b2fdb7586456813b11866e17db7b5e1f93e867a79a8e7db9",

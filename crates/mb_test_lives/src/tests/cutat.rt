@@ -1,13 +1,13 @@
-//! What a power loss in the last event of a script leaves: the answers of `cutat`, and its words and inputs. And each
-//! kind of event that writes, cut at each of its writes and at the first writes of the boot that follows, by the replies
-//! that the rules of a device give.
+//! What a power loss in the last event of a script leaves: the answers of `cutat`, and its words and inputs. Also each
+//! kind of event that writes, cut at each of its writes and at the first writes of the boot that follows, against the
+//! replies that the rules of a device give.
 
 use super::births::{new_device_goes_through, owned_device_goes_through};
 use super::{A_NEW_DEVICE, Content, Given, Part, Play, Step, TwoCuts, perform};
 use mb_model::IMAGE_LENGTH;
 use std::test::Fail;
 
-/// A device that is dead, images that are none, and scripts.
+/// A dead device, files that are no image, and scripts.
 const FILES: &[Given] = &[
     Given {
         name: "image",
@@ -131,7 +131,7 @@ const WORDS_AND_INPUTS: &[Play] = &[
     },
 ];
 
-/// How the device of the rows stands.
+/// The status of the device of the rows, before and after its first orders.
 const NO_OWNERS: &str = "status c10b471ceff881272aa5ed819fd9a0e0 0 1 runnable unowned unowned\n";
 
 const OWNED: &str = "status c10b471ceff881272aa5ed819fd9a0e0 1 2 runnable unreliable unowned\n";
@@ -255,7 +255,8 @@ const SECRETS_ARE_PUT: &[Step] = &[
     Step::Writes("secret", &[Part::File("image")]),
 ];
 
-/// What asks that device, and its answers: before an order, and after a load of layer 1 to which the layers above agree.
+/// Lines that show the device's state, and the replies: before an order, and after a load of layer 1 to which the
+/// layers above agree.
 const ASKS: &str = "status\nget 2 pin\nget 3 token\nsign 3 1 -\n";
 
 const BEFORE: &str = "status c10b471ceff881272aa5ed819fd9a0e0 4 6 runnable runnable runnable\n\

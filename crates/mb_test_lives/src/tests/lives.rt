@@ -1,4 +1,4 @@
-//! Lives of a device whose three layers have owners, by the replies that its rules give.
+//! Lives of a device whose three layers have owners, against the replies that its rules give.
 
 use super::births::owned_device_goes_through;
 use super::{Cut, Part, Step};
@@ -29,7 +29,7 @@ const A_LIFE: &[Step] = &[
     Step::Writes("loaded", &[Part::File("image")]),
 ];
 
-/// Layer 2 says nothing to a new layer 1: its region is emptied, and layer 3, which agrees, keeps what it has.
+/// Layer 2 does not agree to a new layer 1: its region is emptied, and layer 3, which agrees, keeps what it has.
 const LAYER_THREE_AGREES: &[Step] = &[
     Step::Ends("countersign alone 3 load alone6", 0, "index 1\n"),
     Step::Ends("sign officer1 draft12 rescue", 0, "index 3\n"),
@@ -117,7 +117,7 @@ const A_LIFE_WITHOUT_KEYS: &[Step] = &[
     ),
 ];
 
-/// Power is lost at each write of a load of layer 1 with which layer 3 agrees: nothing of it is done, or all, and what
+/// Power is lost at each write of a load of layer 1 to which layer 3 agrees: nothing of it is done, or all, and what
 /// layer 3 keeps is there when layer 2 has code again.
 const A_LOAD_IS_CUT: &[Step] = &[
     Step::Ends("countersign alone 3 load alone6", 0, "index 1\n"),
@@ -248,7 +248,7 @@ const INDICES_ARE_USED_ONCE: &[Step] = &[
     }),
 ];
 
-/// A key of a configuration signs until its own layer is loaded.
+/// A configuration key signs until its own layer is loaded.
 const A_KEY_ENDS: &[Step] = &[
     Step::Ends("sign officer2 draft9 order9", 0, "index 3\n"),
     Step::Ends("sign officer2 draft8 order8", 0, "index 4\n"),

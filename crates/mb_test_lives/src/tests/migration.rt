@@ -1,5 +1,5 @@
-//! Images whose flash has the form before segments, and their migration. The example `examples/migration` migrates larger
-//! ones, which another program made.
+//! Images whose flash has the form before segments, and their migration. The example `examples/migration` migrates
+//! larger ones, which another program made.
 
 use super::births::new_device_goes_through;
 use super::{Content, Given, Part, Play, Step, perform};
@@ -25,8 +25,8 @@ const DEAD_IS_MIGRATED: &[Step] = &[Step::Ends(
     "migrated 86ca89e7d050d826da64c6da7ac45d8fad0659c45013b045fa26ade14df67d89\n",
 )];
 
-/// An image of neither form is told by its fault in the present form, wrong words and files by their lines, and nothing
-/// is written.
+/// An image of neither form is refused for its fault in the present form, wrong words and files with their lines, and
+/// nothing is written.
 const NEITHER_IS_REFUSED: &[Step] = &[
     Step::Ends("migrate torn out", 3, "input image root\n"),
     Step::Ends("migrate missing out", 4, "read failed image\n"),
@@ -38,7 +38,7 @@ const NEITHER_IS_REFUSED: &[Step] = &[
 /// Where the first sector of the log begins in the flash.
 const LOG: usize = 64 * SECTOR_LENGTH;
 
-/// Where the entry of a birth ends there, after the two bytes of its length.
+/// Where the entry of a birth ends in the flash, after the two bytes of its length.
 const BIRTH_ENDS: usize = LOG + 2 + 174;
 
 /// Where the signature of the birth ends.
@@ -75,7 +75,7 @@ const AN_OLD_IMAGE: &[Step] = &[
     ),
 ];
 
-/// What is not quite such an image is refused, and nothing is written.
+/// Images that are almost of the old form are refused, and nothing is written.
 const BROKEN_OLD_IMAGES_ARE_REFUSED: &[Step] = &[
     Step::Writes(
         "cut",

@@ -1,11 +1,11 @@
-//! The first orders of a device, and power losses while it obeys them, by the replies that its rules give.
+//! The first orders of a device, and power losses while it obeys them, against the replies that its rules give.
 
 use super::births::new_device_goes_through;
 use super::{Part, Step};
 use mb_model::BBRAM_LENGTH;
 use std::test::Fail;
 
-/// What happens before an order is not drawn, and an order is done once.
+/// Refused commands change nothing, and an order is done once.
 const THE_FIRST_ORDER: &[Step] = &[
     Step::Writes("image", &[Part::File("fresh")]),
     Step::Ends("run image nothing nothing", 0, ""),
@@ -94,14 +94,14 @@ const EMERGENCY_COMES_FIRST: &[Step] = &[
     ),
 ];
 
-/// What is printed where the first order does not count after a power loss, and where it does.
+/// What is printed if the first order does not count after a power loss, and if it does.
 const OLD: &str =
     "booted\narmed\nstopped\nbooted\nstatus c10b471ceff881272aa5ed819fd9a0e0 0 1 runnable unowned unowned\n";
 
 const NEW: &str =
     "booted\narmed\nstopped\nbooted\nstatus c10b471ceff881272aa5ed819fd9a0e0 1 2 runnable unreliable unowned\n";
 
-/// Power is lost before an order counts, and then the order is given again.
+/// Power is lost before an order is committed, and then the order is given again.
 const POWER_IS_LOST_EARLY: &[Step] = &[
     Step::Writes("image", &[Part::File("owned")]),
     Step::Serves(
@@ -117,7 +117,7 @@ const POWER_IS_LOST_EARLY: &[Step] = &[
     ),
 ];
 
-/// Power is lost in the write by which an order counts: the byte that is left decides.
+/// Power is lost in the write that commits an order: the byte that is left decides.
 const A_SELECTOR_IS_TORN: &[Step] = &[
     Step::Writes("image", &[Part::File("fresh")]),
     Step::Serves(
@@ -151,7 +151,7 @@ const A_SELECTOR_IS_TORN: &[Step] = &[
     ),
 ];
 
-/// Power is lost after an order counts, and again while the device settles.
+/// Power is lost after an order is committed, and again while the device settles.
 const POWER_IS_LOST_LATE: &[Step] = &[
     Step::Writes("image", &[Part::File("fresh")]),
     Step::Serves(

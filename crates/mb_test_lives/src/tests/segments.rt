@@ -62,9 +62,9 @@ const A_LIFE_BEGINS: &[Step] = &[Step::Serves(
     booted\ndone 5 7\noff\n",
 )];
 
-/// Power is lost while the entry of a load of layer 3 is programmed, the tenth write: two of the code come first, two of
-/// the header, two of the root, by which the load is committed, two of region 3, and the erasure of the log's sector.
-/// The sector holds no entry then, the header does not count it, and the device comes up and writes it.
+/// Power is lost while the entry of a load of layer 3 is programmed, the tenth write: two of the code come first, two
+/// of the header, two of the root, which commit the load, two of region 3, and the erasure of the log's sector. The
+/// sector holds no entry then, the header does not count it, and the device comes up and writes it.
 const A_LOG_SECTOR_IS_CUT: &[Step] = &[
     Step::Serves(
         &[Part::Text("boot\ncut 10 fill ff\n"), Part::File("order7")],

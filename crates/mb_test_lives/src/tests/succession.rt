@@ -1,4 +1,4 @@
-//! A device whose keys are spent and whose log is filled, by the replies that its rules give.
+//! A device whose keys are spent and whose log is filled, against the replies that its rules give.
 
 use super::births::new_device_goes_through;
 use super::{Part, Step};

@@ -1,4 +1,4 @@
-//! A device whose layer 3 trusts all loads of layer 1 and none of layer 2, by values of an independent program.
+//! A device whose layer 3 trusts all loads of layer 1 and none of layer 2, against values of an independent program.
 
 use super::births::new_device_goes_through;
 use super::{Content, Given, Part, Step};

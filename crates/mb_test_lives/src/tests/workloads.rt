@@ -7,7 +7,7 @@ use std::test::Fail;
 /// The hash of the image of each workload of the number 1, before it is served.
 const NEW: &str = "ac2b99f28ab0832fde01ca7c2ff08e95dccc8209db93bd03fd75d53ffe0f2394";
 
-/// A workload of three rounds, and that its image then comes to what its summary told.
+/// A workload of three rounds: its summary, and the hashes of its files.
 const SMALL: Play = Play {
     failing: &[],
     steps: &[
@@ -29,7 +29,8 @@ const SMALL: Play = Play {
     ],
 };
 
-/// A workload of the most rounds, made twice. The image of each comes to what both summaries told.
+/// A workload of the most rounds, made twice with the same image. When it is served, the image is the one that both
+/// summaries name.
 const LARGE: Play = Play {
     failing: &[],
     steps: &[
@@ -52,7 +53,7 @@ const LARGE: Play = Play {
 
 const LARGE_SUMMARY: &str = "events 247\ndone 29\nsigned 24\nrefused 0\nlength 30\nimage *\n";
 
-/// Words that are no command: too many rounds or none, numbers with leading zeros or of too many bits, and an empty name.
+/// Words that are no command: no rounds or too many, numbers with leading zeros or too many bits, and an empty name.
 const NO_WORDS: Play = Play {
     failing: &[],
     steps: &[

@@ -4,7 +4,7 @@ use mb_authority::{admits, after, condition, kept_regions, layer_of, may_cosign}
 use mb_model::{Chains, ChangeKind, CodeName, Layer, Layers, Pair, PublicKey, Tree, Trust, Trusts};
 use std::process::Abort;
 
-/// A layer with an owner, which trusts so.
+/// A layer with an owner, whose two trusts are `trust`.
 fn owned(trust: Trust) -> Layer {
     Layer {
         owner: Some(PublicKey {
@@ -28,7 +28,7 @@ const THREE: Pair = Pair {
     three: true,
 };
 
-/// Layer 2 trusts never, and layer 3 where its owner countersigned.
+/// Three layers with owners: layer 2 trusts never, and layer 3 if its owner countersigned.
 fn all_owned() -> Layers {
     Layers {
         one: owned(Trust::Never),
@@ -37,7 +37,7 @@ fn all_owned() -> Layers {
     }
 }
 
-/// A change, or a new key where there is none, its layer, and whether these layers admit it.
+/// A change, or `None` for a new key, its layer, and whether the layers of `all_owned` admit it.
 const ORDERS: &[(Option<ChangeKind>, u8, bool)] = &[
     (Some(ChangeKind::Establish), 2, false),
     (Some(ChangeKind::Surrender), 3, true),
@@ -48,7 +48,7 @@ const ORDERS: &[(Option<ChangeKind>, u8, bool)] = &[
     (None, 4, false),
 ];
 
-/// The layers admit this change or new key as expected.
+/// The layers of `all_owned` admit this change or new key as expected.
 fn is_admitted(rt: &impl Abort, kind: Option<ChangeKind>, layer: u8, expected: bool) {
     assert!(rt; condition(&all_owned(), kind, layer) == expected);
 }
@@ -102,7 +102,7 @@ const FIRST_COUNTERSIGNED: Trusts = Trusts {
     two: Trust::Never,
 };
 
-/// The trusts of layer 3, a load beneath it and its layer, and whether layer 3 admits it where its owner countersigned.
+/// The trusts of layer 3, a load beneath it and its layer, and whether layer 3 admits it if its owner countersigned.
 const LOADS: &[(Trusts, ChangeKind, u8, bool)] = &[
     (FIRST_ALONE, ChangeKind::Load, 1, true),
     (FIRST_ALONE, ChangeKind::Load, 2, false),

@@ -15,7 +15,7 @@ use std::alloc::Global;
 use std::process::Abort;
 use std::test::Fail;
 
-// So many of the same byte.
+// `count` bytes, all of them `byte`.
 fn filled(alloc: Global, byte: u8, count: usize) -> Result<Vec<u8>, NoMemory>
     ensures { IfOk result (λ bytes. (length bytes.items ≡ count) × All (λ item. item ≡ byte) bytes.items) }
 {
@@ -37,8 +37,8 @@ fn loaded_board(alloc: Global, image: &[u8], event: Event) -> Result<SimBoard, N
     Ok(board)
 }
 
-// A board with zeros alone, on which power will fail in the third write call. So many bytes of that call are kept, and
-// the others are 0xAA and 0xBB in turn.
+// A board with only zeros, on which power will fail in the third write call. The first `keep` bytes of that call are
+// kept, and the others are 0xAA and 0xBB in turn.
 fn armed_board(alloc: Global, keep: u32) -> Result<SimBoard, NoMemory>
     requires { keep ≤ 1048576 }
     ensures { IfOk result (λ board. (board.power ≡ false) × IsLoaded board.memory) }
@@ -74,7 +74,7 @@ fn is_erased(board: &SimBoard) -> bool
     bytes == [0xFF; 5]
 }
 
-// A write call of this kind; none where flash would be programmed that is not erased.
+// A write call of this kind; none if it would program flash that is not erased.
 fn call(board: &mut SimBoard, kind: Kind) -> Result<(), Stopped>
     requires on { board.old.power ≡ true }
     requires level { board.old.level ≡ 1 }
@@ -178,8 +178,8 @@ fn third_call_is_stopped(rt: HostRuntime) -> Result<(), Fail> {
     Ok(())
 }
 
-// Copies the image, if the board hands out that it was opened: the last byte of the flash, and the first and the last
-// byte after it.
+// Copies the image if the board hands out that its case was opened. Answers the last byte of the flash, and the first
+// and the last byte of the battery-backed memory.
 fn copy_tampered(board: &mut SimBoard, out: &mut [u8]) -> Option<[u8; 3]>
     requires out { board.old.ledger.out ≡ None }
     requires loaded { IsLoaded board.old.memory }
@@ -207,8 +207,8 @@ fn tampering_clears_the_bbram(rt: HostRuntime) -> Result<(), Fail> {
     Ok(())
 }
 
-// Answers that power is off, if that is handed out, on a board whose device is dead. That is the one answer, and no
-// event is left.
+// Takes an event and answers that power is off, on a board whose device is dead. Whether that is the only answer, and
+// no event is left.
 fn answer_off(board: &mut SimBoard) -> bool
     requires off { board.old.power ≡ false }
     requires loaded { IsLoaded board.old.memory }

@@ -1,5 +1,5 @@
-//! Chains of one entry and reports, by values of another program. Where there is memory, no call may answer that there
-//! is none, which the clauses leave open.
+//! Chains of one entry, and reports, against values of another program. If there is memory, no call may answer that
+//! there is none; the clauses leave this open.
 
 ghost use Rattle.std.specs.Prelude.{◌≤◌, vec_len, IfOk};
 
@@ -13,7 +13,7 @@ use std::alloc::Global;
 use std::process::Abort;
 use std::test::Fail;
 
-/// What a chain of one entry begins with: its word, and the number of its entries.
+/// The beginning of a chain of one entry: its word, and the number of its entries.
 const HEAD: &str = "4d4243310001";
 
 /// A birth: a serial, a device key, and the layers of a new device.
@@ -23,7 +23,7 @@ const BIRTH: &str =
 1212121212121212121212121212121212121212121212121212121212121213131313131313131313131313131313131313\
 131313131313131313131313130000010200010001";
 
-/// The maker's signature of it, with index 0.
+/// The maker's signature of `BIRTH`, with index 0.
 const SIGNATURE: &str =
     "00000000000000032a7cc4e9963b818d32f8f9ba138b9a4ee445132dd828db97ddf226155783a296974dd8d896e4758623d1\
 8a0a056bb142279f2e8b2cfb8f76f69b7f5562e870966a1d17c558ed400897470386d80d421dae491fec5617cc682db8ce3a\
@@ -83,7 +83,7 @@ const OTHER: &str =
     "0000000500000003415f9f8fc3e618dd8524180f3db6a7c9a7881c4ccb3521694cbdd14fd42b0822\
 cdfb7c6f9fc531cab957f755e6a2d2bc";
 
-/// The chain with this byte in place of the one at `at`, or at its end where `at` is its length, 2,526.
+/// The chain with `byte` in place of the one at offset `at`, or appended if `at` is its length, 2,526.
 fn changed(alloc: Global, at: usize, byte: u8) -> Result<Vec<u8>, Fail>
     ensures { IfOk result (λ bytes. vec_len bytes ≤ 4000) }
 {
@@ -97,7 +97,7 @@ fn changed(alloc: Global, at: usize, byte: u8) -> Result<Vec<u8>, Fail>
     Ok(bytes)
 }
 
-/// The changed chain is not accepted under the maker's key, for this reason.
+/// The changed chain is refused under the key `maker`, for the reason `why`.
 fn is_refused(
     rt: &impl Abort,
     alloc: Global,
@@ -171,7 +171,7 @@ fn stated() -> Result<Layers, Fail> {
     })
 }
 
-/// The listing of a report on a key of layer 3 over these layers, which lives and has stated hello.
+/// The listing of a report on a key of layer 3 over the layers of `stated`. The key lives, and has stated hello.
 const STATED: &str = "key 1 epoch layer 3 alive\n\
 configuration 4\n\
 layer 1 a40bf9d678da59a9e050d292356cbcb44ba41a7e2df7a4cc8f77c8f3acf75b0f f191e625176e7514249870c60bc24622131b04927a418001d1969c9cecd260f1 1 reliable always\n\
@@ -179,7 +179,7 @@ layer 2 68cd35f6dc5234d9a7e9df889d48ec8302912dee6f7c9fe17efeffa7bf970b63 ba7816b
 layer 3 b3cee4b09ec5e77e7b1285231704c0e8fcdcd7b721946b5bac2437e157b6bae1 cb8379ac2098aa165029e3938a51da0bcecfc008fd6795f401178647f96c5b34 1 reliable countersigned\n\
 statement 68656c6c6f\n";
 
-/// The listing of that report over layers of which the third trusts all loads of layer 1 and none of layer 2.
+/// The listing of the report of `STATED`, with a layer 3 that trusts all loads of layer 1 and none of layer 2.
 const STATED_APART: &str = "key 1 epoch layer 3 alive\n\
 configuration 4\n\
 layer 1 a40bf9d678da59a9e050d292356cbcb44ba41a7e2df7a4cc8f77c8f3acf75b0f f191e625176e7514249870c60bc24622131b04927a418001d1969c9cecd260f1 1 reliable always\n\
@@ -187,7 +187,7 @@ layer 2 68cd35f6dc5234d9a7e9df889d48ec8302912dee6f7c9fe17efeffa7bf970b63 ba7816b
 layer 3 b3cee4b09ec5e77e7b1285231704c0e8fcdcd7b721946b5bac2437e157b6bae1 cb8379ac2098aa165029e3938a51da0bcecfc008fd6795f401178647f96c5b34 1 reliable always never\n\
 statement 68656c6c6f\n";
 
-/// The three layers, the third of which trusts all loads of layer 1 and none of layer 2.
+/// The layers of `stated`, with a layer 3 that trusts all loads of layer 1 and none of layer 2.
 fn stated_apart() -> Result<Layers, Fail> {
     let mut layers = stated()?;
     layers.three.trust = Trusts {
@@ -208,22 +208,23 @@ const BARE: Layer = Layer {
     },
 };
 
-/// Three such layers.
+/// Three layers with little to list.
 const ALL_BARE: Layers = Layers {
     one: BARE,
     two: BARE,
     three: BARE,
 };
 
-/// The listing of a report on a key of layer 2 over such layers, which has ended and stated the empty message.
+/// The listing of a report on a key of layer 2 over the layers `ALL_BARE`. The key has ended, and has stated the empty
+/// message.
 const ENDED: &str = "key 20 configuration layer 2 ended\n\
 configuration 3\n\
 layer 1 - - - unreliable never\n\
 layer 2 - - - unreliable never\n\
 statement -\n";
 
-/// The report on the key with this number, which lived in this configuration alone and stated this message, is listed
-/// so. An epoch key lives, and another has ended.
+/// The report on key `number` is listed as `listing`. The key lived in the configuration `life` alone and stated
+/// `message`. An epoch key lives, and another has ended.
 fn is_listed(
     rt: &impl Abort,
     alloc: Global,

@@ -87,7 +87,7 @@ fn apply(image: &mut Vec<u8>, change: Change) -> Result<(), Fail> {
     Ok(())
 }
 
-/// What an image stands for.
+/// What an image means.
 #[derive(Clone, Copy, PartialEq, Eq)]
 enum Answer {
     /// The state of the new device.
@@ -121,12 +121,12 @@ fn answer_counted<L: Ledger>(alloc: Global, image: &[u8], blank: Blank) -> Answe
     }
 }
 
-/// The image stands for this, on a count of its own.
+/// What the image means, with the hashes on a count of their own.
 fn stands_for(alloc: Global, image: &[u8]) -> Answer {
     answer_counted::<Brand>(alloc, image, Blank::new(1))
 }
 
-/// The image of a new device that is changed so stands for this.
+/// The image of a new device, changed by `change`, means what is expected.
 fn expect(rt: &impl Abort, alloc: Global, change: Change, expected: Answer) -> Result<(), Fail> {
     let mut image = new_device(alloc)?;
     apply(&mut image, change)?;
@@ -156,7 +156,7 @@ const IMAGES: &[(Change, Answer)] = &[
     // the second of two signed entries is missing, and the bytes of the birth begin like those of no entry
     (Change::Byte(20, 2), Answer::Fault(ImageEnd::Public)),
     (Change::Byte(LOG + 2, 9), Answer::Fault(ImageEnd::Public)),
-    // the bytes of the birth are one less than it has
+    // the length before the birth is one too small
     (Change::Byte(LOG + 1, 0xaa), Answer::Fault(ImageEnd::Public)),
     // what follows counts for nothing: the rest of a header area, of a slot and of a sector, and the second header area
     (Change::Byte(22, 0), Answer::New),

@@ -53,10 +53,10 @@ const APART: Trusts = Trusts {
     two: Trust::Never,
 };
 
-/// In what three such layers differ.
+/// What is changed in three layers of `layer`.
 #[derive(Clone, Copy)]
 enum But {
-    /// In nothing.
+    /// Nothing is changed.
     Nothing,
     /// Layer 1 is not reliable.
     OneUnreliable,
@@ -64,7 +64,7 @@ enum But {
     TwoUnreliable,
     /// Layer 3 has no owner.
     ThreeUnowned,
-    /// Layer 3 trusts where its owner countersigned.
+    /// Layer 3 trusts if its owner countersigned.
     ThreeCountersigned,
     /// Layer 3 trusts all loads of layer 1 and none of layer 2.
     ThreeApart,
@@ -87,8 +87,8 @@ fn layers_but(but: But) -> Result<Layers, Fail> {
     Ok(layers)
 }
 
-/// The figures of a device with these layers, so many entries, and so many indices of the device key used. Region 3 has
-/// all the keys that it can.
+/// The figures of a device with these layers, `length` entries, and `uses` indices of the device key used. Region 3 has
+/// as many keys as it can have.
 fn view(layers: Layers, length: u32, uses: u32) -> View
     ensures uses { result.uses ≡ uses }
     ensures number { result.number ≡ 3 }
@@ -177,8 +177,8 @@ fn judged(alloc: Global, view: &View, parts: [&str; 3]) -> Result<Result<Seen, J
     }
 }
 
-/// Orders: what each shows, in what the layers differ, how many entries there are and indices used, which are less than
-/// 32, the parts of the order, and what it comes to.
+/// Orders: what each shows, what is changed in the layers, the number of entries, the number of used indices (less than
+/// 32), the parts of the order, and what it comes to.
 const ORDERS: &[(&str, But, u32, u8, [&str; 3], Result<Seen, JudgeEnd>)] = &[
     (
         "a target comes first",

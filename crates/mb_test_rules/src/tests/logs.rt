@@ -1,4 +1,4 @@
-//! A log like one of a device's life, and keys that another program made.
+//! A log like that of a device, and keys that another program made.
 
 ghost use Rattle.std.specs.Prelude.{◌≡◌, ◌<◌};
 
@@ -24,7 +24,7 @@ const DRAW: [u8; 32] = [
     0x98, 0x5e, 0xca, 0xf0, 0x09, 0x5a, 0xc2, 0x80, 0xc4, 0x45, 0xbc, 0x05, 0xad, 0x58, 0xa2, 0x47,
 ];
 
-/// The device's keys 1 and 2, where both are made of the draw.
+/// The device's keys 1 and 2, each derived from the draw.
 const IDENTIFIER_ONE: [u8; 16] = [
     0x7c, 0x2b, 0x6a, 0xbb, 0xe0, 0xfd, 0x7a, 0xfc, 0x4b, 0x81, 0x82, 0xb6, 0x1f, 0xdc, 0xc6, 0xb0,
 ];
@@ -73,7 +73,7 @@ const KEY_TWO: PublicKey = PublicKey {
     ],
 };
 
-/// A public key that is told from others by one byte.
+/// A public key filled with this byte.
 fn key(byte: u8) -> PublicKey {
     PublicKey {
         tree: Tree::H5,
@@ -83,7 +83,8 @@ fn key(byte: u8) -> PublicKey {
     }
 }
 
-/// A layer of the owner with this byte, with code of this version, or none and then not reliable.
+/// A layer of the owner with this byte, with code of this version. Without a version, it has no code and is not
+/// reliable.
 fn layer(owner: u8, version: Option<u32>) -> Layer {
     Layer {
         owner: Some(key(owner)),
@@ -248,8 +249,8 @@ fn an_epoch_key_lives_on_once_it_is_made(rt: HostRuntime) -> Result<(), Fail> {
     lived(&rt, rt.alloc(), &entries, &[4, 5, 6])
 }
 
-/// A configuration key of layer 2 outlives a load of layer 3, which opens no configuration for it, and no load of
-/// layer 1.
+/// A configuration key of layer 2 outlives a load of layer 3, which opens no configuration for it, but no load of layer
+/// 1.
 #[test]
 fn a_configuration_key(rt: HostRuntime) -> Result<(), Fail> {
     let entries = life(2, KeyKind::Configuration);
@@ -261,7 +262,7 @@ fn a_configuration_key(rt: HostRuntime) -> Result<(), Fail> {
     lived(&rt, rt.alloc(), &entries, &[4])
 }
 
-/// The answer on entry `at` of the entries, whose signature has this index, is the expected one.
+/// The answer on entry `at` of the entries, with a signature of this index, is the expected one.
 fn expect(
     rt: &impl Abort,
     alloc: Global,
@@ -283,7 +284,7 @@ enum Changed {
     Nothing,
     /// Entries 1 and 2 change places.
     Swapped,
-    /// Entry 3 keeps a region that it does not.
+    /// Entry 3 says that it keeps both regions.
     Kept,
     /// Births and changes have these versions.
     Versions([u8; 8]),
@@ -313,7 +314,7 @@ fn set_apart(entry: &mut Entry) {
     }
 }
 
-/// A life that is changed so.
+/// The entries of a life, changed as `how` says.
 fn changed_life(how: Changed) -> [Entry; 8] {
     let mut entries = life(3, KeyKind::Epoch);
     match how {
@@ -347,7 +348,7 @@ const FOLLOWS: &[(Changed, usize, u32, Follow)] = &[
     (Changed::Swapped, 1, 0, Follow::Order),
     (Changed::Nothing, 1, 1, Follow::Order),
     (Changed::Kept, 3, 2, Follow::Rules),
-    // Versions are 1 and 2, and go up alone, also over a new key, which has none.
+    // Versions are 1 and 2 and only go up, also across a new key, which has none.
     (Changed::Versions([1; 8]), 0, 7, Follow::Yes),
     (Changed::Versions([1; 8]), 7, 0, Follow::Yes),
     (

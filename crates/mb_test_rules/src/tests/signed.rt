@@ -13,7 +13,7 @@ pub const LOAD_THREE: &str = "13030000000102000100000003616263";
 /// An order for a new key of layer 3.
 pub const NEW_KEY: &str = "05030000";
 
-/// An order that makes the owner of layer 2, where the log has seven entries.
+/// An order that establishes the owner of layer 2, with the target that the log has seven entries.
 pub const ESTABLISH_AT_SEVEN: &str =
     "0102010200000007000000050000000402020202020202020202020202020202c2f867b408363ce3c3415e784ed08e9bd852\
     4ec2ca021e8bb11f7b3414e8e6e900";

@@ -19,7 +19,7 @@ use std::test::Fail;
 const ROOT: &str = "0000000500000003abc79a08451338fa701ede4a2dce0108\
     536f6628cdae7a4a1b32657c5bc5a7f2186341c948daa70955a08dfd899cde3a";
 
-/// The identifier and the seed of that key.
+/// The identifier and the seed of the maker's key.
 const MAKER: (&str, &str) = (
     "abc79a08451338fa701ede4a2dce0108",
     "fd9509691deba24454b97c4c547dcaf949f4315085cb9f83cae75a316a58902b",
@@ -31,7 +31,8 @@ const DEVICE: (&str, &str) = (
     "271f729e829f128a0ae659f3fccf28888d9a2123be7cc22c3683992563c6e145",
 );
 
-/// A birth, and that layers 2 and 3 get their owners and layer 2 its code: each in version 1 and in version 2.
+/// A birth, and the changes that give layers 2 and 3 their owners and layer 2 its code: each in version 1 and in
+/// version 2.
 const ENTRIES: [[&str; 2]; 4] = [
     [
         "00c10b471ceff881272aa5ed819fd9a0e00000000500000003508e3ea9591a42a7ac26572be34701ad7ccc5eecd66b18d58b\
@@ -90,7 +91,7 @@ fn signer_of(number: usize) -> Result<KeySeed, Fail> {
     })
 }
 
-/// The right by which the entry of this number is signed. The birth and the first change have the first index.
+/// The right to sign the entry of this number. The birth and the first change have the first index.
 fn right_at(number: usize) -> Result<OneUse, Fail> {
     let before = u32::try_from(number)?.saturating_sub(1);
     if before > 32 {
@@ -152,7 +153,7 @@ fn chain_of(alloc: Global, versions: [u8; 4]) -> Result<Vec<u8>, Fail>
     chain_counted::<Brand>(alloc, versions, Blank::new(1))
 }
 
-/// The chain in these versions is not accepted of a key that no entry makes, for this reason.
+/// The chain in these versions, verified for a key that no entry makes, is refused for the reason `why`.
 fn is_refused(
     rt: &impl Abort,
     alloc: Global,

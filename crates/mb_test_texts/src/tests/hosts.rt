@@ -1,4 +1,4 @@
-//! What no clause says: that calls succeed which are not to fail, and that the system's files are reached.
+//! What no clause says: that calls succeed unless they are to fail, and that the system's files are reached.
 
 use mb_host::{Host, HostEnd, HostFailed, MemoryHost, RealHost};
 use mb_model::{Bytes, Calls, File, Files, NoMemory};
@@ -41,7 +41,7 @@ fn lacks<H: Host>(host: &mut H, alloc: Global, name: &str) -> bool {
     host.read(alloc, name).err() == Some(HostEnd::Failed)
 }
 
-// Whether a read, a write and a print in turn fail where that is said, and there alone.
+// Whether a read, a write and a print, one after another, fail as given and not otherwise.
 fn fails(host: &mut MemoryHost, alloc: Global, read: bool, write: bool, print: bool) -> bool {
     host.read(alloc, "name").is_err() == read
         && host.write("other", b"new").is_err() == write
@@ -84,7 +84,8 @@ fn calls_fail_by_number(rt: HostRuntime) {
     assert!(rt; fails_by_number(rt.alloc()) == Ok(true));
 }
 
-// Whether the first file is read and these bytes are kept and printed, or neither where the read has this end.
+// Whether the first file is read and these bytes are kept and printed; or, if an end is given, the read has this end
+// and they are not.
 fn is_kept(host: &mut MemoryHost, alloc: Global, bytes: &[u8], end: Option<HostEnd>) -> bool {
     let found = host.read(alloc, "name").err();
     let kept = keeps(host, alloc, "name", bytes)
@@ -94,7 +95,8 @@ fn is_kept(host: &mut MemoryHost, alloc: Global, bytes: &[u8], end: Option<HostE
     found == end && kept == end.is_none()
 }
 
-// Whether a first file of this length is read and such a one is kept, or neither where the read has this end.
+// Whether a first file of this length is read and one like it is kept; or, if an end is given, the read has this end
+// and none is kept.
 fn is_long_file(alloc: Global, length: usize, end: Option<HostEnd>) -> Result<bool, NoMemory> {
     let bytes = vec![in alloc; 7; length]?;
     let mut host = host_of(alloc, &bytes, &[])?;
@@ -115,7 +117,7 @@ fn own_name(rt: &HostRuntime) -> Result<String, Fail> {
     Ok(format!(in rt.alloc(); "{}/mb_host-{number}", folder.display())?)
 }
 
-// Whether a long file and a short one in its place are kept, and no file is reached that is removed or has no name.
+// Whether a long file and a short one in its place are kept, and a file is not reached if it is removed or has no name.
 fn reaches(rt: &HostRuntime, alloc: Global, name: &str) -> bool {
     let mut host = RealHost::new(rt);
     keeps(&mut host, alloc, name, &[7; 200_000])

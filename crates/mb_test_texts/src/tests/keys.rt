@@ -1,4 +1,4 @@
-//! Keys made, written and read, by values of another program.
+//! Keys made, written and read, against values of another program.
 
 use hex::FromHex;
 use mb_officer::{BadRecord, make_key, read_keyfile, write_keyfile};
@@ -29,7 +29,7 @@ fn a_key_of_zeros(rt: HostRuntime) {
     );
 }
 
-/// How many bytes are read of the file of a key with this next index, and the place that is wrong.
+/// How many bytes are read of a key's file, the next index in the file, and the offset that is wrong.
 const BROKEN: &[(usize, u8, u32)] = &[
     (0, 0, 0),
     (3, 0, 0),
@@ -40,7 +40,7 @@ const BROKEN: &[(usize, u8, u32)] = &[
     (56, 33, 52),
 ];
 
-/// Whether so many bytes of the file of a key with this next index, and a byte more, are wrong at this place.
+/// Whether the first `length` bytes of a key's file with this next index, followed by a zero, are wrong at offset `at`.
 fn is_wrong(length: usize, next: u8, at: u32) -> bool {
     let mut file = [0; 57];
     file[..56].copy_from_slice(&write_keyfile(&make_key(&[0; 32])));

@@ -1,4 +1,4 @@
-//! Where there is memory, the largest order is drafted, read from a line and written as one, and an order of each kind is
+//! If there is memory, the largest order is drafted, read from a line and written as one, and an order of each kind is
 //! signed and handed on.
 
 use super::order_lines::{goes_both_ways, hand_on, sizes_of};
@@ -30,8 +30,8 @@ fn the_largest_order_is_drafted(rt: HostRuntime) {
     assert!(rt; is_drafted(rt.alloc(), LONGEST_DRAFT, [32_768, 8, 0]));
 }
 
-/// The line of a load with eight targets, two trusts, 32,768 bytes of code, a signature and two countersignatures. A signature has
-/// 9,324 bytes, after its length.
+/// The line of a load with eight targets, two trusts, 32,768 bytes of code, a signature and two countersignatures. A
+/// signature has 9,324 bytes, after its length.
 const LONGEST_LINE: &[(&str, usize)] = &[
     ("command 130108", 1),
     ("0200000007", 8),

@@ -1,4 +1,4 @@
-//! Where there is memory, the longest scripts are read, each event is copied, and the longest lines are written.
+//! If there is memory, the longest scripts are read, each event is copied, and the longest lines are written.
 
 use super::pieces::text_of;
 use super::scripts::{Said, count_events, is_statement, says};
@@ -6,7 +6,8 @@ use mb_model::{Events, NoMemory};
 use mb_script::read_script;
 use std::alloc::Global;
 
-/// Whether a script that is so many times this line has so many events, or this line is wrong.
+/// Whether a script of this line, `times` times, has the wanted number of events, or the wanted line is its first wrong
+/// one.
 fn has_events(alloc: Global, line: &str, times: usize, wanted: Result<usize, u32>) -> bool {
     match text_of(alloc, &[(line, times)]) {
         Ok(text) => count_events(alloc, text.as_slice()) == wanted,
@@ -21,7 +22,7 @@ fn scripts_have_at_most_65_536_events(rt: HostRuntime) {
     assert!(rt; has_events(rt.alloc(), "off\n", 65_537, Err(65_537)));
 }
 
-/// Whether a command of so many bytes is read.
+/// Whether a command of `count` bytes is read.
 fn is_command(alloc: Global, count: usize) -> bool {
     match text_of(alloc, &[("command ", 1), ("07", count)]) {
         Ok(text) => says(alloc, text.as_slice(), &Said::Long(count)),
@@ -48,7 +49,7 @@ fn count_copies(alloc: Global, events: &Events) -> Result<usize, NoMemory> {
     Ok(copies.as_slice().len())
 }
 
-/// Whether the script has so many events, and all are copied.
+/// Whether the script has `count` events, and all are copied.
 fn are_copied(alloc: Global, text: &[u8], count: usize) -> bool {
     text.len() <= 4_194_304
         && match read_script(alloc, text) {

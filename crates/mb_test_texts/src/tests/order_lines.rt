@@ -1,4 +1,4 @@
-//! Lines of orders, by bytes that are written out.
+//! Lines of orders, against bytes that are written out.
 
 ghost use Rattle.std.specs.Prelude.{◌≡◌, IsTrue};
 ghost use Rattle.mb_model.specs.OrderFormat.{order_format};
@@ -7,7 +7,7 @@ use mb_model::{Act, Order};
 use mb_officer::{OrderLineEnd, read_order_line, write_order_line};
 use std::alloc::Global;
 
-/// Makes the order the one that its line hands on, and says whether there is one.
+/// Replaces the order by the one that is read from its line, and answers whether there is one.
 pub fn hand_on(alloc: Global, order: &mut Order) -> bool
     requires { order_format.Allowed order.old }
     ensures { IsTrue result → order_format.Allowed order.new }
@@ -47,7 +47,7 @@ fn has_line(alloc: Global, order: &Order, line: &[u8]) -> bool
     }
 }
 
-/// Whether the line is read as an order of these sizes, which is written as the other line.
+/// Whether the line is read as an order of these sizes, and that order is written as the other line.
 pub fn goes_both_ways(alloc: Global, line: &[u8], sizes: [usize; 3], written: &[u8]) -> bool {
     match read_order_line(alloc, line) {
         Ok(order) => sizes_of(&order) == sizes && has_line(alloc, &order, written),

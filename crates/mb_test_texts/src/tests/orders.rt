@@ -1,4 +1,4 @@
-//! Orders drafted, signed and countersigned, by values of another program.
+//! Orders drafted, signed and countersigned, against values of another program.
 
 ghost use Rattle.std.specs.Prelude.{◌≡◌, ◌<◌, ◌≤◌, IfSome, OnOk, OnErr, IsTrue};
 ghost use Rattle.mb_model.specs.Layers.{is_upper};
@@ -41,7 +41,7 @@ fn countersigner() -> Option<Keyfile>
     }
 }
 
-/// Signs the order, on a count of its own.
+/// Signs the order, with the hashes on a count of their own.
 fn signed(alloc: Global, k: &mut Keyfile, order: &mut Order) -> Result<u32, SignEnd>
     requires spelled { order_format.Allowed order.old }
     ensures spelled { OnOk result (order_format.Allowed order.new) }
@@ -66,7 +66,7 @@ fn signed_counted<L: Ledger>(
     sign_order(alloc, k, order, &mut HashCount::<L>::begin(alloc, blank))
 }
 
-/// Countersigns the order, on a count of its own.
+/// Countersigns the order, with the hashes on a count of their own.
 fn countersigned(
     alloc: Global,
     k: &mut Keyfile,
@@ -135,7 +135,7 @@ fn has_hash(alloc: Global, order: &Order, hash: &str) -> bool
     }
 }
 
-/// The order of the draft, where it says one.
+/// The order of the draft, if it says one.
 pub fn order_of(alloc: Global, draft: &[u8]) -> Option<Order>
     ensures { IfSome result (λ order. order_format.Allowed order) }
 {
@@ -145,7 +145,7 @@ pub fn order_of(alloc: Global, draft: &[u8]) -> Option<Order>
     read_draft(alloc, draft).ok()
 }
 
-/// The order of the draft, where it has this body.
+/// The order of the draft, if it has this body.
 fn drafted(alloc: Global, draft: &[u8], body: &str) -> Option<Order>
     ensures { IfSome result (λ order. order_format.Allowed order) }
 {
@@ -156,7 +156,7 @@ fn drafted(alloc: Global, draft: &[u8], body: &str) -> Option<Order>
     Some(order)
 }
 
-/// Signs the order by a new key, and says whether that is done.
+/// Signs the order with a new key, and answers whether that used index 0.
 pub fn is_signed(alloc: Global, order: &mut Order) -> bool
     requires { order_format.Allowed order.old }
     ensures { IsTrue result → order_format.Allowed order.new }
@@ -170,7 +170,7 @@ pub fn is_signed(alloc: Global, order: &mut Order) -> bool
     }
 }
 
-/// Whether the order has this hash when it is signed, and so has the one that its line hands on.
+/// Signs the order, and answers whether it then has this hash, and the order read from its line has it too.
 fn signs(alloc: Global, order: &mut Order, hash: &str) -> bool
     requires { order_format.Allowed order.old }
     ensures { IsTrue result → order_format.Allowed order.new }
@@ -181,7 +181,7 @@ fn signs(alloc: Global, order: &mut Order, hash: &str) -> bool
         && has_hash(alloc, order, hash)
 }
 
-/// And this one when the owner of layer 3 has countersigned it too.
+/// Countersigns the order as the owner of layer 3, and answers whether that used index 0 and the order has this hash.
 fn countersigns(alloc: Global, order: &mut Order, hash: &str) -> bool
     requires { order_format.Allowed order.old }
 {
@@ -230,7 +230,7 @@ fn says_body(alloc: Global, draft: &str, body: &str) -> bool {
     drafted(alloc, draft.as_bytes(), body).is_some()
 }
 
-/// Drafts with one trust or with two, and the bodies of their orders. Equal words are as one.
+/// Drafts with one trust or with two, and the bodies of their orders. Two equal words mean the same as one.
 const BODIES: &[(&str, &str)] = &[
     (
         "order establish 3\n\

@@ -3,7 +3,7 @@
 use mb_model::NoMemory;
 use std::alloc::Global;
 
-/// The text of these pieces, each so many times.
+/// The text of these pieces, each as often as its number says.
 pub fn text_of(alloc: Global, pieces: &[(&str, usize)]) -> Result<Vec<u8>, NoMemory> {
     let mut text = Vec::new(alloc);
     for (piece, times) in pieces {

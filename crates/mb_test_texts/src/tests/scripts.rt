@@ -1,4 +1,4 @@
-//! Scripts, draws and replies, by texts and bytes that are written out.
+//! Scripts, draws and replies, against texts and bytes that are written out.
 
 use mb_model::{Bytes, Event, Events, Reply, Standing, Tear};
 use mb_script::{ScriptEnd, place_draws, read_script, write_reply};
@@ -17,7 +17,7 @@ pub fn count_events(alloc: Global, text: &[u8]) -> Result<usize, u32> {
     }
 }
 
-/// Texts, and the number of the first line of each that is wrong, or 0 where the text is a script.
+/// Texts, and the number of the first line of each that is wrong, or 0 if the text is a script.
 const SCRIPTS: &[(&str, u32)] = &[
     ("boot\n\njump", 3),
     ("", 0),
@@ -53,7 +53,7 @@ pub enum Said {
     Boot,
     Cut(u32, Tear),
     Command(&'static [u8]),
-    /// A command of so many bytes.
+    /// A command of this many bytes.
     Long(usize),
     Put(u8, &'static [u8], &'static [u8]),
     Sign(u8, u32, &'static [u8]),
@@ -132,7 +132,7 @@ fn lines_say_events(rt: HostRuntime) {
     }
 }
 
-/// Whether the event at the place is a command with this draw.
+/// Whether event `at` is a command with this draw.
 fn has_draw(events: &Events, at: usize, draw: [u8; 32]) -> bool {
     match events.as_slice().get(at) {
         Some(Event::Command { text: _, draw: d }) => *d == draw,
@@ -140,7 +140,7 @@ fn has_draw(events: &Events, at: usize, draw: [u8; 32]) -> bool {
     }
 }
 
-/// Whether the noise is enough, or not, for two commands with a boot between them, which have these draws afterwards.
+/// Whether the noise is enough, exactly if `enough`, for two commands with a boot between them, and these draws result.
 fn draws(alloc: Global, noise: &[u8], enough: bool, one: u8, two: u8) -> bool {
     match read_script(alloc, b"command 00\nboot\ncommand 00\n") {
         Ok(mut events) => {

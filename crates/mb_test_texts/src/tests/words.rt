@@ -1,4 +1,4 @@
-//! Words and lines, by bytes that are written out.
+//! Words and lines, against bytes that are written out.
 
 use super::pieces::text_of;
 use mb_words::{NotSaid, after_word, read_array, read_hex, read_number, split_at_byte, split_line};
@@ -38,7 +38,7 @@ const WORDS: &[(&str, Option<&[u8]>)] = &[
     ("--", None),
 ];
 
-/// Whether the word is read as these bytes, or is none of hexadecimal.
+/// Whether the word is read as these bytes, or, if none are given, is not hexadecimal.
 fn is_hex(alloc: Global, word: &str, bytes: Option<&[u8]>) -> bool {
     match read_hex(alloc, word.as_bytes()) {
         Ok(read) => match bytes {
@@ -56,7 +56,7 @@ fn bytes_are_read(rt: HostRuntime) {
     }
 }
 
-/// Whether a word of so many bytes is read.
+/// Whether a word of `count` bytes is read.
 fn is_read(alloc: Global, count: usize) -> bool {
     match text_of(alloc, &[("0a", count)]) {
         Ok(word) => match read_hex(alloc, word.as_slice()) {
@@ -80,7 +80,7 @@ fn arrays_are_read(rt: HostRuntime) {
     assert!(rt; read_array::<1>(b"-").is_none());
 }
 
-/// The text is cut into these two, or not at all.
+/// The text is divided into these two parts, or not at all.
 fn is_cut(rt: &impl Abort, found: Option<(&[u8], &[u8])>, parts: Option<(&[u8], &[u8])>) {
     assert!(rt; found == parts, "{parts:?}");
 }

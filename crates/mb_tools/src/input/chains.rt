@@ -36,7 +36,7 @@ impl Form for ChainForm {
     }
 }
 
-/// Any bytes, as those of a chain that is verified later; they may spell none.
+/// Arbitrary bytes, such as those of a chain that is verified later; they may spell none.
 #[derive(Clone, Copy)]
 pub struct AnyBytes;
 

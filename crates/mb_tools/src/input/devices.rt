@@ -76,7 +76,7 @@ pub fn read_image<H: Host, L: Ledger>(
     }
 }
 
-/// Reads an image of a device, which may have the form before, and makes of it one of the present form.
+/// Reads an image of a device, which may have the form before, and migrates it to the present form.
 pub fn read_old_image<H: Host, L: Ledger>(
     alloc: Global,
     host: &mut H,
@@ -93,7 +93,7 @@ pub fn read_old_image<H: Host, L: Ledger>(
     }
 }
 
-/// The end of a command whose image has no state.
+/// The end of a command whose image means no state.
 fn end_of_image(end: ImageEnd) -> End
     ensures { TellsFault (fault_of end) result }
 {

@@ -1,4 +1,4 @@
-//! The forms of the keys among the inputs, and of the noise of which keys and devices are made.
+//! The forms of the keys among the inputs, and of the noise that keys and devices are made from.
 
 use mb_bytes::read_public_key;
 use mb_console::{Form, Unread};
@@ -6,7 +6,7 @@ use mb_model::{Keyfile, Place, PublicKey};
 use mb_officer::read_keyfile;
 use std::alloc::Global;
 
-/// Bytes of which the first N count and have to be there.
+/// Bytes whose first N count; these have to be there.
 #[derive(Clone, Copy)]
 pub struct Leading<const N: usize>;
 

@@ -5,7 +5,7 @@ use mb_console::{Form, Unread};
 use mb_model::{Bytes, Place};
 use std::alloc::Global;
 
-/// An assembler text, which stands for a code of at most 32,768 bytes.
+/// An assembler text, whose value is a code of at most 32,768 bytes.
 #[derive(Clone, Copy)]
 pub struct AssemblyForm;
 

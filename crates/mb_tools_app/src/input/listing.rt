@@ -1,7 +1,6 @@
-//! The code that is listed among the inputs.
+//! The code to be listed, as an input.
 //!
-//! It is read by a function of its own, since what it stands for is its instructions, and what is kept of it is their
-//! text.
+//! The code is read by a function of its own, since its value is its instructions, and what is kept is their text.
 
 ghost use Rattle.std.specs.Prelude.{IfOk, IfErr};
 ghost use Rattle.mb_console.specs.Ending.{StopsAt};
