@@ -2,7 +2,7 @@
 # Measures `verify` of the built program, outside the gate: bench/chains.sh [PROGRAM]. It prints the load of the machine
 # and then, in processor time, the least of five runs for chains of 8 and of 128 entries, which peers/device.py makes:
 # the whole call, each entry, and the hashes that the signatures of the chain take. Beside that it prints what OpenSSL
-# takes for as many hashes, and Bouncy Castle for verifying the same signatures; where Java or its library (Debian's
+# takes for as many hashes, and Bouncy Castle for verifying the same signatures; if Java or its library (Debian's
 # libbcprov-java, or JAR) is missing, it says so.
 set -euo pipefail
 export LC_ALL=C

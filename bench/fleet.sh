@@ -1,10 +1,10 @@
 #!/usr/bin/env bash
-# Measures `fleet` of the built program, outside the gate: bench/fleet.sh [PROGRAM [DEVICES ENTRIES]]. It prints the load
-# of the machine and then, in processor time: showing a register 512 devices of 127 entries, which peers/device.py makes,
-# and then of 128 entries, in files of items as long as they may be, with the share that the hashes of their signatures
-# have by the time of one, of which keygen tells; reading and writing the full register once; a question for a code, to
-# registers of 8 and of all devices; and a chain of one entry, to both. It fails where an answer is not the one that is
-# wanted. With DEVICES and ENTRIES there are so many, at most 512 of 3 to 128 entries.
+# Measures `fleet` of the built program, outside the gate: bench/fleet.sh [PROGRAM [DEVICES ENTRIES]]. It prints the
+# load of the machine and then, in processor time: showing a register 512 devices of 127 entries, which peers/device.py
+# makes, and then of 128 entries, in files of items as long as they may be, with the share of the hashes of their
+# signatures, by the time of one, as keygen shows it; reading and writing the full register once; a question for a code,
+# to registers of 8 and of all devices; and a chain of one entry, to both. It fails if an answer is not the one that is
+# wanted. DEVICES and ENTRIES set how many there are, at most 512 devices of 3 to 128 entries.
 set -euo pipefail
 export LC_ALL=C
 

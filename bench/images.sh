@@ -1,10 +1,10 @@
 #!/usr/bin/env bash
-# Reads images outside the gate. A program over `stand_for` tells for which state each image stands that
-# peers/device.py writes, with each kind of pending work, and with entries of version 1; what it says is compared with
-# what that program says. Then it measures a new device and one with a full log, and says what spoilt images come to.
+# Reads images outside the gate. A program over `stand_for` reports the state that each image of peers/device.py means,
+# with each kind of pending work, and with entries of version 1; this is compared with what peers/device.py says. Then
+# it measures a new device and one with a full log, and says what spoilt images come to.
 #
 #     bench/images.sh           compares and measures
-#     bench/images.sh spoil     also turns each bit of 600 bytes of each record of a new device's image, and cuts it there
+#     bench/images.sh spoil     also flips each bit of 600 bytes of each record of a new device's image, and cuts there
 set -euo pipefail
 export LC_ALL=C
 cd "$(dirname "${BASH_SOURCE[0]}")/.."

@@ -27,7 +27,7 @@ print(32 * (67 * 16 + 2) + 31, 67 + sum(digits) + 2, 1 + sum(15 - digit for digi
 PYTHON
 }
 
-# The time of doing something so many times, in microseconds each.
+# measure WHAT COUNT: the time of doing this once, in microseconds, from doing it COUNT times.
 measure() { time_of "$2" "$program" "$1" "$2" | awk '{ print $1 * 1e3 }'; }
 
 # A line: what is done, the time of one, and its hashes.

@@ -1,7 +1,8 @@
 #!/usr/bin/env bash
-# Measures, outside the gate, judging an order that passes beside verifying its signature alone, and reading a long order
-# that comes byte by byte. The first order establishes an owner of layer 2, and is signed by peers/officer.py. The long one
-# loads as much code as an order can; its signature is as long as one by a key of type 1, and nobody verifies it.
+# Measures, outside the gate, judging an order that passes beside verifying its signature alone, and reading a long
+# order that comes byte by byte. The first order establishes an owner of layer 2, and is signed by peers/officer.py. The
+# long one loads as much code as an order can; its signature is as long as one by a key of type 1, and nobody verifies
+# it.
 set -euo pipefail
 export LC_ALL=C
 cd "$(dirname "${BASH_SOURCE[0]}")/.."

@@ -1,9 +1,9 @@
 #!/usr/bin/env bash
-# Measures `trust` of the built program beside `verify` of the same chain, outside the gate: bench/policies.sh [PROGRAM].
-# It prints the load of the machine and then, in processor time, the least of five runs on a chain of 128 entries, which
-# peers/device.py makes: `verify`; `trust` by a policy of 256 lines with sets of 64 hashes, whose rules all look into
-# their sets; and `trust` by the largest policies that a file holds, of some hundred thousand tests. Fails where a policy
-# of 256 lines takes longer than the verification beside it.
+# Measures `trust` of the built program beside `verify` of the same chain, outside the gate: bench/policies.sh
+# [PROGRAM]. It prints the load of the machine and then, in processor time, the least of five runs on a chain of 128
+# entries, which peers/device.py makes: `verify`; `trust` by a policy of 256 lines with sets of 64 hashes, whose rules
+# all look into their sets; and `trust` by the largest policies that a file holds, of some hundred thousand tests. Fails
+# if a policy of 256 lines takes longer than the verification beside it.
 set -euo pipefail
 export LC_ALL=C
 

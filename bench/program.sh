@@ -3,8 +3,8 @@
 # shellcheck source=../checks/program.sh
 . "$(dirname "${BASH_SOURCE[0]}")/../checks/program.sh"
 
-# program NAME CRATES..: proves and builds the program of bench/NAME over these crates, in a copy of the repository, with
-# what was proved there before, that is removed at the end. `program` is then the built file, and `work` a folder.
+# program NAME CRATES..: proves and builds the program of bench/NAME over these crates, in a copy of the repository with
+# what was proved there before, which is removed at the end. `program` is then the built file, and `work` a folder.
 program() {
     local name=$1 crate
     shift
@@ -25,7 +25,8 @@ program() {
     program="$crate/out/bench_$name"
 }
 
-# time_of COUNT WORDS..: the least time of three runs of these words, which do a thing so many times, in milliseconds each.
+# time_of COUNT WORDS..: the least time of three runs of these words, which do a thing COUNT times, in milliseconds for
+# each.
 time_of() {
     local count=$1 best=0 begun time round
     shift

@@ -1,9 +1,9 @@
 #!/usr/bin/env bash
-# Measures workloads of the built program, outside the gate: bench/run.sh [PROGRAM]. The program generates one of 3 rounds
-# and one of 24, and serves them. For each the script prints, in processor time, the least of five runs: generating and
-# serving; orders, puts and signatures a second, each with its write calls of the board; how much of serving is hashing,
-# by the number of hashes that trees and signatures take and the time of one, of which keygen tells; and the memory that
-# the program takes, where GNU time is there. It fails where the summary is not what `run` then comes to.
+# Measures workloads of the built program, outside the gate: bench/run.sh [PROGRAM]. The program generates one of 3
+# rounds and one of 24, and serves them. For each the script prints, in processor time, the least of five runs:
+# generating and serving; orders, puts and signatures a second, each with its write calls of the board; how much of
+# serving is hashing, by the number of hashes that trees and signatures take and the time of one, as keygen shows it;
+# and the memory that the program takes, if GNU time is there. It fails if the summary is not what `run` then comes to.
 set -euo pipefail
 export LC_ALL=C
 

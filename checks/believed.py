@@ -23,7 +23,7 @@ def file_of(crate, module):
 
 
 def used_by(text, words=None):
-    """The files of definitions that a text imports, or those of whose names it has one among the words."""
+    """The files of definitions that a text imports; if words are given, only those with an imported name among them."""
     found = set()
     for crate, module, names in USE.findall(text):
         file = file_of(crate, module)

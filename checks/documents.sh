@@ -1,19 +1,18 @@
 #!/usr/bin/env bash
 # What the documents say of the tree. Each link in the pages at the top, of docs/, of peers/ and of crates leads to a
-# file that is there, and to a heading where it names one; the name in backquotes that a link to definitions or code
-# shows is defined in that file, or is the file's own; each path in backquotes that begins in a folder of the repository
-# is there, and so is each file of code that is named by its end; no line but that of a table has over 120 columns; each
-# row of a crate's page, its README.md, names public calls of the
-# crate, and clauses that these calls have, and so does what the page has that they do not say; each clause of each
-# public call has a row there, but for those that the table of common clauses in docs/believe/crates.md has; the table
-# of crates in docs/change/architecture.md has a row for each crate and for nothing else, and names those on which each
-# stands as crates.txt does; the commands that docs/use/commands.md lists first are those of --help, in its order; each
-# block of a tutorial in docs/start/ stands in an example, and each line in its tables is listed, with its status, in
-# docs/use/commands.md or docs/use/formats.md; the figure of the layers of crates is that of crates.txt; each file of
-# definitions that a clause of `top` reaches is named in a section of docs/believe/definitions.md, and the counts of
-# such files and their lines there and in docs/believe/theorem.md are right within a tenth. A method of a trait is a
-# call of the type that implements it where it has clauses of its own there.
-# Prints a line for each that is wrong, and nothing where none is.
+# file that is there, and to a heading if it names one; the name in backquotes that a link to definitions or code shows
+# is defined in that file, or is the file's own; each path in backquotes that begins in a folder of the repository is
+# there, and so is each file of code that is named by its end; no line but that of a table has over 120 columns; each
+# row of a crate's page, its README.md, names public calls of the crate, and clauses that these calls have, and so does
+# what the page has that they do not say; each clause of each public call has a row there, but for those that the table
+# of common clauses in docs/believe/crates.md has; the table of crates in docs/change/architecture.md has a row for each
+# crate and for nothing else, and names those on which each stands as crates.txt does; the commands that
+# docs/use/commands.md lists first are those of --help, in its order; each block of a tutorial in docs/start/ stands in
+# an example, and each line in its tables is listed, with its status, in docs/use/commands.md or docs/use/formats.md;
+# the figure of the layers of crates is that of crates.txt; each file of definitions that a clause of `top` reaches is
+# named in a section of docs/believe/definitions.md, and the counts of such files and their lines there and in
+# docs/believe/theorem.md are right within a tenth. A method of a trait is a call of the type that implements it if it
+# has clauses of its own there. Prints a line for each that is wrong, and nothing if none is.
 set -u
 cd "$(dirname "$0")/.." || exit 2
 

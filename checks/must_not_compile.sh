@@ -1,7 +1,7 @@
 #!/usr/bin/env bash
 # Code that the compiler has to refuse. Each case of must-not-compile/ names a file of the repository and the error that
-# is wanted, and then, after an empty line, a function that is added at the end of this file, in a copy. Prints a line for
-# each case that is not refused so, and nothing where all are.
+# is wanted, and then, after an empty line, a function that is added at the end of this file, in a copy. Prints a line
+# for each case that is not refused with this error, and nothing if all are.
 set -u
 cd "$(dirname "$0")/.." || exit 2
 

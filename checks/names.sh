@@ -1,7 +1,7 @@
 #!/usr/bin/env bash
 # One name for one thing: no two files of definitions, of whatever crates, may define the same name, be it a function, a
 # record, a data type or a constructor; the fields of records do not count. Prints a line for each name that two define,
-# with the files, and nothing where there is none.
+# with the files, and nothing if there is none.
 set -u
 cd "$(dirname "$0")/.." || exit 2
 

@@ -21,8 +21,8 @@ find_program() {
     fi
 }
 
-# take_words USAGE [-j N] [PROGRAM]: `processes` is then N, or 1, and `program` as find_program finds it. Ends the script
-# with its usage if the words are others.
+# take_words USAGE [-j N] [PROGRAM]: `processes` is then N, or 1, and `program` as find_program finds it. Ends the
+# script with its usage if the words are others.
 take_words() {
     local usage=$1
     shift

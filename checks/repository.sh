@@ -1,6 +1,6 @@
 #!/usr/bin/env bash
-# What `rt ci` does not look at. Prints a line for each check that fails and then 'N passed, M failed', and nothing
-# where none fails.
+# What `rt ci` does not look at. Prints a line for each check that fails and then 'N passed, M failed', and nothing if
+# none fails.
 set -u
 cd "$(dirname "$0")/.." || exit 2
 

@@ -1,14 +1,14 @@
 #!/usr/bin/env bash
 # Tries the wrong bodies of checks/wrong-bodies, or those of the crates that are named: edits in the form of must-fail
-# edits, a folder for each crate, which the gate does not try, for its time: checks/wrong_bodies.sh [-j N] [CRATE..]. The
-# prover has to refuse each, in a copy of its crate. Prints a line for each that is proved, for each that does not apply,
-# and for each that is refused only at a proof that was written by hand, which shows nothing of the contract: such an edit
-# is tried again without the answers that no longer fit, and the line says where the search stops then. An edit with a
-# line `test: CRATE TEST` is one that no clause can refuse: that test of that crate has to fail over it. One with a line
-# `free: REASON` gives an answer that every contract leaves free, and has to be proved. The last line counts. Fails where
-# any other is proved, where a free one is refused, or where one does not apply. It begins with what `rt check` has kept
-# of each crate, and then takes some ten seconds of a processor for each try; a crate of which nothing is kept is proved
-# first. With -j N it tries those of N crates at a time.
+# edits, a folder for each crate, which the gate does not try since they take long: checks/wrong_bodies.sh [-j N]
+# [CRATE..]. The prover has to refuse each, in a copy of its crate. Prints a line for each that is proved, for each that
+# does not apply, and for each that is refused only at a proof that was written by hand, which shows nothing of the
+# contract: such an edit is tried again without the answers that no longer fit, and the line says where the search stops
+# then. An edit with a line `test: CRATE TEST` is one that no clause can refuse: that test of that crate has to fail
+# over it. One with a line `free: REASON` gives an answer that every contract leaves free, and has to be proved. The
+# last line counts. Fails if any other is proved, if a free one is refused, or if one does not apply. It begins with
+# what `rt check` has kept of each crate, and then takes some ten seconds of a processor for each try; a crate of which
+# nothing is kept is proved first. With -j N it tries those of N crates at a time.
 set -u
 cd "$(dirname "$0")/.." || exit 2
 

@@ -61,7 +61,7 @@ class Wrong(Exception):
 
 
 def instruction(code, place):
-    """The name, the operand and the length of the instruction at a place."""
+    """The name, the operand and the length of the instruction at an offset."""
     if place >= len(code) or code[place] not in BY_BYTE:
         raise Wrong
     (name, size), begins = BY_BYTE[code[place]], place + 1
@@ -104,7 +104,7 @@ class Machine:
         return name == "halt"
 
     def does(self, name, operand, taken, after):
-        """The values that an instruction leaves, and the place after it. What changes besides is changed."""
+        """The values that an instruction leaves, and the offset of the next one. Makes its other changes."""
         if name in SUMS:
             a, b = taken
             if name in ("div", "rem") and b == 0:
@@ -174,7 +174,7 @@ class Machine:
 
 
 def run(code, input_, secrets, steps):
-    """How a code ends that runs for at most so many steps, in the words of `app`, and whether it halts."""
+    """How a code ends that runs for at most `steps` steps, in the words of `app`, and whether it halts."""
     machine = Machine(code, input_, secrets)
     for number in range(1, steps + 1):
         at = machine.at
@@ -206,7 +206,7 @@ def label_in(line):
 
 
 def assembled(line, values):
-    """The code of a line that gives no label. `values` has the places of the labels, or what stands for them."""
+    """The code of a line that gives no label. `values` has the offsets of the labels, or numbers in their place."""
     name, *operands = line.split(b" ")
     if name not in BY_NAME:
         raise Wrong
@@ -249,7 +249,7 @@ def assemble(text):
 
 
 class NoInstruction(Exception):
-    """No whole instruction stands at this place of a code."""
+    """No whole instruction stands at this offset of a code."""
 
     def __init__(self, at):
         super().__init__(at)

@@ -86,8 +86,8 @@ def tables(source, constants):
 
 
 def fits(printed, wanted):
-    """The lines are those that are wanted, of which one that ends in `*` stands for all that begin so, and one that is `**`
-    for all that follow."""
+    """The lines are those that are wanted. A line that ends in `*` fits each line that begins so, and a line `**` fits
+    all that follow."""
     found, lines = printed.splitlines(), wanted.splitlines()
     if lines[-1:] == ["**"]:
         found, lines = found[: len(lines) - 1], lines[:-1]
@@ -103,7 +103,7 @@ def fits(printed, wanted):
 class World(Host):
     """The files as commands leave them, with a device for each image that is not dead."""
 
-    # how a device serves a script, where its power may be cut
+    # how a device serves a script in which its power may be cut
     serving = None
 
     def __init__(self, files):
@@ -143,7 +143,7 @@ class World(Host):
         return f"serial {self.devices[image].serial.hex()}\n"
 
     def run(self, image, script, noise):
-        """What a device prints that serves the script, or None where its power is cut, after which it is dead."""
+        """What a device prints that serves the script, or None if its power is cut, after which it is dead."""
         lines, draws = self.files[script].decode().splitlines(), self.files[noise]
         if self.serving is None and any(line.startswith("cut ") for line in lines):
             del self.devices[image]
@@ -173,7 +173,7 @@ class World(Host):
             self.files[name] = b"".join(map(self.part, parts))
 
     def gives(self, name, content):
-        """Makes a file of what is given; the image of an old device stands for that device."""
+        """Makes a file of what is given; the image of an old device means that device."""
         bytes_ = given_bytes(*content)
         self.devices.pop(name, None)
         if sha256(bytes_) in self.old:
@@ -326,7 +326,7 @@ def born(source, first=LAYERS_OWNED):
 
 
 def compare_turned(source, world):
-    """Each entry's bytes that are turned, and what is refused then."""
+    """Each entry's bytes with a bit flipped, and what is refused then."""
     row = r"Turned {\s*entry: (\d+),\s*unsigned: &\[([\d_,\s]*)\],\s*formless: &\[([\d_,()\s]*)\],\s*}"
     for entry, unsigned, formless in source.rows(row):
         numbers = [int(word.replace("_", "")) for word in re.findall(r"[\d_]+", formless)]

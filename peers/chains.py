@@ -46,7 +46,7 @@ class Unformed(Exception):
 
 
 class Refused(Exception):
-    """Why a chain is refused: a code, and the entry or offset where it has one."""
+    """Why a chain is refused: a code, and the entry or offset if it has one."""
 
     def __init__(self, *numbers):
         super().__init__(*numbers)
@@ -65,8 +65,8 @@ class Layer:
 
 @dataclasses.dataclass(frozen=True)
 class Entry:
-    """An entry of a log. A birth or change has a version. `key` is the device key that it names, or the region's key that
-    it makes."""
+    """An entry of a log. A birth or change has a version. `key` is the device key that it names, or the region's key
+    that it makes."""
 
     tag: int
     version: int | None = None
@@ -293,7 +293,7 @@ class Log:
         )
 
     def is_allowed(self, kind, k):
-        """The layers stand as such an order for layer k needs it."""
+        """The layers are as an order of this kind for layer k requires."""
         owned = {n for n in (1, 2, 3) if self.layer(n).owner is not None}
         if kind == LOAD:
             return k in owned and self.layer(k).reliable
@@ -301,7 +301,7 @@ class Log:
 
     @staticmethod
     def is_placed(entry, old, new):
-        """An order of the kind can put this layer in place of that."""
+        """An order of the entry's kind can put the new layer in place of the old."""
         if entry.kind == ESTABLISH:
             return new.owner is not None and new.code is None
         if entry.kind == SURRENDER:
@@ -361,7 +361,7 @@ def ends(key, change):
 
 
 def life_of(entries, n):
-    """The life of the key with this number, or None where no entry makes it."""
+    """The life of the key with this number, or None if no entry makes it."""
     number, layers = 0, (Layer(),) * 3
     for at, entry in enumerate(entries):
         if entry.tag == NEW_KEY and entry.key_number == n:
@@ -563,7 +563,7 @@ def signatures(maker, chain):
 
 
 def statement_signature(chain, n):
-    """The same of the statement of a chain, which the key with this number made."""
+    """The key, the text and the signature of a chain's statement, which the key with this number made."""
     entries, statement = read_chain(chain)
     log = [entry for entry, _ in entries]
     text = stated_text(log[0].serial, n, statement)

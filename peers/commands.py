@@ -2,9 +2,10 @@
 
     answer(words, folder)    the answer of a command that is given these words, over a folder of files
 
-Nothing here is taken from the program. What is printed at status 0 and the bytes that are written are told exactly; but
-for `run`, whose image is told by what it stands for, and whose replies follow from those before where a power loss is
-armed; and for `cutat`, of which each line is told that may come, since nothing here counts the writes of an event.
+Nothing here is taken from the program. What is printed at status 0 and the bytes that are written are predicted
+exactly, but for two commands. The image of `run` is predicted by what it means, and its replies follow from those
+before if a power loss is armed. For `cutat` each line that may come is given, since nothing here counts the writes of
+an event.
 """
 
 import dataclasses
@@ -36,7 +37,7 @@ LAST_WRITE = 100_000
 
 class Folder:
     """Files by their names. `folders` are names of folders, `is_full` says that nothing can be printed, and `limit` is
-    the longest file that can be written, where there is one."""
+    the longest file that can be written, if there is one."""
 
     def __init__(self, files, folders=(), is_full=False, limit=None):
         self.files, self.folders, self.is_full, self.limit = files, set(folders), is_full, limit
@@ -53,8 +54,8 @@ class Folder:
 
 @dataclasses.dataclass
 class Answer:
-    """How a command ends. `text` is what it prints, or None where `run` serves events; then `served` says what is
-    known of its replies and its image. `others` are texts that may stand in the place of `text`."""
+    """How a command ends. `text` is what it prints, or None if `run` serves events; then `served` says what is
+    known of its replies and its image. `others` are texts that may come in place of `text`."""
 
     status: int
     text: str | None
@@ -291,7 +292,7 @@ def run(call, image, script, noise):
 
 @dataclasses.dataclass
 class OneOf:
-    """Lines of which a command prints one."""
+    """Lines; a command prints one of them."""
 
     lines: list
 
@@ -310,7 +311,7 @@ def cutat(call, image, script, noise, count, fill):
 
 
 def verdict(before, reply, after):
-    """What `cutat` prints of an event with this reply, by the worlds before it and after it."""
+    """What `cutat` prints for an event with this reply, by the worlds before it and after it."""
     if reply != "stopped":
         return "unstopped"
     return "old" if after.state == before.state else "new"
@@ -449,7 +450,7 @@ def answer(words, folder, workloads=None):
     if isinstance(lines, OneOf):
         text, *others = (line + "\n" for line in lines.lines)
         return Answer(5 if folder.is_full else 0, text, others=tuple(others))
-    # where there is nothing to print, printing does not fail
+    # printing does not fail if there is nothing to print
     return Answer(5 if folder.is_full and lines else 0, "".join(line + "\n" for line in lines), call.written)
 
 

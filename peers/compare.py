@@ -5,7 +5,7 @@
     compare.py --signatures [ROOT] prints the signatures of other programs as lines KEY TEXT SIGNATURE (`-`: no text)
     compare.py --chain [ROOT]      prints those of the entries and the statement of the first chain of the tests
 
-ROOT is the top of the repository, the folder above this one where it is not given. The values are read out of the
+ROOT is the top of the repository, the folder above this one if it is not given. The values are read out of the
 sources themselves, so that none stands twice. A source of which nothing is read counts as one that differs. Words of 32
 bytes and more in the tests that no reader here has looked at are counted on a line of their own.
 """

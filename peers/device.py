@@ -42,8 +42,8 @@ class Flash:
         self.bytes = bytearray(bytes_)
 
     def write(self, sector, text):
-        """Erases as many sectors from this one on as the text takes, and stores the text there. Nothing is written of a
-        sector that begins so already."""
+        """Erases as many sectors from this one on as the text takes, and stores the text there. A sector that
+        already begins so is not written."""
         for at in range(0, len(text), SECTOR):
             piece, start = text[at : at + SECTOR], SECTOR * sector + at
             if self.bytes[start : start + len(piece)] != piece:
@@ -85,7 +85,8 @@ def optional(bytes_):
 
 
 class Device:
-    """A device whose owners are obeyed without looking at their signatures, and whose birth the maker has signed or not."""
+    """A device whose owners are obeyed without looking at their signatures, and whose birth the maker has signed or
+    not."""
 
     # of the births and changes that it writes
     version = 2
@@ -138,7 +139,7 @@ class Device:
         self.log.append((entry, self.key.sign(u8(3) + entry)))
 
     def succeed(self):
-        """A device key of which the last index is left gives way to the next."""
+        """A device key with only its last index left gives way to the next."""
         self.outgoing = None
         if self.key.uses == 31:
             self.outgoing, after = self.key, self.new_key()
@@ -201,7 +202,7 @@ class Device:
     # ---- what it hands out
 
     def sign(self, layer, number, message):
-        """The index and the statement of the region's key with this number, or None where it has no such key."""
+        """The index and the statement of the region's key with this number, or None if it has no such key."""
         keys = [key for _, key in self.regions[layer]["keys"] if key.number == number]
         if not keys:
             return None
@@ -232,11 +233,11 @@ class Device:
         return u8(1) + u8(area) + self.serial + self.key.spelled() + u8(self.key.uses) + optional(pending)
 
     def slots(self, which=1):
-        """The slot of each layer: this one, or 0 where the layer has no code."""
+        """The slot of each layer: this one, or 0 if the layer has no code."""
         return {layer: 0 if code is None else which for layer, code in self.codes.items()}
 
     def header(self, slots, unsigned=0):
-        """The header of a flash with codes in these slots, of which so many entries at the end are not signed."""
+        """The header of a flash with codes in these slots. The last `unsigned` entries are not signed."""
         signed = len(self.log) - unsigned
         text = b"MBH1"
         for layer, slot in slots.items():
@@ -250,7 +251,7 @@ class Device:
         return u16(len(entry)) + entry + signature
 
     def image(self, area=0, pending=None, unsigned=0, regions=None):
-        """The image. Where `area` is 1, header, root and both regions are in their second areas, and codes in slot 2."""
+        """The image. If `area` is 1, header, root and both regions are in their second areas, and codes in slot 2."""
         flash, slots = Flash(), self.slots(1 + area)
         flash.write(area, self.header(slots, unsigned))
         for layer, slot in slots.items():
@@ -267,7 +268,7 @@ class Device:
         return bytes(flash.bytes + bbram)
 
     def told(self):
-        """What the program tells of such a state."""
+        """What the program reports of this state."""
         counts = [len(self.regions[m][what]) for m in (2, 3) for what in ("secrets", "keys")]
         signatures = sha256(*(signature for _, signature in self.log)).hex()
         return " ".join(map(str, ["state", len(self.log), self.number, self.key.uses, *counts, signatures]))
@@ -348,7 +349,7 @@ def with_pending(kind, version=2):
 
 
 def row(kind):
-    """A row of the tests: the records that the order leaves, and what they stand for."""
+    """A row of the tests: the records that the order leaves, and what they mean."""
     device, before, fates = left_to_do(kind, signed=False, version=1)
     unsigned, pending = pending_of(device, kind, fates)
     signer = device.outgoing or device.key

@@ -53,7 +53,8 @@ def statements(script):
 
 
 class Judged(Served):
-    """A device that judges the order it is given, and whose power fails in the first write of the order after a `cut`."""
+    """A device that judges the order it is given, and whose power fails in the first write of the order after a
+    `cut`."""
 
     armed = False
 
@@ -175,7 +176,7 @@ class Steps(World):
         self.show("    ", "".join(f"{event:21}  {reply}\n" for event, reply in rows))
 
     def cut_each_write(self, order):
-        """What is found where the order has not happened, and where it has."""
+        """What is found if the order has not happened, and if it has."""
         for before in ([], [order]):
             device = copy.deepcopy(self.devices["new"])
             events = ["boot", *before, "status", order]

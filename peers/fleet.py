@@ -1,5 +1,5 @@
 #!/usr/bin/env python3
-"""A register of what devices have shown, kept and asked by the formats, the rules of the log and RFC 8554 alone.
+"""A register of what devices have shown, kept and queried by the formats, the rules of the log and RFC 8554 alone.
 
     fleet.py ROOT REGISTER ITEMS    as `miniboot fleet` does, with the words and statuses of docs/use/commands.md
 
@@ -110,7 +110,7 @@ def compared(old, new):
 
 
 def shown(rows, maker, chain):
-    """The line for a chain; the rows change where it is taken."""
+    """The line for a chain; the rows change if it shows something new."""
     serial, row = row_of(maker, chain)
     if serial not in rows and len(rows) >= DEVICES:
         raise Refused(32, "full")

@@ -58,7 +58,7 @@ class Maker:
 
 
 def signature_length(public):
-    """Of a signature under a key of LMS, by its types; None where they are unknown."""
+    """The length of a signature under an LMS key, by the key's types; None if they are unknown."""
     tree, chains = int.from_bytes(public[:4], "big"), int.from_bytes(public[4:8], "big")
     if tree not in lms.HEIGHTS or chains not in lms.WIDTHS:
         return None

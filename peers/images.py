@@ -1,4 +1,4 @@
-"""Images of devices: for which state one stands, what is wrong with it, and the image of a state, by the formats alone.
+"""Images of devices: the state that one means, what is wrong with it, and the image of a state, by the formats alone.
 
 An image is read in the present form, whose flash is in segments, or in the form before it.
 """
@@ -170,7 +170,7 @@ def read_region(reader):
 
 
 def area_in_force(bbram, number):
-    """The record of the area in force of the root, region 2 or region 3: a length, so many bytes, and zeros."""
+    """The record of the current area of the root, region 2 or region 3: a length, that many bytes, and zeros."""
     first = AREA * (1 + 2 * number + bbram[1 + number] % 2)
     area = bbram[first : first + AREA]
     length = int.from_bytes(area[:2], "big")
@@ -227,7 +227,7 @@ def read_old_record(reader):
 
 
 def read_old_public(flash, area):
-    """The same, by the form before segments."""
+    """The codes, the signed entries and the unsigned ones, by the form before segments."""
     half = flash[OLD_AREA * area : OLD_AREA * (area + 1)]
     length = int.from_bytes(half[:4], "big")
     if length > OLD_RECORD:
@@ -236,7 +236,7 @@ def read_old_public(flash, area):
 
 
 def fits(pending, unsigned):
-    """The unsigned entries are as many as the root says, which are two only where a key is outgoing."""
+    """The unsigned entries are as many as the root says, which are two only if a key is outgoing."""
     if pending is None:
         return not unsigned
     return pending.unsigned == len(unsigned) and (pending.outgoing is not None or pending.unsigned == 1)
@@ -332,7 +332,7 @@ def is_region(region, layer, log, entries):
 
 
 def judged(state):
-    """The state with what its log comes to, or Fault where no device can have it."""
+    """The state with what its log comes to, or Fault if no device can have it."""
     log, entries = OwnLog(), [entry for entry, _ in state.log]
     try:
         for entry, signature in state.log:
@@ -351,13 +351,13 @@ def judged(state):
 
 
 def meaning(image, public=read_public):
-    """The state for which an image stands, or None of a dead device, or Fault."""
+    """The state that an image means, or None of a dead device, or Fault."""
     parts = stored(image, public)
     return parts and judged(completed(parts))
 
 
 def migrated(image):
-    """The state for which an image stands by the present form or by the one before; the fault is the present form's."""
+    """The state that an image means by the present form or by the one before; the fault is the present form's."""
     try:
         return meaning(image)
     except Fault as fault:
@@ -368,7 +368,7 @@ def migrated(image):
 
 
 def is_clean(image):
-    """The battery-backed memory of a well-formed image holds only what is in force, and no work is pending."""
+    """The battery-backed memory of a well-formed image holds only current records, and no work is pending."""
     bbram = image[FLASH:]
     others = (bbram[AREA * (2 + 2 * number - bbram[1 + number] % 2) :][:AREA] for number in range(3))
     return not any(bbram) or (stored(image).pending is None and not any(map(any, others)))
@@ -378,7 +378,7 @@ def is_clean(image):
 
 
 def memory(root, regions=(b"", b""), selectors=(0, 0, 0)):
-    """The battery-backed memory with these records in force."""
+    """The battery-backed memory with these records current."""
     bbram = bytearray(BBRAM)
     bbram[0:4] = u8(LIFE) + bytes(selectors)
     for number, record in enumerate((root, *regions)):
@@ -405,7 +405,7 @@ def place(flash, sector, text):
 
 
 def flash_of(state, area=0, slots=(1, 1, 1), unsigned=0, blank=BLANK):
-    """Flash that holds a state in these areas and slots, of which so many entries at the end are not signed."""
+    """Flash that holds a state in these areas and slots. The last `unsigned` entries are not signed."""
     flash, count = bytearray(blank), len(state.log) - unsigned
     texts = [entry.text for entry, _ in state.log[count:]]
     place(flash, area, header(state.codes, slots, count, texts))
@@ -423,7 +423,7 @@ def image_of(state):
 
 
 def old_flash_of(state, area=0, unsigned=0):
-    """The same in the form before segments."""
+    """Flash that holds a state in this area, in the form before segments."""
     text = u8(1) + b"".join(u8(0) if code is None else u8(1) + u32(len(code)) + code for code in state.codes)
     text += u16(len(state.log))
     for at, (entry, signature) in enumerate(state.log):

@@ -32,7 +32,7 @@ def officers(noise):
 
 
 def load(path):
-    """Takes the keys that were kept in a file, where it is there."""
+    """Takes the keys that were kept in a file, if it is there."""
     if path.exists():
         MADE.update(pickle.loads(path.read_bytes()))
 

@@ -11,8 +11,9 @@ LOADS = {"load": LOAD, "emergency": EMERGENCY}
 
 
 class Living(Device):
-    """A device of this noise, whose birth the maker signs, and whose layer 1 has this owner's public key and code. Where
-    its birth has version 1, its changes have version 2 all the same, as those of a device that is older than they are."""
+    """A device of this noise, whose birth the maker signs, and whose layer 1 has this owner's public key and code. If
+    its birth has version 1, its changes have version 2 all the same, as those of a device that is older than they
+    are."""
 
     def __init__(self, noise, maker, owner, code, version=2):
         self.present, self.serial, self.maker, self.version = noise[:32], noise[32:48], maker, version

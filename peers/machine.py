@@ -1,7 +1,7 @@
 """A device that serves events, from the formats and the rules of the commands alone.
 
-Where a power loss is armed it is not told in which write call it falls. So an event leads from a world to several, each
-with a reply, and the replies that a device gave say which of them it can be in.
+Nothing here says in which write call of an event an armed power loss falls. An event therefore leads from a world to
+several, each with a reply, and the replies that a device gave say which of them it can be in.
 """
 
 import copy
@@ -15,7 +15,7 @@ from lms import sha256, u8, u32
 from orders import NEW_KEY, NoOrder, read_order
 
 LONGEST_LOG, MOST_SECRETS = 128, 22
-# An event has at most so many write calls.
+# the most write calls of an event
 MOST_WRITES = 600
 OFF, ON, DEAD = "off", "on", "dead"
 NO, MAY, MUST = range(3)
@@ -197,7 +197,7 @@ def obey(state, order, draw):
 
 @dataclasses.dataclass(frozen=True)
 class Cut:
-    """A power loss in a write call, of which from `least` to `most` were made since it was armed."""
+    """A power loss armed for write call `count`. From `least` to `most` calls were made since it was armed."""
 
     count: int
     least: int = 0
@@ -206,8 +206,8 @@ class Cut:
 
 @dataclasses.dataclass(frozen=True)
 class World:
-    """A device and its power. `state` is None where the device is dead. `is_clean` says whether its memory is clean, or
-    None where that is not known; `has_written` says whether it may have written."""
+    """A device and its power. `state` is None if the device is dead. `is_clean` says whether its memory is clean, or
+    None if that is not known; `has_written` says whether it may have written."""
 
     state: State | None
     is_clean: bool | None = True
@@ -322,7 +322,7 @@ ASKED = {"status": status, "go": go, "command": command, "put": put, "get": get,
 
 
 def answered(world, event):
-    """The reply where power holds, whether the event writes, and the world after it."""
+    """The reply if power holds, whether the event writes, and the world after it."""
     if event.word == "off":
         return "off", NO, dataclasses.replace(world, phase=OFF, level=0)
     if event.word == "tamper":

@@ -5,7 +5,7 @@ from lms import PrivateKey, sha256, u8, u16, u32
 KINDS = {"establish": 1, "surrender": 2, "load": 3, "emergency": 4, "newkey": 5}
 TRUSTS = {"always": 0, "never": 1, "countersigned": 2}
 KEY_KINDS = {"epoch": 0, "configuration": 1}
-# An order that gives two trusts which differ has the number of its kind and this more.
+# An order that gives two trusts that differ has the number of its kind plus this.
 TWO_TRUSTS = 16
 
 

@@ -7,7 +7,7 @@ from chains import ALWAYS, COUNTERSIGNED, EMERGENCY, ESTABLISH, LOAD, SURRENDER
 from lms import u8, u16
 
 NEW_KEY = 5
-# An order whose two trusts differ has the number of its kind and this more.
+# An order whose two trusts differ has the number of its kind plus this.
 DIFFER = 16
 # the longest code, and the longest signature
 CODE, SIGNATURE = 32_768, 9_324

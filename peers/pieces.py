@@ -23,7 +23,7 @@ class Fields:
         self.text, self.at = text, 0
 
     def number(self, width, allowed):
-        """A number of so many bytes, which is one of the allowed."""
+        """A number of `width` bytes, which is one of the allowed."""
         for known in range(1, width + 1):
             if self.at + known > len(self.text):
                 raise Lacks(self.at)
@@ -89,8 +89,8 @@ class Fields:
 
 
 def answer(text):
-    """What an order's bytes come to: the offset that fails and the number of bytes that show it; or the offset that lacks
-    bytes; or nothing for an order."""
+    """What an order's bytes come to: the offset that fails and the number of bytes that show it; or the offset that
+    lacks bytes; or nothing for an order."""
     try:
         Fields(text).order()
     except (Fails, Lacks) as end:
@@ -109,7 +109,7 @@ def rows_of(source, name):
 
 
 def orders_in_pieces(source):
-    """Bytes that fail as an order, and those that begin one, with the place and how many bytes show it."""
+    """Bytes that fail as an order, and those that begin one, with the offset and how many bytes show it."""
     for name in ("FAILING", "BEGINNINGS"):
         for text, wanted in rows_of(source, name):
             source.compare(f"{name}, {text[:16].hex()}", answer(text), wanted)

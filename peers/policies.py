@@ -1,5 +1,5 @@
 #!/usr/bin/env python3
-"""A relying party's policy: read, and asked what it comes to for what a chain says of a key. Written from
+"""A relying party's policy: read, and judged for what a chain says of a key. Written from
 docs/use/formats.md and docs/use/commands.md alone, over the chains of chains.py.
 
     policies.py trust ROOT CHAIN KEYNUMBER POLICY    what `miniboot trust` says
@@ -18,7 +18,8 @@ NAME = re.compile(rb"[\x21-\x7e]{1,32}")
 KINDS = {b"epoch": 0, b"configuration": 1}
 TRUSTS = {word.encode(): trust for trust, word in enumerate(chains.TRUSTS)}
 
-# one configuration: the life of the key, its statement or none, the configuration's index in the list, number and layers
+# one configuration: the life of the key, its statement or none, and the configuration's index in the list, number and
+# layers
 Situation = collections.namedtuple("Situation", "life statement index number layers")
 
 

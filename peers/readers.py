@@ -111,7 +111,7 @@ def commands_orders(source):
 
 
 def records_with_trusts(source):
-    """Layers and entries of version 2, and bytes that are no entry, with the place at which each fails."""
+    """Layers and entries of version 2, and bytes that are no entry, with the offset at which each fails."""
     key = "0000000500000003" + "{0}" * 16 + "{1}" * 32
     keys = {n: bytes.fromhex(key.format(n, n + 1)) for n in (11, 21, 31, 43, 45)}
     reliable = {"owner": keys[11], "code": b"\x13" * 32, "version": 258, "reliable": True}

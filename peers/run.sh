@@ -1,7 +1,7 @@
 #!/usr/bin/env bash
 # Computes the outside values of the tests and examples anew, by an LMS in Python that is written from RFC 8554 alone,
 # and prints how many of each source agree; then compares what the built program generates, and comes to when it serves
-# that, with a workload that is made and served in Python: run.sh [PROGRAM]. Fails where something differs. It is no part
+# that, with a workload that is made and served in Python: run.sh [PROGRAM]. Fails if something differs. It is no part
 # of the gate, and writes in a temporary folder alone, which it removes.
 set -euo pipefail
 

@@ -63,7 +63,7 @@ def turned(text):
 
 
 def verifies(source, what, key, text, signature):
-    """The signature is one of the text, and not of another text, under another key, or with its last bit turned."""
+    """The signature is one of the text, and not of another text, under another key, or with its last bit flipped."""
     others = [(key, text + b"\0", signature), (turned(key), text, signature), (key, text, turned(signature))]
     found = [verify(key, text, signature)] + [verify(*other) for other in others]
     source.compare(what, found, [True, False, False, False])

@@ -1,6 +1,6 @@
 """Drafts, order lines, statement lines and scripts, read from the formats alone.
 
-A text is given as bytes. What is wrong with one is told by its first wrong line, from 1.
+A text is given as bytes. What is wrong with one is reported by its first wrong line, from 1.
 """
 
 import dataclasses
@@ -11,7 +11,7 @@ from lms import u8, u32
 from orders import CODE, COUNTERSIGNED, DIFFER, EMERGENCY, ESTABLISH, LOAD, NEW_KEY, SURRENDER, NoOrder, read_order
 
 MOST_EVENTS = 65_536
-# `cutat` serves so many events more than a script has.
+# how many more events `cutat` serves than a script has
 EVENTS_OF_A_CUT = 3
 MOST_TARGETS = 8
 KINDS = {b"establish": ESTABLISH, b"surrender": SURRENDER, b"load": LOAD, b"emergency": EMERGENCY, b"newkey": NEW_KEY}
@@ -44,7 +44,7 @@ def number(word, most=2**32 - 1, least=0):
 
 
 def hexadecimal(word, least=0, most=None):
-    """The bytes that a word stands for, of which there are from `least` to `most`."""
+    """The bytes that a word spells, from `least` to `most` of them."""
     if word == b"-":
         bytes_ = b""
     elif re.fullmatch(rb"([0-9A-Fa-f]{2})+", word):
@@ -274,7 +274,8 @@ def read_script(text):
 
 
 def read_uncut_script(text):
-    """The events of a script whose last event can be cut, or BadLine. The grammar of the whole script is tried first."""
+    """The events of a script whose last event can be cut, or BadLine. The grammar of the whole script is tried
+    first."""
     events = numbered_events(text)
     for count, (at, event) in enumerate(events, 1):
         if event.word == "cut" or count > MOST_EVENTS - EVENTS_OF_A_CUT:

@@ -19,7 +19,7 @@ class Host:
         self.files, self.orders = dict(files), {}
 
     def does(self, command, *names):
-        """What the command prints where it is done."""
+        """What the command prints when it is done."""
         if command == "keygen":
             officer = Officer(self.files[names[0]])
             self.files[names[1]], self.files[names[2]] = officer.key_file(), officer.public()

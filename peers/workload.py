@@ -150,20 +150,20 @@ def workload(number, rounds):
 
 
 class Writing(Served):
-    """A device that serves a script, and its memory as its writes leave it. An order writes its code into the slot of its
-    layer that is not named, and its header into header area 1; then its entries into the sectors of the log, and the
-    header that counts them into area 0. Each area of the root is in force in turn."""
+    """A device that serves a script, and its memory as its writes leave it. An order writes its code into the slot of
+    its layer that is not named, and its header into header area 1; then its entries into the sectors of the log, and
+    the header that counts them into area 0. The areas of the root are current in turn."""
 
     def __init__(self, world, device, draws):
         super().__init__(world, device, draws)
         self.flash = Flash(device.image()[:FLASH])
         # the slot in which each layer's code stands
         self.slots = device.slots()
-        # of regions 2 and 3: whether the second area is in force
+        # of regions 2 and 3: whether the second area is current
         self.selectors = {2: 0, 3: 0}
 
     def written_regions(self, line):
-        """The regions that an order writes: where it makes a key, and else its layer's and those above."""
+        """The regions that an order writes: its layer's, and, unless it makes a key, those above."""
         first = self.world.order_of(line)[0].splitlines()[0].split(" ")
         layer = int(first[2])
         return [m for m in (2, 3) if (m == layer if first[1] == "newkey" else m >= layer)]
@@ -199,7 +199,7 @@ class Writing(Served):
         return super().sign(line, layer, *words)
 
     def image(self):
-        """The image at the end, in which areas that are not in force are blank."""
+        """The image at the end, in which inactive areas are blank."""
         selectors = [0, self.selectors[2], self.selectors[3]]
         bbram = bytearray(BBRAM)
         bbram[0:4] = u8(0xA5) + bytes(selectors)
@@ -254,7 +254,7 @@ class Comparison:
             print(f"generate: {what}: {wanted} here, {found} by the program")
 
     def compare_lines(self, what, found, wanted):
-        """Of lines that differ the first is shown."""
+        """Shows the first line that differs."""
         rows = enumerate(itertools.zip_longest(found, wanted), 1)
         at = next((number for number, (here, there) in rows if here != there), None)
         first = slice(at and at - 1, at)

@@ -47,7 +47,7 @@ def time_of(words, folder):
 
 
 def time_of_step(words, folder):
-    """How long a step takes, in nanoseconds: words(STEPS) are those of a run of so many."""
+    """How long a step takes, in nanoseconds: words(STEPS) are those of a run of that many."""
     return (time_of(words(STEPS), folder) - time_of(words(1), folder)) / (STEPS - 1) * 1e9
 
 

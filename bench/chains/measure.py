@@ -18,7 +18,7 @@ import device  # noqa: E402
 from lms import D_MESG, Chains, sha256, u16  # noqa: E402
 
 ROUNDS = 5
-# a round of a short chain is so many calls
+# the number of calls in a round, by the entries of the chain
 CALLS = {8: 20, 128: 3}
 W4 = Chains(3)
 
@@ -35,7 +35,7 @@ class Bench:
         self.program, self.folder = program, folder
 
     def time(self, count, *words):
-        """The time of a call, which is made so many times in a round, and what it prints."""
+        """The time of a call, which is made `count` times in a round, and what it prints."""
         times = []
         for _ in range(ROUNDS):
             began = spent()
@@ -48,7 +48,8 @@ class Bench:
 
 
 def hashes(key, text, signature):
-    """The hashes of verifying a signature of types 5 and 3: of the text, the chains, their ends, the leaf and the path."""
+    """The hashes of verifying a signature of types 5 and 3: of the text, the chains, their ends, the leaf and the
+    path."""
     identifier, leaf = key[8:24], signature[:4]
     hashed = sha256(identifier, leaf, u16(D_MESG), signature[8:40], text)
     return 1 + sum(W4.last - steps for steps in W4.spread(hashed)) + 2 + 5

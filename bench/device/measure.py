@@ -70,7 +70,7 @@ class Bench:
         return min(times[1]) - min(times[0])
 
     def more(self, image, before, events, wanted):
-        """How much longer a run takes with some more events, whose replies all begin so."""
+        """How much longer a run takes with some more events, whose replies all begin with `wanted`."""
         alone, _ = self.time(image, *before, "off")
         both, replies = self.time(image, *before, *events, "off")
         told = replies[len(before) : -1]
@@ -85,13 +85,13 @@ class Bench:
         return replies[-1] == "stopped", image
 
     def counts(self, event, count):
-        """Whether the event counts where power failed in this write: its log is longer then."""
+        """Whether the event counts if power fails in this write: the log is longer then."""
         shown = self.program.serve(self.cut(event, count)[1], Script().add("boot", "status"))[0][-1]
         return shown.split(" ")[3] == event.reply.split(" ")[2]
 
 
 def first_that(holds, low, high):
-    """The first number from low to high of which this holds, where it holds of all from it on; high, where of none."""
+    """The first number from low to high for which this holds, if it holds for all from there on; high, if for none."""
     while low < high:
         middle = (low + high) // 2
         low, high = (low, middle) if holds(middle) else (middle + 1, high)
@@ -153,7 +153,7 @@ def measure_one_boot(table, bench, life, image):
 
 
 def turned(line):
-    """An order whose signature has the lowest bit of the last node of its path turned."""
+    """An order whose signature has the lowest bit of the last node of its path flipped."""
     return f"{line[:-3]}{int(line[-3], 16) ^ 1:x}{line[-2:]}"
 
 

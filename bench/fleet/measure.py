@@ -20,11 +20,11 @@ import fleet  # noqa: E402
 from lms import D_MESG, Chains, sha256, u8, u16, u32  # noqa: E402
 
 RUNS, KEYS = 5, 20
-# a file of items has at most so many bytes
+# the most bytes of a file of items
 LONGEST = chains.LONGEST_FILE
-# the hashes of a public key, of which `keygen` tells the time of one
+# the hashes of a public key; `keygen` shows the time of one
 TREE = 34_399
-# registers of so few devices are compared with full ones
+# the number of devices in the small registers that are compared with full ones
 FEW = 8
 W4 = Chains(3)
 
@@ -35,7 +35,8 @@ def spent():
 
 
 def hashes(key, text, signature):
-    """The hashes of verifying a signature of types 5 and 3: of the text, the chains, their ends, the leaf and the path."""
+    """The hashes of verifying a signature of types 5 and 3: of the text, the chains, their ends, the leaf and the
+    path."""
     identifier, leaf = key[8:24], signature[:4]
     hashed = sha256(identifier, leaf, u16(D_MESG), signature[8:40], text)
     return 1 + sum(W4.last - steps for steps in W4.spread(hashed)) + 2 + 5
@@ -64,8 +65,8 @@ class Devices:
         return b"MBC1" + u16(count) + self.births[serial] + b"".join(self.rest[: count - 1]) + u8(0)
 
     def files(self, count):
-        """Files of items, each as long as a file may be, that show the first entries of each device: what the file is, and
-        the serials in it."""
+        """Files of items, each as long as a file may be, that show the first entries of each device: what the file is,
+        and the serials in it."""
         items, serials = b"", []
         for serial in self.births:
             item = fleet.shows(self.chain(serial, count))
@@ -109,7 +110,7 @@ class Program:
         return time
 
     def each(self, register, items, wanted, count):
-        """The least time of one of so many items, without that of a call with no items."""
+        """The least time of one of `count` items, without that of a call with no items."""
         alone = min(self.serve(register, b"", []) for _ in range(RUNS))
         return (min(self.serve(register, items, wanted) for _ in range(RUNS)) - alone) / count
 
@@ -121,7 +122,7 @@ def verifying(program, chain, alone):
 
 
 def show_all(program, devices, word, count, hash_time, alone):
-    """Shows the first entries of each device, and tells the shares of verifying the chains and of the hashes in it."""
+    """Shows the first entries of each device, and prints the shares of verifying the chains and of the hashes in it."""
     time, calls = 0, 0
     for items, serials in devices.files(count):
         time += program.serve("register", items, [f"{word} {serial.hex()} {count}" for serial in serials])
@@ -135,7 +136,7 @@ def show_all(program, devices, word, count, hash_time, alone):
 
 
 def made_register(count):
-    """A register of so many devices of 128 entries, each of which has code of its own in layer 3."""
+    """A register of `count` devices of 128 entries, each of which has code of its own in layer 3."""
     rows = {}
     for number in range(count):
         code, hashed = sha256(b"code", u32(number)), tuple(sha256(u32(number), u8(entry)) for entry in range(128))

@@ -67,15 +67,15 @@ def full_policy():
 
 
 def joined(word, leaf, count):
-    """So many tests, joined by a word in a tree as flat as can be."""
+    """`count` tests, joined by a word in a tree as flat as can be."""
     if count == 1:
         return leaf
     return f"{word} {joined(word, leaf, count // 2)} {joined(word, leaf, count - count // 2)}"
 
 
 def largest_policy(begins, word, leaf):
-    """As many tests as a file holds, in rules that deny, each of which is tried to its end and does not hold; and how many
-    these are."""
+    """As many tests as a file holds, in rules that deny, each of which is tried to its end and does not hold; and how
+    many these are."""
     first, last, rules = hash_set(0), "allow all alive\n", 254
     room = (FILE_LIMIT - len(first) - len(last)) // rules - len(f"deny r000 {begins}\n")
     count = (room + len(f"{word} ")) // len(f"{word} {leaf} ")

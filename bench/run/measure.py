@@ -1,6 +1,6 @@
 #!/usr/bin/env python3
-"""Measures a workload of the built program: measure.py PROGRAM ROUNDS. See bench/run.sh, which runs it in a folder of its
-own.
+"""Measures a workload of the built program: measure.py PROGRAM ROUNDS. See bench/run.sh, which runs it in a folder of
+its own.
 
 The time of some events is that of a run with them less that of a run without them, so that reading and writing the
 files is no part of it. The write calls are found by arming a power loss: the last that falls is in the last write.
@@ -14,7 +14,7 @@ import sys
 
 RUNS = 5
 KEYS = 20
-# each put is given so often, since one takes far less than what a run differs from the next
+# how often each put is given, since one takes far less than what a run differs from the next
 PUTS = 200
 # a power loss is armed for at most this write call
 MOST_WRITES = 100_000
@@ -38,7 +38,7 @@ class Program:
         return done.stdout.splitlines()
 
     def time(self, runs, *words):
-        """The least time of so many calls, in seconds of the processor."""
+        """The least time of `runs` calls, in seconds of the processor."""
         times = []
         for _ in range(runs):
             began = spent()
@@ -87,7 +87,7 @@ class Workload:
         return "stopped" in self.serve([f"cut {count} fill 00", *lines])
 
     def compare_summary(self):
-        """The summary tells what serving the files comes to."""
+        """The summary says what serving the files comes to."""
         replies = self.serve(self.lines)
         found = {"events": len(replies)}
         for word in ("done", "signed", "refused"):
@@ -113,7 +113,8 @@ def kind_of(order):
 
 
 def hashes(lines):
-    """The hashes of the trees and signatures: of the image's device key, of the orders, and of the signatures of layers.
+    """The hashes of the trees and signatures: of the image's device key, of the orders, and of the signatures of
+    layers.
 
     The tree of the device key is kept from the first order of a boot on, that of a region's key from a signature to the
     next order or signature of another key.

@@ -22,7 +22,7 @@ from officer import Officer, body, countersigned_text, order, order_line, signed
 
 NO_MEMORY = 6, "no memory\n"
 LIKE_OTHERS, LACKS = "as without a failure", "status 6"
-# the events that may be answered `no memory`, of which each does so at some allocation
+# the events that may be answered `no memory`, as each is at some allocation
 EVENTS = "boot", "command", "put", "get", "sign"
 GIVEN_UP = 600
 
@@ -82,7 +82,7 @@ class Life:
         return self.owners[owner].key.sign(self.used[owner] - 1, text)
 
     def files(self, without=None):
-        """The files of the run, of which one event and its noise may be left out."""
+        """The files of the run; the event `without` and its noise are left out."""
         events = [event for at, event in enumerate(self.events) if at != without]
         return {
             "image": self.image,
@@ -125,7 +125,7 @@ class Runner:
 
 
 def kind_of_end(end, usual, files, words):
-    """What an end with a failing allocation is, or None where it may not come."""
+    """What an end with a failing allocation is, or None if it may not come."""
     if end == usual:
         return LIKE_OTHERS
     if (end.status, end.printed) == NO_MEMORY:
@@ -138,7 +138,7 @@ def kind_of_end(end, usual, files, words):
 
 
 def kind_of_life(runner, life, end):
-    """The event that was answered `no memory` in a life that else goes as it does without that event, or None."""
+    """The event that was answered `no memory` in a life that otherwise goes as without that event, or None."""
     replies = end.printed.splitlines()
     wanting = [at for at, reply in enumerate(replies) if reply == "no memory"]
     if end.status != 0 or len(wanting) != 1 or wanting[0] >= len(life.events):
@@ -191,7 +191,7 @@ def try_life(runner, pool):
 
 
 def try_all(runner, pool):
-    """Of how many allocations, and in how many runs, something was wrong."""
+    """For how many allocations, and in how many runs, something was wrong."""
     found = [try_life(runner, pool)]
     sample = hostile.sample()
     for command in hostile.COMMANDS:

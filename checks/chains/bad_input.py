@@ -19,11 +19,11 @@ import forged  # noqa: E402
 from device import owned  # noqa: E402
 
 RANDOM = 400
-# one call has to end within so many seconds of the processor, and is given up after so many of the clock
+# the seconds of processor time within which a call has to end, and those by the clock after which it is given up
 MOST_SECONDS, GIVEN_UP = 1, 60
-# so many numbers of a kind are tried by a process at a time
+# how many numbers of a kind a process tries at a time
 CHUNK = 250
-# where a chain's entries are cut or turned, `attach` and `audit` are tried once in so many times
+# how seldom `attach` and `audit` are tried on chains with cut or flipped entries: once in this many times
 SELDOM = 32
 MESSAGE = b"a message"
 
@@ -96,7 +96,7 @@ class Good(Kind):
 
 
 class Random(Kind):
-    """Random bytes, of which each other begins as a chain does. Those at first are few."""
+    """Random bytes; every other time they follow the beginning of a chain. The first are few."""
 
     def count(self):
         return RANDOM
@@ -144,7 +144,7 @@ class Cut(Kind):
 
 
 class Turned(Kind):
-    """A chain of which one bit is turned."""
+    """A chain with one bit flipped."""
 
     def count(self):
         return 8 * len(self.offsets)
@@ -160,7 +160,7 @@ class Turned(Kind):
 
 
 class StatementLine(Kind):
-    """The line of a statement that ends early, or of which one bit is turned."""
+    """The line of a statement that ends early, or has one bit flipped."""
 
     def count(self):
         return len(self.files["statement"])

@@ -40,7 +40,7 @@ def chain(log, statement=b""):
 
 class Forger:
     """A device whose three layers run, with one key of layer 3, which has the number 1, and whose device key signs one
-    entry more. Its log has at least so many entries, and its key has signed so many or more."""
+    entry more. Its log has at least `length` entries, and its device key has at least `used` uses."""
 
     def __init__(self, used=0, version=2, length=0):
         self.device = owned(version=version)
@@ -80,7 +80,7 @@ class Forger:
         return self.signed(succession(position, self.other.public()), index)
 
     def without(self, layer):
-        """The layers where one is given up."""
+        """The layers after one is given up."""
         layers = [self.device.layers[n] for n in (1, 2, 3)]
         layers[layer - 1] = UNOWNED
         return layers
@@ -161,7 +161,7 @@ def keys(f):
 
 
 def last_indices(f):
-    """One entry more by a device key of which the last index is left."""
+    """One entry more by a device key with only its last index left."""
     n = len(f.device.log)
     yield "a succession by the last index", None, f.succeeded()
     yield "a succession in the wrong position", f"refused 22 {n}", f.succeeded(position=0)
@@ -231,8 +231,8 @@ def trusts():
 
 
 def loaded_beneath(f, layer, cosigned, kept, goes_along):
-    """A load of layer 1 or 2 by which layer 3 keeps its region and stays reliable, or not; which of both is right depends
-    on whether layer 3 goes along."""
+    """A load of layer 1 or 2 over which layer 3 keeps its region and stays reliable, or does not. Which is right
+    depends on whether layer 3 goes along."""
     layers = f.loaded(layer)
     layers[2] = dict(layers[2], reliable=kept)
     key = f.other.public() if layer == 1 else None
@@ -262,7 +262,7 @@ def ended(f):
 
 
 def living():
-    """Statements of an epoch key after an emergency beneath, and of keys of a configuration."""
+    """Statements of an epoch key after an emergency beneath, and of configuration keys."""
     f = Forger()
     f.device.load(2, EMERGENCY)
     yield "an epoch key after an emergency beneath", None, f.stated()
@@ -297,7 +297,7 @@ def all_chains():
 
 
 def last_chains():
-    """Chains whose last entry has the last possible place."""
+    """Chains whose last entry has the last possible position."""
     yield from loads(Forger(length=MOST - 1))
     yield from keys(Forger(length=MOST - 1))
     yield from statements(Forger(length=MOST))

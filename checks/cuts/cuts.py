@@ -17,13 +17,13 @@ from program import Program, Script, Wrong, is_dead, meaning
 
 FILLS = "00", "ff", "7e", "01"
 KEEPS = 3, 100, 2048, 4095
-# as often at most an event is given again in one run
+# how often at most an event is given again in one run
 TIMES = 20
 # an event with more writes than these has its boots cut after some of them alone
 MANY = 26
 # An event has at most 35 write calls.
 MOST_WRITES = 35
-# Where it is armed and no event follows with as many write calls, a power loss is as good as none.
+# A power loss that is armed for more write calls than any event makes is as good as none.
 DISARMED = "cut 100000 fill 00"
 
 
@@ -32,7 +32,7 @@ def cut(count, fill, keep=0):
 
 
 def boots(counts, fill):
-    """Boots of which each is cut at one of these writes, where it has as many."""
+    """Boots, each cut at one of these writes if it has as many."""
     return itertools.chain.from_iterable((cut(count, fill), "boot", "off") for count in counts)
 
 
@@ -70,9 +70,9 @@ class Cutter:
     def __init__(self, program, life, number, sparse):
         self.program, self.life, self.event = program, life, life.events[number]
         self.next = life.events[number + 1] if number + 1 < len(life.events) else None
-        # Where it is sparse, boots are cut after fewer of the first cuts.
+        # If it is sparse, boots are cut after fewer of the first cuts.
         self.sparse = sparse
-        # how many cuts were made, how often `cutat` was asked, and whether the event counted after one of the cuts
+        # how many cuts were made, how often `cutat` was called, and whether the event counted after one of the cuts
         self.made, self.asked, self.counted = 0, 0, False
         after = self.next.image if self.next else life.image
         self.old, self.new = self.reference(self.event.image), self.reference(after)
@@ -81,7 +81,7 @@ class Cutter:
         self.stays = meaning(self.event.image) == meaning(after)
         self.check_references()
 
-    # ---- what follows where power holds
+    # ---- what follows if power holds
 
     def view(self):
         return ["boot", "status", *(f"get {layer} {name}" for layer, name in self.life.names), "off"]
@@ -94,8 +94,8 @@ class Cutter:
         return [*self.again(), "off", *([*opening(self.next.level), self.next.line] if self.next else ["boot"])]
 
     def reference(self, image):
-        """What a device with this image shows; how it answers the event alone, and what it is then; and the same of the
-        event and the next one."""
+        """What a device with this image shows; how it answers the event alone, and what it is then; and the same for
+        the event and the next one."""
         alone = Answers(self.program, image, Script().add(*self.view(), *self.again()))
         both = Answers(self.program, image, Script().add(*self.view(), *self.ending()))
         view = alone.take(len(self.view()))
@@ -130,7 +130,7 @@ class Cutter:
         return stopped
 
     def take_boots(self, answers, count):
-        """So many boots that may have been cut. Whether the first was."""
+        """Takes the replies of `count` boots that may have been cut. Whether the first was."""
         cuts = []
         for _ in range(count):
             answers.expect("armed")
@@ -140,7 +140,7 @@ class Cutter:
         return cuts[:1] == [True]
 
     def shows(self, answers):
-        """Which states it may be, by what the device shows."""
+        """The states that the device may be in, by what it shows."""
         answers.expect("armed")
         view = answers.take(len(self.view()))
         fitting = [state for state in (self.old, self.new) if state[0] == view]
@@ -149,8 +149,8 @@ class Cutter:
         return fitting
 
     def ends(self, answers, fitting, which):
-        """The event, and the next one where `which` is 2, are answered as in a state of these, and lead to its end.
-        Which states of these it may have been."""
+        """The event, and the next one if `which` is 2, are answered as in one of these states, and lead to its end.
+        Answers which of these states it may have been."""
         told, end = answers.replies[answers.at :], meaning(answers.image)
         left = [state for state in fitting if state[which] == (told, end)]
         if not left:
@@ -161,8 +161,8 @@ class Cutter:
         return left
 
     def ask(self, count, fill, left):
-        """Has `cutat` say which state a cut leaves: one that it may have been, the old one where both are the same, or
-        none where the event was not stopped."""
+        """Has `cutat` say which state a cut leaves: one that it may have been, the old one if both are the same, or
+        none if the event was not stopped."""
         wanted = {"old" if state is self.old or self.stays else "new" for state in left} or {"unstopped"}
         script = Script().add(*self.again())
         verdict = self.program.verdict(self.event.image, script, count, fill)
@@ -172,7 +172,7 @@ class Cutter:
             raise Wrong(what, self.event.image, script)
 
     def try_alone(self, count, fill, keep, which):
-        """Cuts the event: the states that it may then be in, or none where it was not stopped."""
+        """Cuts the event: the states that it may then be in, or none if it was not stopped."""
         rest = self.ending() if which == 2 else self.again()
         script = Script().add(*self.cut_event(count, fill, keep), DISARMED, *self.view(), *rest)
         answers = Answers(self.program, self.event.image, script)
@@ -187,7 +187,7 @@ class Cutter:
 
     def writes(self, fill, which=1, keep_of=lambda count: 0):
         """Cuts the event at each of its writes: how many, and the first of them after which it may have counted, or the
-        last. Where `which` is 2, the next event of the life follows each time."""
+        last. If `which` is 2, the next event of the life follows each time."""
         first = None
         for count in range(1, MOST_WRITES + 2):
             fitting = self.try_alone(count, fill, keep_of(count), which)
@@ -276,7 +276,7 @@ class Cutter:
 
 
 class Works:
-    """The trials of all events, by as many processes of the program at a time as are asked for."""
+    """The trials of all events, by `processes` processes of the program at a time."""
 
     def __init__(self, path, folder, processes):
         self.path, self.folder, self.processes = path, folder, processes
@@ -296,7 +296,7 @@ class Works:
         return cutter.event.name, writes, (cutter.made, cutter.asked), time.monotonic() - began
 
     def all(self, works):
-        """Prints a line for each event, and gives the numbers of cuts and of questions to `cutat`."""
+        """Prints a line for each event, and gives the numbers of cuts and of calls of `cutat`."""
         total = 0, 0
         with concurrent.futures.ThreadPoolExecutor(self.processes) as pool:
             try:
@@ -323,7 +323,7 @@ def made_lives(program, peers):
 
 
 def show(wrong):
-    """Tells what was wrong, and keeps the files that show it."""
+    """Prints what was wrong, and keeps the files that show it."""
     print(wrong)
     if not wrong.script:
         return

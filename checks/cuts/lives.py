@@ -1,4 +1,4 @@
-"""Lives of devices: what each event is, the image before it, and how it is answered where power holds."""
+"""Lives of devices: what each event is, the image before it, and how it is answered if power holds."""
 
 import hashlib
 import sys
@@ -34,7 +34,7 @@ class Life:
     def __init__(self, program, image, officers, length, names):
         self.program, self.image, self.officers, self.length = program, image, officers, length
         self.events = []
-        # the names of which each region is asked
+        # the layers and names that are read
         self.names = names
 
     def order(self, first, rest="", by=1, cosigned=()):
@@ -116,8 +116,8 @@ def first_life(program):
 
 
 def trusting_life(program, peers):
-    """A device with a log of version 1, which `peers/device.py` makes, and whose next change is of version 2: layer 3 then
-    trusts changes of layer 1 and not those of layer 2."""
+    """A device with a log of version 1, which `peers/device.py` makes, and whose next change is of version 2: layer 3
+    then trusts changes of layer 1 and not those of layer 2."""
     sys.path.insert(0, peers)
     import device
 

@@ -18,7 +18,7 @@ class Wrong(Exception):
 
 
 class Script:
-    """Events in turn. Each order has its noise, by which the same order makes the same keys wherever it is given."""
+    """Events in turn. Each order has its noise, so that the same order makes the same keys wherever it is given."""
 
     def __init__(self):
         self.lines, self.noise = [], b""
@@ -65,7 +65,7 @@ class Program:
 
 
     def verdict(self, image, script, count, fill):
-        """What `cutat` says of a power loss in the last event of a script. It writes no file."""
+        """What `cutat`, which writes no file, says of a power loss in the last event of a script."""
         script.write(self.folder, image)
         try:
             lines = self.run("cutat", "image", "script", "noise", str(count), fill)
@@ -104,7 +104,7 @@ def record_in(area):
 
 
 def areas(image, number):
-    """The area in force of the root, region 2 or region 3, and the other one."""
+    """The current area of the root, region 2 or region 3, and the inactive one."""
     bbram = image[FLASH:]
     first = AREA * (1 + 2 * number)
     both = [bbram[first : first + AREA], bbram[first + AREA : first + 2 * AREA]]
@@ -113,7 +113,7 @@ def areas(image, number):
 
 
 def code_at(image, layer, slot):
-    """The code of a layer by its slot in the header, a byte and four of its length; None where no slot is named."""
+    """The code of a layer by its slot in the header, a byte and four of its length; None if no slot is named."""
     if slot[0] == 0:
         return None
     start = SECTOR * (2 + 16 * (layer - 1) + 8 * (slot[0] - 1))
@@ -132,9 +132,9 @@ def public_in(image, area):
 
 
 def meaning(image):
-    """What a device's image stands for where its memory is clean: its records but for the header area, codes and log.
+    """What a device's image means if its memory is clean: its records but for the header area, codes and log.
 
-    None where the memory is not clean: where work is pending, or something was left behind."""
+    None if the memory is not clean: work is pending, or something was left behind."""
     if image[FLASH] != LIFE or any(image[FLASH + 4 : FLASH + AREA]):
         return None
     records = []

@@ -21,7 +21,7 @@ KIND_WORDS = {1: "establish", 2: "surrender", 3: "load", 4: "emergency", 5: "new
 MESSAGES = b"", b"a", b"hello", b"m" * 127, b"m" * 128
 OUTPUTS = "out", "key", "public", "image", "script", "noise", "register"
 NUMBERS = "01", "-1", "+1", "1 ", "4294967296", "4294967295", "0", "1", "4", "25", "x", "2.0"
-# so often each command is tried
+# how often each command is tried
 SHARES = {
     "run": 44,
     "cutat": 12,
@@ -153,7 +153,7 @@ class Maker(Tools):
             case.files[name] = case.files[name].ljust(LONGEST_FILE + self.rng.randrange(2), b"\n")
 
     def join_names(self, case):
-        """One name stands for two files."""
+        """One name is given for two files."""
         names = [at for at, word in enumerate(case.words) if at and not word.isdigit()]
         if len(names) > 1:
             one, other = self.rng.sample(names, 2)
@@ -312,7 +312,7 @@ class Maker(Tools):
         return spoil.spoilt_record(rng, order.spelled(), read_whole_order)
 
     def signed_anew(self, state, order):
-        """An order of which a field of the body is turned, and which is signed again as it is then."""
+        """An order with a field of its body changed, and then signed again."""
         rng = self.rng
         body = spoil.spoilt_field(rng, order.body, spoil.fields_of(order.body, orders.read_body))
         try:
@@ -348,7 +348,7 @@ class Maker(Tools):
         return chains.Statement(stated, message, signature)
 
     def forged(self, entries, maker):
-        """Entries that are turned, exchanged, repeated or left out, each of which is then signed where it stands."""
+        """Entries that are changed, exchanged, repeated or left out, each then signed where it stands."""
         rng, texts_ = self.rng, [text for text, _ in entries]
         how, at = rng.randrange(8), rng.randrange(len(texts_))
         at = rng.choice((at, len(texts_) - 1))
@@ -546,7 +546,7 @@ def read_whole_order(reader):
 
 
 def with_position(text, position):
-    """An entry with another position, where it has one."""
+    """An entry with another position, if it has one."""
     return text[:1] + u32(position) + text[5:] if text[:1] in (b"\1", b"\2", b"\3", b"\x11") else text
 
 

@@ -20,7 +20,7 @@ import commands  # noqa: E402
 import pool  # noqa: E402
 from lms import sha256  # noqa: E402
 
-# after so many seconds of the clock a call is given up, and has this status
+# the seconds by the clock after which a call is given up, and the status that it then has
 GIVEN_UP, GAVE_UP = 60, -1
 HERE = pathlib.Path(__file__).resolve().parent
 IMAGE_PLACES = "length", "root", "public", "region 2", "region 3", "state"
@@ -101,7 +101,7 @@ class Runner:
 
 
 class Untold(Exception):
-    """The prediction cannot tell what should come."""
+    """The prediction does not say what should come."""
 
 
 def wrong_in(case, answer, found, after, folders):
@@ -135,7 +135,7 @@ def wrong_files(case, written, after):
 
 
 def wrong_in_run(case, served, status, printed, after):
-    """The same of a run that served events, which then writes its image and prints."""
+    """What is wrong with a run that served events, which then writes its image and prints, or None."""
     others = wrong_files(case, {served.name: None}, after)
     if others:
         return others
@@ -155,7 +155,7 @@ def wrong_in_run(case, served, status, printed, after):
 
 
 def only_replies(served):
-    """The replies of a run that were not printed, where no other could have come."""
+    """The replies of a run that were not printed, if no others could have come."""
     replies, worlds = [], served.worlds
     for event in served.events:
         _, possible = commands.machine.follow(worlds, event, None)
@@ -167,7 +167,7 @@ def only_replies(served):
 
 
 class Counts:
-    """How many cases came to what."""
+    """How many cases ended in which way."""
 
     def __init__(self):
         self.statuses, self.lines = collections.defaultdict(collections.Counter), collections.Counter()

@@ -39,7 +39,7 @@ class Signer:
 
 
 class OneLeaf:
-    """An officer of any types, of whose tree one leaf is known: the siblings on its way up are any nodes."""
+    """An officer of arbitrary types, with one known leaf in the tree: the siblings on its path are arbitrary nodes."""
 
     def __init__(self, tree, number, rng):
         self.tree, self.chains = tree, Chains(number)
@@ -120,7 +120,7 @@ class Pool:
         return Life(maker.public(), [images.judged(state)], [])
 
     def grown(self, rng, life, steps):
-        """The life goes on by so many orders that are done."""
+        """Tries `steps` orders on the life, which goes on by those that are done."""
         for _ in range(steps):
             state, draw = life.states[-1], rng.choice(DRAWS)
             order = self.order(rng, state, ())
@@ -132,7 +132,7 @@ class Pool:
         return life
 
     def fork(self, rng, life):
-        """A life that was the same at first."""
+        """A life that begins as this one does, and then goes on by orders of its own."""
         count = rng.randrange(1, len(life.states))
         return self.grown(rng, Life(life.maker, life.states[:count], life.steps[: count - 1]), 5)
 
@@ -165,7 +165,7 @@ class Pool:
     # ---- orders
 
     def order(self, rng, state, twists, kind=None, layer=None):
-        """An order for a device, which it obeys where there are no twists; each twist is the number of a refusal."""
+        """An order for a device, which it obeys if there are no twists; each twist is the number of a refusal."""
         log = state.judged
         if kind is None:
             kind, layer = self.kind_and_layer(rng, log, 12 in twists)
@@ -257,7 +257,7 @@ def spelled_layer(layer, version):
 
 
 def with_differing(text, kind):
-    """A body whose two trusts are spelled, with the number of its kind where they differ, and else one of them."""
+    """A body that is given with two trusts: with the number of its kind for two if they differ, else with one trust."""
     reader = chains.Reader(text, 2)
     for _ in range(reader.number(1)):
         tag = reader.number(1)

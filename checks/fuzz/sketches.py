@@ -45,7 +45,7 @@ class Sketch:
         self.codes = list(state.codes)
 
     def region(self, region):
-        """A region's record, in version 1 now and then, where it can be."""
+        """A region's record, now and then in version 1 if it can be."""
         return region.spelled(1 if len(region.secrets) <= 16 and self.rng.random() < 0.3 else 2)
 
     def leave(self, before, order):
@@ -149,7 +149,7 @@ class Sketch:
         self.patches.append((SECTOR * (LOG + at), spoilt.ljust(len(sector), b"\xff")[:SECTOR]))
 
     def sign_anew(self):
-        """An entry is turned, and has the signature that it then should have."""
+        """An entry is changed, and has the signature that it then should have."""
         if not self.signed:
             return
         at = self.rng.choice((len(self.signed) - 1, self.rng.randrange(len(self.signed))))
@@ -210,7 +210,7 @@ class Sketch:
     # ---- the whole
 
     def litter(self):
-        """What is not in force holds something."""
+        """Inactive areas and spare sectors hold something."""
         rng = self.rng
         spare = [1 - self.area, 50, 191, 255, LOG + len(self.signed)]
         spare += [code_sector(layer, 3 - slot) for layer, slot in enumerate(self.slots, 1)]

@@ -29,13 +29,13 @@ def fields_of(bytes_, read):
 
 
 def turned(rng, bytes_):
-    """One bit is turned."""
+    """Flips one bit."""
     at = rng.randrange(len(bytes_))
     return bytes_[:at] + bytes([bytes_[at] ^ 1 << rng.randrange(8)]) + bytes_[at + 1 :]
 
 
 def number_near(rng, field):
-    """A number of a field's length that is one more or less, or at a limit, or another."""
+    """A number of a field's length: one more or less, a limit, or another."""
     number, most = int.from_bytes(field, "big"), 256 ** len(field) - 1
     near = number + 1, number - 1, 0, 1, 2, 3, 4, most, number + 16, number ^ 1 << rng.randrange(8 * len(field))
     return (rng.choice(near) % (most + 1)).to_bytes(len(field), "big")
@@ -49,7 +49,7 @@ def changed(rng, field):
 
 
 def spoilt_field(rng, bytes_, fields):
-    """One field of a record is turned, cut, repeated, or exchanged for another; mostly it is turned."""
+    """One field of a record is changed, cut, repeated, or exchanged for another; mostly it is changed."""
     if not fields:
         return rng.randbytes(rng.randrange(4))
     at, end = rng.choice(fields)
@@ -69,7 +69,7 @@ def spoilt_field(rng, bytes_, fields):
 
 
 def spoilt_bytes(rng, bytes_):
-    """Bytes of which some are turned, cut, put in or put at the end."""
+    """Bytes with a bit flipped, the end cut off, a byte appended, or a piece repeated."""
     if not bytes_:
         return bytes([rng.randrange(256)])
     how, at = rng.randrange(6), rng.randrange(len(bytes_))

@@ -14,7 +14,7 @@ from lms import sha256, u8, u16, u32
 from orders import read_order
 from pool import DRAWS, NOISES, with_differing
 
-# the makers' seeds, and the greatest number of a maker's endorsements that is asked for
+# the makers' seeds, and numbers of endorsements that are tried
 SEEDS = [hss.seed_of(noise) for noise in NOISES[:3]]
 NUMBERS = 0, 1, 30, 31, 32, 33, 1_023, 1_024
 POLICY_NAMES = b"a", b"known", b"rule", b"default", b"n" * 32, b"~", b"set", b"-"
@@ -106,7 +106,7 @@ class Tools:
         return ["root", "chain", str(number), "policy"], files
 
     def policy(self, life):
-        """A policy of which most lines are in the grammar, with hashes of the life and others."""
+        """A policy with most of its lines in the grammar, with hashes of the life and others."""
         rng, lines, sets, rules = self.rng, [], [], []
         names = list(dict.fromkeys(rng.choice(POLICY_NAMES) for _ in range(5)))
         for name in names[: rng.randrange(3)]:
@@ -137,7 +137,7 @@ class Tools:
         return [each.hex().encode() for each in found]
 
     def test(self, sets, depth):
-        """The words of a test, nested so deep at most."""
+        """The words of a test, nested at most `depth` deep."""
         rng = self.rng
         if depth and rng.random() < 0.6:
             word = rng.choice((b"and", b"or", b"not"))
@@ -212,7 +212,7 @@ class Tools:
         return rng.choice((0, 0, 1, 2, 3, 65, 255, 256, 1_023, 1_024, 2**31, 2**32 - 1, rng.randrange(2**32)))
 
     def instruction(self, name, before):
-        """An instruction; a jump goes to a place where one begins, or to any other."""
+        """An instruction; a jump goes to an offset where one begins, or to any other."""
         rng = self.rng
         byte, size = applications.BY_NAME[name.encode()]
         if size is None:

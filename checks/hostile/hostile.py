@@ -31,13 +31,13 @@ from orders import read_order  # noqa: E402
 
 LONGEST = chains.LONGEST_FILE
 MOST_LINES, MOST_CODE = 65_536, 32_768
-# `cutat` serves so many events more than a script has
+# how many more events `cutat` serves than a script has
 EVENTS_OF_A_CUT = 3
 SECTOR, IMAGE = chains.SECTOR, chains.FLASH + chains.BBRAM
 KEY_FIELDS, PUBLIC_FIELDS = (0, 4, 20, 52), (0, 4, 8, 24)
 # the code `push 65`, `emit`, `halt`
 CODE = bytes.fromhex("01000000414200")
-# so many trials are given to a process at a time, and a call is given up after so many seconds
+# how many trials a process gets at a time, and the seconds after which a call is given up
 CHUNK, GIVEN_UP = 100, 600
 
 
@@ -52,8 +52,8 @@ class Command:
 
 @dataclasses.dataclass(frozen=True)
 class Trial:
-    """A call over changed files. It ends with this status and line, or as peers/commands.py predicts. So many of its
-    outputs are written as ever, and where a write fails the one after them may be anything."""
+    """A call over changed files. It ends with this status and line, or as peers/commands.py predicts. The first
+    `done` of its outputs are written as ever, and if a write fails, the next one may be anything."""
 
     command: Command
     changes: tuple = ()
@@ -211,7 +211,7 @@ def calls_fail(files):
 
 
 def long_inputs(files):
-    """Each input is one byte too long, which its line tells, or as long as it may be."""
+    """Each input is one byte too long, which its line reports, or as long as it may be."""
     for command in COMMANDS:
         for role, name in command.reads:
             yield Trial(command, ((name, "fill", LONGEST + 1),), (3, f"input {role} too long\n"))
@@ -221,7 +221,7 @@ def long_inputs(files):
 
 
 def ends_of_longest(command, role):
-    """The end of a command whose input goes on to the most bytes, where peers/commands.py is not asked for it."""
+    """The end of a command whose input goes on to the most bytes, or None if peers/commands.py predicts it."""
     if (command, role) == (ENDORSE, "key"):
         return (3, "input key at 45\n")
     if role in ("key", "root", "owner"):
@@ -233,7 +233,7 @@ def ends_of_longest(command, role):
 
 
 def short_inputs(files):
-    """Each input ends near its beginning, near its end and at each so many bytes between; an image where sectors begin."""
+    """Each input ends near its beginning, near its end and at regular steps between; an image where sectors begin."""
     for command in COMMANDS:
         for role, name in command.reads:
             for at in offsets_of(role, len(files[name])):
@@ -245,7 +245,7 @@ def short_inputs(files):
         yield Trial(STATED, (("attached", "cut", at),))
 
 
-# inputs of some roles are long, and end at each so many bytes alone
+# the steps at which inputs of long roles end, in bytes
 STEPS = {"image": SECTOR, "chain": 31, "statement": 7, "order": 7, "endorsement": 7, "items": 31}
 NEAR = 40
 
@@ -258,7 +258,7 @@ def offsets_of(role, length):
 
 
 def short_input(command, role, name, bytes_, at):
-    """The trial in which an input ends here, if its end is known to be told."""
+    """The trial in which an input ends here, if its end is known to be reported."""
     change = ((name, "cut", at),)
     fields = {"key": KEY_FIELDS, "owner": PUBLIC_FIELDS, "root": PUBLIC_FIELDS}
     if role in fields:
@@ -285,7 +285,8 @@ def is_told(role, text, at):
 
 
 def last_entries(files):
-    """The last of 128 entries ends at each of its bytes, and each byte has a bit turned. peers/commands.py predicts."""
+    """The last of 128 entries ends at each of its bytes, and each byte has a bit flipped. peers/commands.py
+    predicts."""
     begins = len(forged.chain(longest().log[:-1])) - 1
     for at in range(begins, len(files["full"])):
         yield Trial(LAST, (("full", "cut", at),))
@@ -320,7 +321,7 @@ def limits(files):
 
 
 def largest(length):
-    """The line of a load of layer 2 with so much code, signed by its owner."""
+    """The line of a load of layer 2 with this much code, signed by its owner."""
     text = body(f"order load 2\nversion 7\ntrust always\ncode {'07' * length}\n")
     signature = Officer(sha256(b"owner", b"\2")).key.sign(0, signed_text(text))
     return order_line(order(text, signature))
@@ -391,8 +392,8 @@ class Worker:
         return done.returncode, ((done.stdout or b"") + done.stderr).decode(errors="replace")
 
     def usual(self, trial):
-        """The files that the command of a trial writes where no call fails: as peers/commands.py says, but for `run`, whose
-        image it does not tell byte by byte."""
+        """The files that the command of a trial writes if no call fails: as peers/commands.py says, but for `run`,
+        whose image it does not predict byte by byte."""
         is_like_others = trial.is_torn or trial.is_full or trial.ends is None
         key = trial.command, () if is_like_others else trial.changes
         if key not in self.known:

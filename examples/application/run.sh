@@ -2,7 +2,7 @@
 # An application. The owner of layer 3 has a program in assembler text, answer.asm (answer.md says what each line does),
 # which answers a challenge with a secret of its layer. It is assembled and loaded by a signed order, the secret is put,
 # and the program answers. Then the same code runs where it may not read the secret. Builds the proved program, makes
-# keys and the device with it, and shows each step. Fails where what was printed is not what expected.txt says, whose
+# keys and the device with it, and shows each step. Fails if what was printed is not what expected.txt says, whose
 # answers another program computed (bench/applications/interpreter.c). run.sh [PROGRAM] tries a program that is built.
 # Works from any current folder; beside the build in crates/*/out/ it writes in a temporary folder alone, which it
 # removes.

@@ -1,12 +1,12 @@
 #!/usr/bin/env bash
-# An engineer of the maker asks what a power loss leaves of an order, write by write: `cutat` says of each write of the
+# An engineer of the maker asks what a power loss leaves of an order, write by write: `cutat` says for each write of the
 # order whether the device is then as before it or as after it, and changes no file. The device and its first order are
 # those of examples/device-life. Builds the proved program, makes keys, device and order with it, and shows each step.
-# Fails where what was printed is not what expected.txt says. How many writes an order has is for the program to choose.
-# Each answer is one that peers/commands.py allows, and step 3 shows by `run` what is then left. The noise is known here,
-# so that the same keys can be made; people take bytes that nobody can guess, as `head -c 48 /dev/urandom` gives them.
-# run.sh [PROGRAM] tries a program that is built. Works from any current folder; beside the build in crates/*/out/ it
-# writes in a temporary folder alone, which it removes.
+# Fails if what was printed is not what expected.txt says. How many writes an order has is for the program to choose.
+# Each answer is one that peers/commands.py allows, and step 3 shows by `run` what is then left. The noise is known
+# here, so that the same keys can be made; people take bytes that nobody can guess, as `head -c 48 /dev/urandom` gives
+# them. run.sh [PROGRAM] tries a program that is built. Works from any current folder; beside the build in crates/*/out/
+# it writes in a temporary folder alone, which it removes.
 set -euo pipefail
 export LC_ALL=C
 
@@ -57,8 +57,8 @@ script() {
     done >script
 }
 
-# Asks of each write of the script's last event what a power loss in it leaves, and shows the answers: each_write IMAGE
-# FILL. The first write that is answered `new` is in `decides` then.
+# Shows for each write of the script's last event what a power loss in it leaves: each_write IMAGE FILL. The first write
+# that is answered `new` is in `decides` then.
 each_write() {
     local count=0
     decides=

@@ -1,15 +1,15 @@
 #!/usr/bin/env bash
 # The life of a device, from the keys of its maker and its owners to an audit. Before each step stands a line that says
 # who asks and what; then come the commands and what the program prints. Among a device's events order1 stands for the
-# line of that order. Fails where what is shown is not what expected.txt says.
+# line of that order. Fails if what is shown is not what expected.txt says.
 #
-#     run.sh               proves and builds the program first, and tells each crate that is proved
+#     run.sh               proves and builds the program first, and names each crate that is proved
 #     run.sh PROGRAM       takes a program that is built
 #     run.sh --unproved    compiles the program without proving anything, and has it verify the chain of step 10
 #
 # What expected.txt has of keys, the device, the seven orders, the life and its chain was made by another program, and
-# peers/run.sh makes all of it anew by a third; maker.txt and attached.txt are files of step 10, for --unproved. The life
-# of step 8 is that program's alone. The refusals and the power losses follow from docs/use/commands.md and
+# peers/run.sh makes all of it anew by a third; maker.txt and attached.txt are files of step 10, for --unproved. The
+# life of step 8 is that program's alone. The refusals and the power losses follow from docs/use/commands.md and
 # docs/use/formats.md: of the refusals 11, 12 and 13 the first that applies is given; an event in which power fails is
 # answered `stopped`, and the next boot does what was left to be done; and an order's records count from the write of
 # the root's selector on, so that the first write leaves the state before it.

@@ -1,11 +1,11 @@
 #!/usr/bin/env bash
 # Two factories and a buyer. A maker of devices makes an HSS key of two levels and endorses the root key of each of its
 # factories. A buyer, who trusts the public key of that HSS key and nothing else, checks the root key that comes with a
-# device, and is shown endorsements that are not of it. Builds the proved program, makes the keys with it, and shows each
-# step. Fails where what was printed is not what expected.txt says, whose keys and endorsements another program made
-# (peers/hss.py). The noise is known here, so that the same keys can be made; people take bytes that nobody can guess, as
-# `head -c 32 /dev/urandom` gives them. run.sh [PROGRAM] tries a program that is built. Works from any current folder;
-# beside the build in crates/*/out/ it writes in a temporary folder alone, which it removes.
+# device, and is shown endorsements that are not of it. Builds the proved program, makes the keys with it, and shows
+# each step. Fails if what was printed is not what expected.txt says, whose keys and endorsements another program made
+# (peers/hss.py). The noise is known here, so that the same keys can be made; people take bytes that nobody can guess,
+# as `head -c 32 /dev/urandom` gives them. run.sh [PROGRAM] tries a program that is built. Works from any current
+# folder; beside the build in crates/*/out/ it writes in a temporary folder alone, which it removes.
 set -euo pipefail
 export LC_ALL=C
 

@@ -2,11 +2,12 @@
 # A fleet of twenty devices in one register. Their maker and their owners are those of examples/device-life; all twenty
 # get the same orders, and each is known by its serial. Somebody who trusts the maker's public key, and nothing else, is
 # shown their chains on two days, and asks which devices have which code; then come a device whose image was copied and
-# has gone on in two ways, one whose host hides a load, and chains of another maker. Builds the proved program, makes keys
-# and the devices with it, and shows each step. Fails where what was printed is not what expected.txt says, which another
-# program made (peers/examples.py). The noise is known here, so that the same keys can be made; people take bytes that
-# nobody can guess, as `head -c 48 /dev/urandom` gives them. run.sh [PROGRAM] tries a program that is built. Works from
-# any current folder; beside the build in crates/*/out/ it writes in a temporary folder alone, which it removes.
+# has gone on in two ways, one whose host hides a load, and chains of another maker. Builds the proved program, makes
+# keys and the devices with it, and shows each step. Fails if what was printed is not what expected.txt says, which
+# another program made (peers/examples.py). The noise is known here, so that the same keys can be made; people take
+# bytes that nobody can guess, as `head -c 48 /dev/urandom` gives them. run.sh [PROGRAM] tries a program that is built.
+# Works from any current folder; beside the build in crates/*/out/ it writes in a temporary folder alone, which it
+# removes.
 set -euo pipefail
 export LC_ALL=C
 
@@ -45,7 +46,7 @@ order() {
     miniboot sign "$2.key" draft "$1"
 }
 
-# Makes the devices of these numbers. The noise of each, of which its serial is a part, is one byte 48 times, whose two
+# Makes the devices of these numbers. The noise of each, which contains its serial, is one byte 48 times, whose two
 # hexadecimal digits are those of the number.
 born() {
     local device

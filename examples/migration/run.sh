@@ -1,11 +1,11 @@
 #!/usr/bin/env bash
-# A device from the field, whose image has the form before the flash was in segments, is brought to the present form,
-# as docs/use/commands.md says. The image is that of a device which has lived as that of examples/device-life, with
-# entries of version 1; old-image.txt has it by offset and bytes, and another program made it. A second image, of
-# which pending-image.txt has all but the record of codes and log, is that of the device before its last entry was
-# signed, with the record in the other area of the flash. Builds the proved program, and shows each step. Fails where
-# what was printed is not what expected.txt says. run.sh [PROGRAM] tries a program that is built. Works from any
-# current folder; beside the build in crates/*/out/ it writes in a temporary folder alone, which it removes.
+# A device from the field, whose image has the form before the flash was in segments, is brought to the present form, as
+# docs/use/commands.md says. The image is that of a device which has lived as that of examples/device-life, with entries
+# of version 1; old-image.txt has it by offset and bytes, and another program made it. A second image is that of the
+# device before its last entry was signed, with the record of codes and log in the other area of the flash;
+# pending-image.txt has all of it but that record. Builds the proved program, and shows each step. Fails if what was
+# printed is not what expected.txt says. run.sh [PROGRAM] tries a program that is built. Works from any current folder;
+# beside the build in crates/*/out/ it writes in a temporary folder alone, which it removes.
 set -euo pipefail
 export LC_ALL=C
 
@@ -32,8 +32,8 @@ fi
 # shellcheck source=../steps.sh
 . "$here/../steps.sh"
 
-# An image of before, by its name and the file that has its bytes at their offsets. The rest of the flash is erased, and
-# the rest of the battery-backed memory is zero.
+# An image of the old form, by its name and the file that has its bytes at their offsets. The rest of the flash is
+# erased, and the rest of the battery-backed memory is zero.
 old_image() {
     local offset hex
     head -c 1048576 /dev/zero | tr '\0' '\377' >"$1"

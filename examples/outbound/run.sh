@@ -1,12 +1,12 @@
 #!/usr/bin/env bash
 # A relying party's morning. Somebody who trusts the public key of a maker of devices, and nothing else, is handed the
-# chain of the device of examples/device-life, and asks for a statement of today; then come chains that a host has cut,
-# changed, and taken from another device; and an auditor, who has the device's memory, compares. Builds the proved
-# program, makes keys and the devices with it, and shows each step. Fails where what was printed is not what expected.txt
-# says, which other programs made (peers/examples.py). The noise is known here, so that the same keys can be made; people
-# take bytes that nobody can guess, as `head -c 48 /dev/urandom` gives them. run.sh [PROGRAM] tries a program that is
-# built. Works from any current folder; beside the build in crates/*/out/ it writes in a temporary folder alone, which it
-# removes.
+# chain of the device of examples/device-life, and asks for a statement of today; then come chains that a host has
+# shortened, changed, and taken from another device; and an auditor, who has the device's memory, compares. Builds the
+# proved program, makes keys and the devices with it, and shows each step. Fails if what was printed is not what
+# expected.txt says, which other programs made (peers/examples.py). The noise is known here, so that the same keys can
+# be made; people take bytes that nobody can guess, as `head -c 48 /dev/urandom` gives them. run.sh [PROGRAM] tries a
+# program that is built. Works from any current folder; beside the build in crates/*/out/ it writes in a temporary
+# folder alone, which it removes.
 set -euo pipefail
 export LC_ALL=C
 
@@ -38,7 +38,7 @@ part() {
     head -c "$3" "$1" | tail -c "$(($3 - $2))"
 }
 
-# So many bytes, all of them 7.
+# This many bytes, all of them 7.
 sevens() {
     head -c "$1" /dev/zero | tr '\0' '\7'
 }

@@ -1,12 +1,12 @@
 #!/usr/bin/env bash
 # A bank's policy. The bank owns layer 3 of the device of examples/device-life, and lets a key of that layer sign
-# payments. It trusts the maker's public key and the code that it has read. Its policy says so in a few rules, and `trust`
-# judges by them what the device's chain lists for the key: as it is today, as a host shows it that hides a load, and
-# after code that nobody at the bank knows was loaded beneath. Builds the proved program, makes keys and the device with
-# it, and shows each step. Fails where what was printed is not what expected.txt says, which another program made
-# (peers/examples.py). The noise is known here, so that the same keys can be made; people take bytes that nobody can
-# guess, as `head -c 48 /dev/urandom` gives them. run.sh [PROGRAM] tries a program that is built. Works from any current
-# folder; beside the build in crates/*/out/ it writes in a temporary folder alone, which it removes.
+# payments. It trusts the maker's public key and the code that it has read. Its policy says so in a few rules, and
+# `trust` judges by them what the device's chain lists for the key: as it is today, as a host shows it that hides a
+# load, and after code that nobody at the bank knows was loaded beneath. Builds the proved program, makes keys and the
+# device with it, and shows each step. Fails if what was printed is not what expected.txt says, which another program
+# made (peers/examples.py). The noise is known here, so that the same keys can be made; people take bytes that nobody
+# can guess, as `head -c 48 /dev/urandom` gives them. run.sh [PROGRAM] tries a program that is built. Works from any
+# current folder; beside the build in crates/*/out/ it writes in a temporary folder alone, which it removes.
 set -euo pipefail
 export LC_ALL=C
 
@@ -38,7 +38,7 @@ part() {
     head -c "$3" "$1" | tail -c "$(($3 - $2))"
 }
 
-# So many bytes, all of them 7.
+# This many bytes, all of them 7.
 sevens() {
     head -c "$1" /dev/zero | tr '\0' '\7'
 }

@@ -57,14 +57,14 @@ head -c 32 /dev/zero >noise
 head -c 4194304 /dev/zero >longest
 head -c 4194305 /dev/zero >too-long
 
-# What the key is that the noise gives. The hash is compared with another program's of the public key's file.
+# The key that the noise gives. The hash is compared with another program's of the public key's file.
 status=0
 "$program" keygen noise first-key first-public >printed || status=$?
 compare 'a key, status' "$status" 0
 owner="owner $(sha256sum <first-public | cut -d ' ' -f 1)"
 compare 'a key, line' "$(cat printed)" "$owner"
 
-# Inputs. No output is made where an input is refused.
+# Inputs. No output is made if an input is refused.
 try 'the longest noise' 0 "$owner" keygen longest key public
 compare_key 'the longest noise'
 try 'noise that is too long' 3 'input noise too long' keygen too-long key public
@@ -73,7 +73,7 @@ try 'no file of the name' 4 'read failed noise' keygen none key public
 try 'a folder as the noise' 4 'read failed noise' keygen folder key public
 compare 'no output' "$(ls -d key public 2>/dev/null || true)" ''
 
-# Outputs, of which those before the one that fails are written.
+# Outputs. Those before the one that fails are written.
 try 'a full device as the key' 5 'write failed key' keygen noise /dev/full public
 try 'a folder as the key' 5 'write failed key' keygen noise folder public
 try 'no folder for the key' 5 'write failed key' keygen noise none/key public
@@ -82,7 +82,7 @@ try 'a full device as the public key' 5 'write failed public' keygen noise key /
 compare 'the key before it' "$(cmp key first-key && echo same)" same
 rm -f key
 
-# Signing. The key is written with its index used before the order, and stays so where the order cannot be written.
+# Signing. The key is written with its index used before the order, and stays so if the order cannot be written.
 next_of() {
     od -An -v -tx1 -j 52 "$1" | tr -d ' \n'
 }

@@ -1,10 +1,9 @@
 #!/usr/bin/env bash
 # Compares the built program's keys and signed orders with the LMS of Bouncy Castle, verifies each signature of a chain
 # with it, and has the program serve an order that Bouncy Castle signed; and has each verify the endorsements that the
-# other makes by HSS keys: run.sh [PROGRAM]. With no PROGRAM it takes the
-# one that is built, and proves and builds it first where there is none. It skips with a message where Java or the
-# library (Debian's libbcprov-java) is missing; JAR may name the library. It is no part of the gate, and writes in a
-# temporary folder alone, which it removes.
+# other makes by HSS keys: run.sh [PROGRAM]. With no PROGRAM it takes the one that is built, and proves and builds it
+# first if there is none. It skips with a message if Java or the library (Debian's libbcprov-java) is missing; JAR may
+# name the library. It is no part of the gate, and writes in a temporary folder alone, which it removes.
 set -euo pipefail
 export LC_ALL=C
 
@@ -72,12 +71,12 @@ bytes() {
     printf '%b' "$(sed 's/../\\x&/g' <<<"$1")"
 }
 
-# The bytes of a file from an offset on, so many.
+# The bytes of a file from an offset on, as many as are given.
 part() {
     head -c "$(($2 + $3))" "$1" | tail -c "$3"
 }
 
-# The body of an order's line, which has so many bytes, in hexadecimal.
+# The body of an order's line, of the given number of bytes, in hexadecimal.
 body() {
     cut -c "9-$((8 + 2 * $2))" "$1"
 }
@@ -178,13 +177,13 @@ compare 'one countersignature' "$(verified one 15 first.public 2 second.public)"
 compare 'two countersignatures' "$(verified two 15 first.public 2 second.public 3 third.public)" yes
 compare 'two of other keys' "$(verified two 15 first.public 2 third.public 3 second.public)" no
 
-# An order that Bouncy Castle alone has signed, and the same with the last bit of its path turned. The key file keeps its
-# next index: nothing signs with it afterwards.
+# An order that Bouncy Castle alone has signed, and the same with the last bit of its path flipped. The key file keeps
+# its next index: nothing signs with it afterwards.
 compare "the program's order is served" "$(serve establish)" 'done 1 2'
 peer sign first.key "$(body establish 60)" >foreign
 compare 'it is another signature' "$(cmp -s foreign establish && echo same)" ''
 compare "Bouncy Castle's order is served" "$(serve foreign)" 'done 1 2'
-# In the chain of the device the second entry tells of layer 2 from this offset on: that it has an owner, what it trusts of
+# From this offset on, the second entry of the device's chain describes layer 2: that it has an owner, what it trusts of
 # changes of layer 1 and of layer 2, and the owner's key.
 miniboot chain image chain
 compare 'the owner of layer 2' "$(part chain 2636 59 | hex)" "010202$(hex <second.public)"
