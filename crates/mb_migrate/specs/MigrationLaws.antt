@@ -8,7 +8,7 @@ use Rattle.mb_model.specs.Migration.{IsMigrated, CannotMigrate, MeansTheSame}
 abbrev pub MigratesToOne : Type 0
 MigratesToOne = (image a b : List ℕ) → IsBytes image → IsMigrated image a → IsMigrated image b → a ≡ b
 
--- a migrated image means the state that the original image means, or meant in the form before
+-- a migrated image means the state that the original image means, or meant in the earlier form
 abbrev pub MigrationKeepsState : Type 0
 MigrationKeepsState = (image out : List ℕ) → IsMigrated image out → MeansTheSame image out
 

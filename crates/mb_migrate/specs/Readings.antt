@@ -1,4 +1,4 @@
--- What an image is found to be by a form of the flash, and by either form. Does the present form come first?
+-- What an image is found to be by a form of the flash, and by either form. Does the current form come first?
 use Rattle.std.specs.Prelude.{ℕ, List, Option, IfSome}
 use Rattle.mb_model.specs.declared.state.State.{State}
 use Rattle.mb_model.specs.Meaning.{FlashForm, IsWellFormedBy, IsWellFormed}
@@ -19,7 +19,7 @@ abbrev pub IsReadBy : FlashForm → List ℕ → Reading → Type 0
 IsReadBy Form image (reading.State state) = IsWellFormedBy Form image state
 IsReadBy Form image (reading.Fault ended) = IsFoundFaulty Form image ended
 
--- the image means this state by the present form, or, if it means none by that form, by the form before
+-- the image means this state by the current form, or, if it means none by that form, by the earlier form
 pub data StandsByEither (image : List ℕ) (state : Option State) : Type 0 where
   by_present : IsWellFormed image state → StandsByEither image state
   by_before : ((any : Option State) → IsWellFormed image any → ⊥) → WasWellFormed image state →

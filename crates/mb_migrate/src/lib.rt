@@ -1,7 +1,8 @@
 //! What the flash of a device held before it was divided into segments: a record of codes and log in each of two areas.
-//! Migration brings an image of that form, or of the present one, to the present form, with no work pending.
+//! Migration brings an image of that form, the earlier one, or of the current form, to the current form with no work
+//! pending.
 //!
-//! This crate owns the public record of the form before, both ways, the meaning of an image of that form, and which of
+//! This crate owns the public record of the earlier form, both ways, the meaning of an image of that form, and which of
 //! the two forms a migration tries first. It stands on the definitions of `mb_model` (`OldFlash`, `PublicRecord`,
 //! `Migration`), the fields of `mb_bytes`, the entries of `mb_layout`, and on `mb_image`, which reads an image by any
 //! form of the flash and writes one.

@@ -1,4 +1,4 @@
-//! Images brought to the present form.
+//! Images brought to the current form.
 
 ghost use Rattle.std.specs.Prelude.{◌+◌, ◌≤◌, IfOk, IfErr, IfSome};
 ghost use Rattle.mb_model.specs.Migration.{IsMigrated, CannotMigrate, MeansTheSame};
@@ -12,11 +12,11 @@ use mb_model::{NoMemory, State};
 use std::alloc::Global;
 use std::sync::ledger::Ledger;
 
-/// The image of the same device in the present form, with no work pending: written from nothing for the state that the
-/// image means or, if it means none in the present form, for the state that it meant before the flash was divided into
+/// The image of the same device in the current form, with no work pending: written from nothing for the state that the
+/// image means or, if it means none in the current form, for the state that it meant before the flash was divided into
 /// segments. It takes at most 1,242,660 hashes, twice those of `stand_for`.
 ///
-/// Errors: those of `ImageEnd`, with the fault of the image in the present form.
+/// Errors: those of `ImageEnd`, with the fault of the image in the current form.
 #[tactic(auto, using(crate::proofs::Migrations::either_fits))]
 pub fn migrate<L: Ledger>(
     alloc: Global,
@@ -32,8 +32,8 @@ pub fn migrate<L: Ledger>(
     Ok(write_image(alloc, &state)?)
 }
 
-/// The state that the image means in the present form or, if it means none in that form, the state that it meant in the
-/// form before; if it is well formed in neither, its fault in the present form.
+/// The state that the image means in the current form or, if it means none in that form, the state that it meant in the
+/// earlier form; if it is well formed in neither, its fault in the current form.
 #[tactic(auto, using(crate::proofs::Migrations::cannot_migrate))]
 fn either_stand_for<L: Ledger>(
     alloc: Global,

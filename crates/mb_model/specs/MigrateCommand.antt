@@ -14,8 +14,8 @@ pub record MigrateNames : Type 0 where
   pub image : List ℕ
   pub out : List ℕ
 
--- An image in the present form or the old one, read as what a migration makes of it. If it cannot be migrated, it is at
--- fault as an image in the present form.
+-- An image in the current form or the earlier one, read as what a migration makes of it. If it cannot be migrated, it
+-- is at fault as an image in the current form.
 abbrev pub old_image_input : List ℕ → Input (List ℕ)
 old_image_input name = record {
   role = role.Image;
@@ -32,6 +32,6 @@ abbrev pub write_migrated_image : MigrateNames → List ℕ → Command
 write_migrated_image names image =
     write (record { role = role.Out; name = names.out; bytes = image }) (print (migrated_text image))
 
--- an image in the present form or the old one is read, and the image of the present form is written
+-- an image in the current form or the earlier one is read, and the image of the current form is written
 unfoldable pub migrate : MigrateNames → Command
 migrate names = read (old_image_input names.image) (write_migrated_image names)

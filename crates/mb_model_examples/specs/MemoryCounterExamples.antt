@@ -39,14 +39,14 @@ pub record AreaCounterExamples : Type 0 where
   -- a region with neither secret nor key has no record
   pub no_region : (region : Region) → SpellsRegion (1 ∷ 0 ∷ 0 ∷ []) region → ⊥
 
--- states that a memory does not stand for
+-- states that a memory does not mean
 pub record MeaningCounterExamples (flash bbram : List ℕ) : Type 0 where
-  -- a memory that is neither all zero nor alive, as its life byte is torn, stands for none
+  -- a memory that is neither all zero nor alive, as its life byte is torn, means none
   pub torn : life_byte bbram ≡ 0xA4 → (state : Option State) → HasMeaning flash bbram state → ⊥
-  -- a memory that is all zero stands for no live state, and one that is alive for no dead one
+  -- a memory that is all zero means no live state, and one that is alive for no dead one
   pub blank : IsBlank bbram → (state : State) → StandsFor flash bbram (Some state) → ⊥
   pub alive : life_byte bbram ≡ 0xA5 → StandsFor flash bbram None → ⊥
-  -- a memory with a byte less stands for none
+  -- a memory with a byte less means none
   pub short : length bbram ≡ 28671 → (state : Option State) → StandsFor flash bbram state → ⊥
 
 -- an image is not well formed, or does not have a fault

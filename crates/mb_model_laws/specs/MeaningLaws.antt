@@ -1,5 +1,4 @@
--- Laws of images: what a memory stands for and what is wrong with it exclude each other. Can one image be taken for
--- two?
+-- Laws of images: what a memory means and what is wrong with it exclude each other. Can one image be taken for two?
 use Rattle.std.specs.Prelude.{◌≡◌, ℕ, List, [], length, Option, None, Some}
 use Rattle.mb_format.specs.Format.{IsBytes}
 use Rattle.mb_model.specs.declared.key.KeySeed.{KeySeed}
@@ -21,7 +20,7 @@ HoldsOneContents =
     (flash bbram : List ℕ) (a b : Contents) → IsBytes flash → IsBytes bbram
     → HoldsContents flash bbram a → HoldsContents flash bbram b → a ≡ b
 
--- the bytes of a memory stand for one state at most
+-- the bytes of a memory mean one state at most
 abbrev pub StandsForOne : Type 0
 StandsForOne =
     (flash bbram : List ℕ) (a b : Option State) → IsBytes flash → IsBytes bbram
@@ -46,13 +45,13 @@ WellFormedOrFaultyBy Form =
     (image : List ℕ) → ((state : Option State) → IsWellFormedBy Form image state → ⊥)
     → ((fault : Fault) → HasFaultBy Form image fault → ⊥) → ⊥
 
--- a well-formed image stands for one state
+-- a well-formed image means one state
 abbrev pub WellFormedStandsForOneBy : FlashForm → Type 0
 WellFormedStandsForOneBy Form =
     (image : List ℕ) (a b : Option State) → IsBytes image
     → IsWellFormedBy Form image a → IsWellFormedBy Form image b → a ≡ b
 
--- an image of bytes in the present form of the flash has one fault at most
+-- an image of bytes in the current form of the flash has one fault at most
 abbrev pub OneFault : Type 0
 OneFault = OneFaultBy HoldsPublic
 
@@ -67,7 +66,7 @@ WellFormedStandsForOne = WellFormedStandsForOneBy HoldsPublic
 
 -- ---- memories that are clean or written
 
--- a memory that is clean for a state stands for it, if the flash holds its codes and its log as the root names them
+-- a memory that is clean for a state means it, if the flash holds its codes and its log as the root names them
 abbrev pub CleanStandsForIt : Type 0
 CleanStandsForIt =
     (flash bbram : List ℕ) (state : State) (clean : IsCleanFor bbram state) → length flash ≡ 1048576

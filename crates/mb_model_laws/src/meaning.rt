@@ -1,18 +1,18 @@
-//! Laws of what a memory stands for.
+//! Laws of what a memory means.
 
 ghost use Rattle.mb_model_laws.specs.MeaningLaws.{HoldsOneContents, StandsForOne, OneFaultBy, WellFormedHasNoFaultBy, WellFormedOrFaultyBy, WellFormedStandsForOneBy, OneFault, WellFormedHasNoFault, WellFormedOrFaulty, WellFormedStandsForOne, CleanStandsForIt, BlankIsDead, FactoryImageIsWellFormed};
 ghost use Rattle.mb_model.specs.OldFlash.{HeldPublic};
 ghost use Rattle.mb_model_lemmas.specs.FormLaws.{HoldsOnePublic, HoldsFittingParts};
 ghost use Rattle.mb_model_lemmas.specs.ImageLaws.{WrittenMemoriesAreSized, WrittenMemoryIsClean, WrittenImagesAreWellFormed};
 
-/// The bytes of a memory hold at most one `Contents`, and stand for at most one state.
+/// The bytes of a memory hold at most one `Contents`, and mean at most one state.
 pub fn one_meaning()
     ensures contents { HoldsOneContents }
     ensures state { StandsForOne }
 {}
 
-/// An image of bytes has one fault at most. A well-formed one has none, and stands for one state; no image is neither
-/// well formed nor faulty.
+/// An image of bytes has one fault at most. A well-formed one has none, and means one state; no image is neither well
+/// formed nor faulty.
 pub fn images_are_clear()
     ensures fault { OneFault }
     ensures none { WellFormedHasNoFault }
@@ -20,8 +20,8 @@ pub fn images_are_clear()
     ensures state { WellFormedStandsForOne }
 {}
 
-/// An image whose flash has the form before segments has one fault at most, or else is well formed and stands for one
-/// state. For a root, a flash of that form holds one list of codes and one log, for which a device has room.
+/// An image whose flash has the earlier form has one fault at most, or else is well formed and means one state. For a
+/// root, a flash of that form holds one list of codes and one log, for which a device has room.
 pub fn old_images_are_clear()
     ensures public { HoldsOnePublic HeldPublic }
     ensures fit { HoldsFittingParts HeldPublic }
@@ -31,8 +31,8 @@ pub fn old_images_are_clear()
     ensures state { WellFormedStandsForOneBy HeldPublic }
 {}
 
-/// A memory that is clean for a state stands for it, if the flash holds the state's codes and log. A memory that is all
-/// zero is clean for the dead device alone.
+/// A memory that is clean for a state means it, if the flash holds the state's codes and log. A memory that is all zero
+/// is clean for the dead device alone.
 pub fn clean_memories_stand_for_it()
     ensures live { CleanStandsForIt }
     ensures dead { BlankIsDead }
@@ -47,7 +47,7 @@ pub fn written_images_are_well_formed()
     ensures well_formed { WrittenImagesAreWellFormed }
 {}
 
-/// The image from the factory is well formed, and stands for the state of a new device.
+/// The image from the factory is well formed, and means the state of a new device.
 pub fn factory_images_are_well_formed()
     ensures { FactoryImageIsWellFormed }
 {}

@@ -1,5 +1,5 @@
--- Laws of an image that is written from nothing. Does it stand for the state that it was written for, and is nothing
--- else in it?
+-- Laws of an image that is written from nothing. Does it mean the state that it was written for, and is nothing else in
+-- it?
 use Rattle.std.specs.Prelude.{◌≡◌, IfSome, Option}
 use Rattle.mb_model.specs.declared.state.State.{State}
 use Rattle.mb_model.specs.Memory.{AreSized}

@@ -1,5 +1,5 @@
--- Laws of what a memory holds while the work of an order is done. Does a device stand for one state from the commit on,
--- wherever the work is broken off?
+-- Laws of what a memory holds while the work of an order is done. Does a device's memory mean one state from the commit
+-- on, wherever the work is broken off?
 use Rattle.std.specs.Prelude.{◌≡◌, ℕ, List, [], None, Some}
 use Rattle.mb_format.specs.Format.{IsBytes}
 use Rattle.mb_model.specs.declared.order.Order.{Order}
@@ -47,7 +47,7 @@ CommitsHaveAnIndex =
     (state : State) (order : Order) (draw : List ℕ) (area : ℕ)
     → HasIndex (root_for state order draw area) (root_for state order draw area).pending
 
--- a memory that holds what is committed stands for the state after the order
+-- a memory that holds what is committed means the state after the order
 abbrev pub CommittedMemoriesStand : Type 0
 CommittedMemoriesStand =
     (flash bbram : List ℕ) (state : State) (order : Order) (draw : List ℕ) (area : ℕ) → AreSized flash bbram
@@ -75,7 +75,7 @@ SettledMeansTheSame =
     (contents : Contents) (area : ℕ)
     → state_of_contents (at_rest (state_of_contents contents) area) ≡ state_of_contents contents
 
--- a memory stands for one state, however far the work has come
+-- a memory means one state, however far the work has come
 abbrev pub WorkUnderWayStands : Type 0
 WorkUnderWayStands =
     (flash bbram : List ℕ) (contents now : Contents) → AreSized flash bbram
@@ -94,7 +94,7 @@ RestMeansItsState =
     (state : State) (area : ℕ) → state.layers ≡ layers_of (entries_of state.log)
     → state_of_contents (at_rest state area) ≡ state
 
--- a memory that holds what is stored of a state with nothing pending stands for that state
+-- a memory that holds what is stored of a state with nothing pending means that state
 abbrev pub RestingMemoriesStand : Type 0
 RestingMemoriesStand =
     (flash bbram : List ℕ) (state : State) (area : ℕ) → AreSized flash bbram
@@ -107,7 +107,7 @@ NothingPendingIsRest =
     (contents : Contents) → contents.root.pending ≡ None → AreCounted contents.root.pending contents.unsigned
     → contents ≡ at_rest (state_of_contents contents) contents.root.area
 
--- a memory that is clean for a state, and stands for it, holds just what is stored of it with nothing pending
+-- a memory that is clean for a state, and means it, holds just what is stored of it with nothing pending
 abbrev pub CleanMemoriesAreAtRest : Type 0
 CleanMemoriesAreAtRest =
     (flash bbram : List ℕ) (state : State) (clean : IsCleanFor bbram state) → IsBytes bbram
@@ -115,7 +115,7 @@ CleanMemoriesAreAtRest =
 
 -- ---- what counts
 
--- memories with the same bytes in force stand for the same live state
+-- memories with the same bytes in the current areas mean the same live state
 abbrev pub AgreeingMemoriesStandForOne : Type 0
 AgreeingMemoriesStandForOne =
     (flash bbram other_flash other_bbram : List ℕ) (state : State) → AreSized other_flash other_bbram

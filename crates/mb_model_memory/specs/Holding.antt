@@ -17,15 +17,15 @@ Holds memory contents = HoldsContents memory.flash memory.bbram contents
 pub record KeepsContents (before after : Memory) : Type 0 where
   pub kept : (contents : Contents) → Holds before contents → Holds after contents
 
--- the memory stands for this live state
+-- the memory means this live state
 abbrev pub Means : Memory → State → Type 0
 Means memory state = StandsFor memory.flash memory.bbram (Some state)
 
--- the memory still stands for every state for which it stood
+-- the memory still means every state that it meant
 pub record KeepsMeaning (before after : Memory) : Type 0 where
   pub kept : (state : State) → Means before state → Means after state
 
--- A device with this memory is ready for an event: the memory stands for this state, which a device can have, and it is
+-- A device with this memory is ready for an event: the memory means this state, which a device can have, and it is
 -- clean, so that no work is pending and no secret lies in it but those of the state.
 pub record IsReady (memory : Memory) (state : State) : Type 0 where
   pub means : Means memory state

@@ -36,7 +36,7 @@ StatesAreStorableBy Form =
     (flash bbram : List ℕ) (state : State) → StandsForBy Form flash bbram (Some state) → IsValidState state
     → IsStorableState state
 
--- a valid state for which a memory stands, by the present form of the flash, can be stored
+-- a valid state that a memory means, by the current form of the flash, can be stored
 abbrev pub StoredStatesAreStorable : Type 0
 StoredStatesAreStorable = StatesAreStorableBy HoldsPublic
 

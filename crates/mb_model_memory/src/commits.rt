@@ -3,7 +3,7 @@
 ghost use Rattle.mb_model_memory.specs.CommitLaws.{CommitsMeanTheirOrder, CommitsAreCounted, CommitsHaveAnIndex, CommittedMemoriesStand, TwoDoneMeansTheSame, ThreeDoneMeansTheSame, BothDoneMeansTheSame, WorkUnderWayStands, WorkEndsTheSame, SettledMeansTheSame, RestMeansItsState, RestingMemoriesStand, NothingPendingIsRest, CleanMemoriesAreAtRest, AgreeingMemoriesStandForOne, AgreementGoesBothWays, DeadFlashIsAny, TwoIsReplaced, ThreeIsReplaced, RootIsReplaced, OtherFlashIsFree, OrderIsCommitted, WorkIsFinished};
 
 /// What an order commits means the state after it: the root with its pending work, the new entries unsigned, and both
-/// regions as they were. A memory that holds it stands for that state.
+/// regions as they were. A memory that holds it means that state.
 pub fn commits_mean_their_order()
     ensures means { CommitsMeanTheirOrder }
     ensures counted { CommitsAreCounted }
@@ -12,7 +12,7 @@ pub fn commits_mean_their_order()
 {}
 
 /// Contents mean the same at each step of the pending work: once what is to be done to either region is done, and once
-/// each entry is signed and nothing is pending. So a memory stands for one state however far the work has come, and work
+/// each entry is signed and nothing is pending. So a memory means one state however far the work has come, and work
 /// that is done again from there ends where it would have ended.
 pub fn work_keeps_the_meaning()
     ensures two { TwoDoneMeansTheSame }
@@ -23,8 +23,8 @@ pub fn work_keeps_the_meaning()
     ensures ends { WorkEndsTheSame }
 {}
 
-/// What is stored of a state with nothing pending means that state, so that a memory that holds it stands for the
-/// state. A clean memory that stands for a state holds nothing else.
+/// What is stored of a state with nothing pending means that state, so that a memory that holds it means the state. A
+/// clean memory that means a state holds nothing else.
 pub fn rest_means_its_state()
     ensures means { RestMeansItsState }
     ensures stands { RestingMemoriesStand }
@@ -32,7 +32,7 @@ pub fn rest_means_its_state()
     ensures clean { CleanMemoriesAreAtRest }
 {}
 
-/// Memories with the same bytes in force stand for the same state, whatever else they hold.
+/// Memories with the same bytes in the current areas mean the same state, whatever else they hold.
 pub fn memories_are_known_by_what_is_in_force()
     ensures same { AgreeingMemoriesStandForOne }
     ensures turned { AgreementGoesBothWays }

@@ -2,8 +2,8 @@
 
 ghost use Rattle.mb_model_memory.specs.StorableLaws.{StoredStatesAreStorable, OldStatesAreStorable, BornStatesAreStorable, ObeyedStatesAreStorable, StepsKeepStorable, RunsKeepStorable, RestingRootsAreAllowed, CommittedRootsAreAllowed, RestingPublicsAreAllowed, CommittedPublicsAreAllowed, StorableRegionsCanBeWritten, StorableStatesFitImages, RootsHaveRoom, PublicsHaveRoom};
 
-/// A valid state for which a memory stands can be stored again, also if the flash has the form before segments. The
-/// state of a new device can be stored.
+/// A valid state that a memory means can be stored again, also if the flash has the earlier form. The state of a new
+/// device can be stored.
 pub fn stored_states_are_storable()
     ensures stands { StoredStatesAreStorable }
     ensures stood { OldStatesAreStorable }

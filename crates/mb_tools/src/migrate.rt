@@ -34,7 +34,7 @@ impl<'a> MigrateNames<'a> {
     }
 }
 
-/// Writes an image of the present form for the state of an image, which may have the form before, and prints the hash
+/// Writes an image of the current form for the state of an image, which may have the earlier form, and prints the hash
 /// of the new image.
 pub fn migrate<H: Host, L: Ledger>(
     alloc: Global,

@@ -1,5 +1,5 @@
-//! Images whose flash has the form before segments, and their migration. The example `examples/migration` migrates
-//! larger ones, which another program made.
+//! Images whose flash has the earlier form, and their migration. The example `examples/migration` migrates larger ones,
+//! which another program made.
 
 use super::births::new_device_goes_through;
 use super::{Content, Given, Part, Play, Step, perform};
@@ -25,7 +25,7 @@ const DEAD_IS_MIGRATED: &[Step] = &[Step::Ends(
     "migrated 86ca89e7d050d826da64c6da7ac45d8fad0659c45013b045fa26ade14df67d89\n",
 )];
 
-/// An image of neither form is refused for its fault in the present form, wrong words and files with their lines, and
+/// An image of neither form is refused for its fault in the current form, wrong words and files with their lines, and
 /// nothing is written.
 const NEITHER_IS_REFUSED: &[Step] = &[
     Step::Ends("migrate torn out", 3, "input image root\n"),
@@ -75,7 +75,7 @@ const AN_OLD_IMAGE: &[Step] = &[
     ),
 ];
 
-/// Images that are almost of the old form are refused, and nothing is written.
+/// Images that are almost of the earlier form are refused, and nothing is written.
 const BROKEN_OLD_IMAGES_ARE_REFUSED: &[Step] = &[
     Step::Writes(
         "cut",

@@ -76,7 +76,7 @@ pub fn read_image<H: Host, L: Ledger>(
     }
 }
 
-/// Reads an image of a device, which may have the form before, and migrates it to the present form.
+/// Reads an image of a device, which may have the earlier form, and migrates it to the current form.
 pub fn read_old_image<H: Host, L: Ledger>(
     alloc: Global,
     host: &mut H,
