@@ -1,4 +1,4 @@
-# Read by the scripts of checks/ and bench/ that try the built program, or a program of their own.
+# Read by the scripts of checks/, bench/ and examples/ that try the built program, or a program of their own.
 
 # need TOOL..: ends the script if one of these is not on the PATH.
 need() {
@@ -14,7 +14,7 @@ need() {
 # find_program [PROGRAM]: `program` is then the path of this program, or of the built one. Ends the script if it is not
 # there.
 find_program() {
-    program=$(realpath -m "${1:-$(dirname "${BASH_SOURCE[0]}")/../crates/miniboot/out/miniboot}")
+    program=$(realpath -m -- "${1:-$(dirname "${BASH_SOURCE[0]}")/../crates/miniboot/out/miniboot}")
     if [ ! -x "$program" ]; then
         echo "$program is not there: examples/device-life/run.sh builds the program" >&2
         exit 1
@@ -31,7 +31,7 @@ take_words() {
         processes=${2-}
         shift 2 || true
     fi
-    if [ $# -gt 1 ] || ! [[ "$processes" =~ ^[1-9][0-9]?$ ]]; then
+    if [ $# -gt 1 ] || [[ "${1-}" == -* ]] || ! [[ "$processes" =~ ^[1-9][0-9]?$ ]]; then
         echo "$usage" >&2
         exit 2
     fi

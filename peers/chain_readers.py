@@ -109,7 +109,7 @@ class World(Host):
     def __init__(self, files):
         super().__init__(files)
         self.devices, self.drafts, self.statement = {}, {}, None
-        # devices whose birth has version 1, which their maker made of the same, by the hashes of their images
+        # devices made of the same noise with a birth of version 1, by the hashes of their images
         self.old = {}
 
     def content(self, name):

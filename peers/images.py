@@ -1,6 +1,6 @@
 """Images of devices: the state that one means, what is wrong with it, and the image of a state, by the formats alone.
 
-An image is read in the present form, whose flash is in segments, or in the form before it.
+An image is read in the current form, whose flash is in segments, or in the earlier form.
 """
 
 import dataclasses
@@ -14,7 +14,7 @@ from lms import sha256, u8, u16, u32
 LIFE = 0xA5
 CODE = 32_768
 KEEP, EMPTY, DROP_CONFIGURATION, ADD = range(4)
-# of the form before segments: how long an area of flash is, and the longest record in it
+# of the earlier form: how long an area of flash is, and the longest record in it
 OLD_AREA, OLD_RECORD = 524_288, 470_000
 # the most secrets of a region record, by its version
 SECRETS = {1: 16, 2: 22}
@@ -199,7 +199,7 @@ def read_sector(reader):
 
 
 def read_public(flash, area):
-    """The codes, the signed entries and the unsigned ones, by the present form."""
+    """The codes, the signed entries and the unsigned ones, by the current form."""
     slots, count, unsigned = read_header(Reader(flash[SECTOR * area : SECTOR * (area + 1)]))
     codes = []
     for layer, (slot, length) in enumerate(slots, 1):
@@ -227,7 +227,7 @@ def read_old_record(reader):
 
 
 def read_old_public(flash, area):
-    """The codes, the signed entries and the unsigned ones, by the form before segments."""
+    """The codes, the signed entries and the unsigned ones, by the earlier form."""
     half = flash[OLD_AREA * area : OLD_AREA * (area + 1)]
     length = int.from_bytes(half[:4], "big")
     if length > OLD_RECORD:
@@ -357,7 +357,7 @@ def meaning(image, public=read_public):
 
 
 def migrated(image):
-    """The state that an image means by the present form or by the one before; the fault is the present form's."""
+    """The state that an image means by the current form or by the one before; the fault is the current form's."""
     try:
         return meaning(image)
     except Fault as fault:
@@ -423,7 +423,7 @@ def image_of(state):
 
 
 def old_flash_of(state, area=0, unsigned=0):
-    """Flash that holds a state in this area, in the form before segments."""
+    """Flash that holds a state in this area, in the earlier form."""
     text = u8(1) + b"".join(u8(0) if code is None else u8(1) + u32(len(code)) + code for code in state.codes)
     text += u16(len(state.log))
     for at, (entry, signature) in enumerate(state.log):

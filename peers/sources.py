@@ -42,8 +42,8 @@ class Source:
         return word.strip('"') if '"' in word else self.owner(word).constant(word)
 
     def owner(self, name):
-        """The file where the constant of this name stands: this one, one beside it from which it is imported, or the births
-        of the plays."""
+        """The file where the constant of this name stands: this one, one beside it from which it is imported, or the
+        births of the plays."""
         if re.search(rf"const {name}:", self.text):
             return self
         found = re.search(rf"use super::(\w+)::{{[^}}]*\b{name}\b", self.text)

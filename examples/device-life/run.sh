@@ -22,21 +22,14 @@ export LC_ALL=C
 usage="usage: examples/device-life/run.sh [--unproved | PROGRAM]"
 
 here=$(cd "$(dirname "${BASH_SOURCE[0]}")" && pwd)
-crate=$(cd "$here/../../crates/miniboot" && pwd)
+# shellcheck source=../begin.sh
+. "$here/../begin.sh"
 
 if [ $# -gt 1 ]; then
     echo "$usage" >&2
     exit 2
 fi
-for tool in cut diff grep head od paste sed sha256sum tr uniq; do
-    if ! command -v "$tool" >/dev/null; then
-        echo "$tool is needed, and is not on the PATH" >&2
-        exit 1
-    fi
-done
-
-work=$(mktemp -d)
-trap 'rm -rf "$work"' EXIT
+need cut diff grep head od paste sed sha256sum tr uniq
 
 # Writes the bytes of a file of hexadecimal words, whose SHA-256 hash expected.txt has: unpack NAME FILE
 unpack() {
@@ -76,16 +69,7 @@ if [ "${1-}" = --unproved ]; then
     exit 0
 fi
 
-if [ $# -gt 0 ]; then
-    program=$(realpath "$1")
-else
-    # shellcheck source=../build.sh
-    . "$here/../build.sh"
-    build
-    program=$crate/out/miniboot
-fi
-# shellcheck source=../steps.sh
-. "$here/../steps.sh"
+find_or_build "$@"
 
 # Writes the draft of an order, and shows its lines: draft NAME LINE..
 draft() {

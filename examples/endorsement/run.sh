@@ -10,27 +10,10 @@ set -euo pipefail
 export LC_ALL=C
 
 here=$(cd "$(dirname "${BASH_SOURCE[0]}")" && pwd)
-crate=$(cd "$here/../../crates/miniboot" && pwd)
-
-for tool in cut diff head od sed sha256sum tail tr; do
-    if ! command -v "$tool" >/dev/null; then
-        echo "$tool is needed, and is not on the PATH" >&2
-        exit 1
-    fi
-done
-
-work=$(mktemp -d)
-trap 'rm -rf "$work"' EXIT
-if [ $# -gt 0 ]; then
-    program=$(realpath "$1")
-else
-    # shellcheck source=../build.sh
-    . "$here/../build.sh"
-    build
-    program=$crate/out/miniboot
-fi
-# shellcheck source=../steps.sh
-. "$here/../steps.sh"
+# shellcheck source=../begin.sh
+. "$here/../begin.sh"
+need cut diff head od sed sha256sum tail tr
+find_or_build "$@"
 
 # Makes a factory's root key of 32 equal bytes.
 factory_key() {

@@ -1,6 +1,6 @@
 #!/usr/bin/env bash
-# A device from the field, whose image has the form before the flash was in segments, is brought to the present form, as
-# docs/use/commands.md says. The image is that of a device which has lived as that of examples/device-life, with entries
+# A device from the field, whose image has the earlier form, with a flash that is not in segments, is brought to the
+# current form, as docs/use/commands.md says. The image is that of a device which has lived as that of examples/device-life, with entries
 # of version 1; old-image.txt has it by offset and bytes, and another program made it. A second image is that of the
 # device before its last entry was signed, with the record of codes and log in the other area of the flash;
 # pending-image.txt has all of it but that record. Builds the proved program, and shows each step. Fails if what was
@@ -10,29 +10,12 @@ set -euo pipefail
 export LC_ALL=C
 
 here=$(cd "$(dirname "${BASH_SOURCE[0]}")" && pwd)
-crate=$(cd "$here/../../crates/miniboot" && pwd)
+# shellcheck source=../begin.sh
+. "$here/../begin.sh"
+need cmp cut dd head od paste sed sha256sum tr
+find_or_build "$@"
 
-for tool in cmp cut dd head od paste sed sha256sum tr; do
-    if ! command -v "$tool" >/dev/null; then
-        echo "$tool is needed, and is not on the PATH" >&2
-        exit 1
-    fi
-done
-
-work=$(mktemp -d)
-trap 'rm -rf "$work"' EXIT
-if [ $# -gt 0 ]; then
-    program=$(realpath "$1")
-else
-    # shellcheck source=../build.sh
-    . "$here/../build.sh"
-    build
-    program=$crate/out/miniboot
-fi
-# shellcheck source=../steps.sh
-. "$here/../steps.sh"
-
-# An image of the old form, by its name and the file that has its bytes at their offsets. The rest of the flash is
+# An image of the earlier form, by its name and the file that has its bytes at their offsets. The rest of the flash is
 # erased, and the rest of the battery-backed memory is zero.
 old_image() {
     local offset hex

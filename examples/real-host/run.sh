@@ -6,18 +6,9 @@ set -euo pipefail
 export LC_ALL=C
 
 here=$(cd "$(dirname "${BASH_SOURCE[0]}")" && pwd)
-crate=$(cd "$here/../../crates/miniboot" && pwd)
-
-work=$(mktemp -d)
-trap 'rm -rf "$work"' EXIT
-if [ $# -gt 0 ]; then
-    program=$(realpath "$1")
-else
-    # shellcheck source=../build.sh
-    . "$here/../build.sh"
-    build
-    program=$crate/out/miniboot
-fi
+# shellcheck source=../begin.sh
+. "$here/../begin.sh"
+find_or_build "$@"
 cd "$work"
 
 passed=0

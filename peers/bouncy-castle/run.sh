@@ -165,8 +165,8 @@ code -
 DRAFT
 compare "the first key's next index" "$(part first.key 52 4 | hex)" 00000006
 
-# Countersignatures of layers 2 and 3, by the indices of the example, where the second has signed two orders before, and
-# the third one.
+# Countersignatures of layers 2 and 3, by the indices of the example: the second officer has signed two orders before,
+# and the third one.
 for officer in second second third; do
     miniboot sign "$officer.key" draft other
 done
