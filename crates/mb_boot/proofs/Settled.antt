@@ -1,5 +1,5 @@
 -- How the steps of settling join.
-use Rattle.std.proofs.Common.{◌≡◌, ◌≢◌, ℕ, zero, suc, ◌+◌, ◌-◌, ◌*◌, ◌<◌, ◌≤◌, inl, inr, List, [], ◌∷◌, ◌++◌, length, take, drop, Option, None, Some, refl, sym, ap, subst, ◌∙◌, arith, append_assoc, length-append}
+use Rattle.std.proofs.Common.{◌≡◌, ◌≢◌, ℕ, zero, suc, ◌+◌, ◌-◌, ◌*◌, ◌<◌, ◌≤◌, inl, inr, List, [], ◌∷◌, ◌++◌, length, take, drop, Option, None, Some, Ok, refl, sym, ap, subst, ◌∙◌, arith, append_assoc, length-append}
 use Rattle.std.proofs.lemmas.List.{append-nil, length-take}
 use Rattle.mb_format.specs.Format.{Spells}
 use Rattle.mb_model.specs.declared.entry.SignedEntry.{SignedEntry}
@@ -40,7 +40,8 @@ use Rattle.mb_area.specs.Roots.{HasSomeRoot, Finishes, KeepsOrFinishes, IsReadyT
 use Rattle.mb_region.specs.Fates.{IsPending, AppliesFate}
 use Rattle.mb_boot.specs.Completions.{BeginsWithHeader, text_at_place, unsigned_count, signer_of, IsSignedSector, SignsText, SignsTextAt}
 use Rattle.mb_boot.specs.declared.pending.Signer.{Signer}
-use Rattle.mb_boot.specs.Settling.{IsLive, IsOnlyRoot, AppliesBoth, signed_anew, log_until, AddsToLog, CompletesLog, CountsLog, SignsRecord, Settles}
+use Rattle.mb_board.specs.Calls.{Seen, IsUp, Ran, RanOnFlash}
+use Rattle.mb_boot.specs.Settling.{IsLive, IsLiveWith, IsOnlyRoot, AppliesBoth, signed_anew, log_until, AddsToLog, CompletesLog, CountsLog, SignsRecord, Settles}
 use Rattle.mb_boot.proofs.Completed.{texts_counted, made_at, IsNext, next_is, none_next, two_are_all}
 
 -- ---- the meaning
@@ -50,6 +51,17 @@ keeps before after kept = record { kept = kept }
 
 pub live_still : (before after : Memory) → IsLive before → KeepsMeaning before after → IsLive after
 live_still before after live keep = record { state = live.state; means = keep.kept live.state live.means; valid = live.valid }
+
+-- a device that is still up, and whose memory still means what it meant
+pub live_with : {A E : Type 0} (n : ℕ) (value : A) (before after : Seen) (root : Root) → Ran n {A = A} {E = E} (Ok value) before after → IsUp 1 before → IsLive before.memory → KeepsMeaning before.memory after.memory
+    → IsOnlyRoot after.memory.bbram root → IsLiveWith after root
+live_with n value before after root ran up live keep only =
+    record { up = record { on = ran.power; at_level = ran.level ∙ up.at_level; loaded = ran.sized }; live = live_still before.memory after.memory live keep; root = only }
+
+pub live_with_writes : {A E : Type 0} (n : ℕ) (value : A) (before after : Seen) (root : Root) → RanOnFlash n {A = A} {E = E} (Ok value) before after → KeepsContents before.memory after.memory
+    → IsUp 1 before → IsLive before.memory → IsOnlyRoot before.memory.bbram root → IsLiveWith after root
+live_with_writes n value before after root ran keep up live only =
+    live_with n value before after root ran.ran up live (contents_keep before.memory after.memory ran.ran.sized keep) (subst (λ bbram. IsOnlyRoot bbram root) (sym ran.bbram) only)
 
 -- ---- the root
 

@@ -9,6 +9,7 @@ use Rattle.mb_model.specs.StoredLog.{entries_signed_for, outgoing_of}
 use Rattle.mb_model.specs.Meaning.{RootIn, Contents, state_of_contents}
 use Rattle.mb_model.specs.Clean.{root_of}
 use Rattle.mb_model.specs.Valid.{IsValidState}
+use Rattle.mb_board.specs.Calls.{Seen, IsUp}
 use Rattle.mb_model_memory.specs.Commits.{both_done, at_rest}
 use Rattle.mb_model_memory.specs.Holding.{Holds, Means}
 
@@ -22,6 +23,17 @@ pub record IsLive (memory : Memory) : Type 0 where
 pub record IsOnlyRoot (bbram : List ℕ) (root : Root) : Type 0 where
   pub holds : RootIn bbram root
   pub only : (any : Root) → RootIn bbram any → any ≡ root
+
+-- the board is up with layer 1, and its memory means a state that a device can have
+pub record IsLiveBoard (seen : Seen) : Type 0 where
+  pub up : IsUp 1 seen
+  pub live : IsLive seen.memory
+
+-- the board is up with layer 1, and its memory means such a state with this root record and no other
+pub record IsLiveWith (seen : Seen) (current : Root) : Type 0 where
+  pub up : IsUp 1 seen
+  pub live : IsLive seen.memory
+  pub root : IsOnlyRoot seen.memory.bbram current
 
 -- the memory holds what it held, changed by the fates of both regions
 pub record AppliesBoth (before after : Memory) : Type 0 where

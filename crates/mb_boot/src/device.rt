@@ -8,11 +8,11 @@ ghost use Rattle.mb_model.specs.Meaning.{StandsFor};
 ghost use Rattle.mb_board.specs.Calls.{IsPowered, IsUp, Ran, KeepsEvents, RanOnBbram, IsSwitched};
 ghost use Rattle.mb_model_memory.specs.FlashInForce.{SparesSectors};
 ghost use Rattle.mb_model_memory.specs.Holding.{KeepsContents, KeepsMeaning};
-ghost use Rattle.mb_boot.specs.Settling.{IsLive};
+ghost use Rattle.mb_boot.specs.Settling.{IsLive, IsLiveBoard};
 ghost use Rattle.mb_boot.specs.Booting.{IsFoundAs, Rests, IsWiped, Cleans, IsQuiet, StandsForValid, KeepsState, IfUnwritten, stop_of, power_at, HasLevel, is_zeroised};
 ghost use Rattle.mb_lms.specs.declared.hash_count.TheConstants.{SIGNING_HASHES};
 
-use crate::work::{settle, settle_by};
+use crate::work::settle;
 use mb_area::{LookEnd, Looked, Unsettled, look, wipe_root};
 use mb_board::Board;
 use mb_layout::Room;
@@ -53,15 +53,14 @@ fn settle_and_wipe<B: Board, L: Ledger>(
     room: &mut Room,
     hashes: &mut HashCount<L>,
 ) -> Result<Up<R1>, Off>
-    requires up { IsUp 1 (B.seen b.old) }
-    requires live { IsLive (B.seen b.old).memory }
+    requires { IsLiveBoard (B.seen b.old) }
     ensures rests { OnOk result (Rests (B.seen b.old).memory (B.seen b.new).memory) }
     ensures meaning { KeepsMeaning (B.seen b.old).memory (B.seen b.new).memory }
     ensures spared { SparesSectors (B.seen b.old).memory (B.seen b.new).memory }
     ensures ran { Ran 13 result (B.seen b.old) (B.seen b.new) }
     ensures cost { hashes.new ≤ hashes.old + 2 * SIGNING_HASHES }
 {
-    let w = settle(u, b, room, hashes)?;
+    let w = settle(u, b, room, &mut Bench::new(), hashes)?;
     let up = wipe_root(w, b)?;
     Ok(up)
 }
@@ -74,8 +73,7 @@ fn bring_to_rest<B: Board, L: Ledger>(
     room: &mut Room,
     hashes: &mut HashCount<L>,
 ) -> Result<Up<R1>, Off>
-    requires up { IsUp 1 (B.seen b.old) }
-    requires live { IsLive (B.seen b.old).memory }
+    requires live { IsLiveBoard (B.seen b.old) }
     requires looked { IsFoundAs looked (B.seen b.old).memory.bbram }
     ensures rests { OnOk result (Rests (B.seen b.old).memory (B.seen b.new).memory) }
     ensures meaning { KeepsMeaning (B.seen b.old).memory (B.seen b.new).memory }
@@ -117,8 +115,7 @@ fn come_up<B: Board, L: Ledger>(
     room: &mut Room,
     hashes: &mut HashCount<L>,
 ) -> Result<Up<R1>, Off>
-    requires up { IsUp 1 (B.seen b.old) }
-    requires live { IsLive (B.seen b.old).memory }
+    requires { IsLiveBoard (B.seen b.old) }
     ensures clean { OnOk result (Cleans (B.seen b.old).memory (B.seen b.new).memory) }
     ensures meaning { KeepsMeaning (B.seen b.old).memory (B.seen b.new).memory }
     ensures spared { SparesSectors (B.seen b.old).memory (B.seen b.new).memory }
@@ -155,7 +152,7 @@ pub fn finish_order<B: Board, L: Ledger>(
     ensures ran { Ran 15 result (B.seen b.old) (B.seen b.new) }
     ensures cost { hashes.new ≤ hashes.old + 2 * SIGNING_HASHES }
 {
-    let w = settle_by(u, b, room, bench, hashes)?;
+    let w = settle(u, b, room, bench, hashes)?;
     let up = wipe_root(w, b)?;
     let up = wipe_regions(up, b)?;
     Ok(up)

@@ -13,4 +13,3 @@ mod pending;
 mod work;
 
 pub use device::{BootEnd, boot, finish_order};
-pub use work::settle;

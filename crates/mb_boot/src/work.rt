@@ -3,10 +3,10 @@
 ghost use Rattle.std.specs.Prelude.{◌≡◌, ◌≤◌, ◌+◌, OnOk, ◌*◌};
 ghost use Rattle.mb_model.specs.Flash.{sector};
 ghost use Rattle.mb_model.specs.Sectors.{header_sector};
-ghost use Rattle.mb_board.specs.Calls.{IsUp, Ran, RanOnBbram, RanOnFlash};
+ghost use Rattle.mb_board.specs.Calls.{Ran, RanOnBbram, RanOnFlash};
 ghost use Rattle.mb_model_memory.specs.FlashInForce.{AgreeForArea, SparesSectors};
 ghost use Rattle.mb_model_memory.specs.Holding.{KeepsContents, KeepsMeaning};
-ghost use Rattle.mb_boot.specs.Settling.{IsLive, IsOnlyRoot, AppliesBoth, AddsToLog, CompletesLog, CountsLog, SignsRecord, Settles};
+ghost use Rattle.mb_boot.specs.Settling.{IsLiveBoard, IsLiveWith, IsOnlyRoot, AppliesBoth, AddsToLog, CompletesLog, CountsLog, SignsRecord, Settles};
 ghost use Rattle.mb_lms.specs.declared.hash_count.TheConstants.{SIGNING_HASHES};
 
 use crate::pending::{settle_header, sign_next};
@@ -28,9 +28,7 @@ fn apply_fates<B: Board>(
     root: &Root,
     room: &mut Room,
 ) -> Result<Unsettled, Off>
-    requires up { IsUp 1 (B.seen b.old) }
-    requires live { IsLive (B.seen b.old).memory }
-    requires root { IsOnlyRoot (B.seen b.old).memory.bbram root.now }
+    requires { IsLiveWith (B.seen b.old) root.now }
     ensures done { OnOk result (AppliesBoth (B.seen b.old).memory (B.seen b.new).memory) }
     ensures meaning { KeepsMeaning (B.seen b.old).memory (B.seen b.new).memory }
     ensures root { IsOnlyRoot (B.seen b.new).memory.bbram root.now }
@@ -53,9 +51,7 @@ fn write_entry<B: Board, L: Ledger>(
     bench: &mut Bench,
     hashes: &mut HashCount<L>,
 ) -> Result<Unsettled, Off>
-    requires up { IsUp 1 (B.seen b.old) }
-    requires live { IsLive (B.seen b.old).memory }
-    requires root { IsOnlyRoot (B.seen b.old).memory.bbram root.now }
+    requires root { IsLiveWith (B.seen b.old) root.now }
     requires place { place ≤ 1 }
     requires header { room.old.header.items
         ≡ sector (B.seen b.old).memory.flash (header_sector root.now.area) }
@@ -84,9 +80,7 @@ fn write_entries<B: Board, L: Ledger>(
     bench: &mut Bench,
     hashes: &mut HashCount<L>,
 ) -> Result<Unsettled, Off>
-    requires up { IsUp 1 (B.seen b.old) }
-    requires live { IsLive (B.seen b.old).memory }
-    requires root { IsOnlyRoot (B.seen b.old).memory.bbram root.now }
+    requires { IsLiveWith (B.seen b.old) root.now }
     ensures contents { KeepsContents (B.seen b.old).memory (B.seen b.new).memory }
     ensures agree { AgreeForArea (B.seen b.old).memory.flash (B.seen b.new).memory.flash
         root.now.area }
@@ -110,9 +104,7 @@ fn write_settled<B: Board>(
     root: &Root,
     room: &mut Room,
 ) -> Result<Unsettled, Off>
-    requires up { IsUp 1 (B.seen b.old) }
-    requires live { IsLive (B.seen b.old).memory }
-    requires root { IsOnlyRoot (B.seen b.old).memory.bbram root.now }
+    requires root { IsLiveWith (B.seen b.old) root.now }
     requires header { room.old.header.items
         ≡ sector (B.seen b.old).memory.flash (header_sector root.now.area) }
     ensures contents { KeepsContents (B.seen b.old).memory (B.seen b.new).memory }
@@ -136,9 +128,7 @@ fn write_signed<B: Board, L: Ledger>(
     bench: &mut Bench,
     hashes: &mut HashCount<L>,
 ) -> Result<Unsettled, Off>
-    requires up { IsUp 1 (B.seen b.old) }
-    requires live { IsLive (B.seen b.old).memory }
-    requires root { IsOnlyRoot (B.seen b.old).memory.bbram root.now }
+    requires { IsLiveWith (B.seen b.old) root.now }
     ensures contents { KeepsContents (B.seen b.old).memory (B.seen b.new).memory }
     ensures agree { AgreeForArea (B.seen b.old).memory.flash (B.seen b.new).memory.flash
         root.now.area }
@@ -151,17 +141,19 @@ fn write_signed<B: Board, L: Ledger>(
     Ok(u)
 }
 
-/// Does the pending work, and signs by the trees on the bench. There are at most 12 write calls.
+/// Does the pending work: applies the fates of the regions, and signs each unsigned entry once. The memory has to mean
+/// a state that a device can have. It means the same state wherever power fails, and afterwards nothing is pending. The
+/// sectors of the log that the header before counts keep their bytes. There are at most 12 write calls, and 70,946
+/// hashes.
 #[tactic(auto, using(crate::proofs::Settled::some_root, crate::proofs::Settled::only_root, crate::proofs::Settled::live_still, mb_model_memory::proofs::HoldingLemmas::contents_keep, crate::proofs::Settled::finish_keeps, mb_model_memory::proofs::HoldingLemmas::keeps_then, crate::proofs::Settled::settled))]
-pub(crate) fn settle_by<B: Board, L: Ledger>(
+pub(crate) fn settle<B: Board, L: Ledger>(
     u: Unsettled,
     b: &mut B,
     room: &mut Room,
     bench: &mut Bench,
     hashes: &mut HashCount<L>,
 ) -> Result<Unwiped, Off>
-    requires up { IsUp 1 (B.seen b.old) }
-    requires live { IsLive (B.seen b.old).memory }
+    requires { IsLiveBoard (B.seen b.old) }
     ensures settled { OnOk result (Settles (B.seen b.old).memory (B.seen b.new).memory) }
     ensures meaning { KeepsMeaning (B.seen b.old).memory (B.seen b.new).memory }
     ensures spared { SparesSectors (B.seen b.old).memory (B.seen b.new).memory }
@@ -173,25 +165,4 @@ pub(crate) fn settle_by<B: Board, L: Ledger>(
     let u = write_signed(u, b, &root, room, bench, hashes)?;
     let w = finish_root(u, b, room)?;
     Ok(w)
-}
-
-/// Does the pending work: applies the fates of the regions, and signs each unsigned entry once. The memory has to mean
-/// a state that a device can have. It means the same state wherever power fails, and afterwards nothing is pending. The
-/// sectors of the log that the header before counts keep their bytes. There are at most 12 write calls, and 70,946
-/// hashes.
-pub fn settle<B: Board, L: Ledger>(
-    u: Unsettled,
-    b: &mut B,
-    room: &mut Room,
-    hashes: &mut HashCount<L>,
-) -> Result<Unwiped, Off>
-    requires up { IsUp 1 (B.seen b.old) }
-    requires live { IsLive (B.seen b.old).memory }
-    ensures settled { OnOk result (Settles (B.seen b.old).memory (B.seen b.new).memory) }
-    ensures meaning { KeepsMeaning (B.seen b.old).memory (B.seen b.new).memory }
-    ensures spared { SparesSectors (B.seen b.old).memory (B.seen b.new).memory }
-    ensures ran { Ran 12 result (B.seen b.old) (B.seen b.new) }
-    ensures cost { hashes.new ≤ hashes.old + 2 * SIGNING_HASHES }
-{
-    settle_by(u, b, room, &mut Bench::new(), hashes)
 }

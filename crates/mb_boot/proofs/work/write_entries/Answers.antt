@@ -1,15 +1,13 @@
 use Rattle.mb_model_memory.proofs.FlashFrames.{agree_then}
-use Rattle.mb_model_memory.proofs.HoldingLemmas.{contents_keep}
-use Rattle.mb_boot.proofs.Settled.{bounded, live_still, log_completed}
+use Rattle.mb_boot.proofs.Settled.{bounded, live_with_writes, log_completed}
 use Rattle.mb_boot.proofs.work.write_entries.Goals as goal
 
 pub read_header-requires-clause-area : goal.read_header-requires-clause-area
 read_header-requires-clause-area g c = (bounded (g.B.Board.seen c.args.b.now).memory.bbram c.args.root.now c.requires.root).area
 
-pub write_entry-requires-2-clause-live : goal.write_entry-requires-2-clause-live
-write_entry-requires-2-clause-live g c =
-    let now = (g.B.Board.seen c.write_entry.new.b).memory in
-    live_still (g.B.Board.seen c.args.b.now).memory now c.requires.live (contents_keep (g.B.Board.seen c.args.b.now).memory now c.write_entry.ensures.ran.ran.sized c.write_entry.ensures.contents)
+pub write_entry-requires-2-clause-root : goal.write_entry-requires-2-clause-root
+write_entry-requires-2-clause-root g c =
+    live_with_writes 2 _ (g.B.Board.seen c.args.b.now) (g.B.Board.seen c.write_entry.new.b) c.args.root.now c.in_ok-u.ensures.ran c.write_entry.ensures.contents c.requires.up c.requires.live c.requires.root
 
 pub returns-in_err-u-2-clause-agree : goal.returns-in_err-u-2-clause-agree
 returns-in_err-u-2-clause-agree g c =

@@ -4,36 +4,36 @@ use Rattle.mb_boot.proofs.Settled.{bounded, header_is_read, can_be_written, entr
 use Rattle.mb_boot.proofs.work.write_entry.Goals as goal
 
 pub sign_next-requires-clause-uses : goal.sign_next-requires-clause-uses
-sign_next-requires-clause-uses g c = (bounded (g.B.Board.seen c.args.b.now).memory.bbram c.args.root.now c.requires.root).uses
+sign_next-requires-clause-uses g c = (bounded (g.B.Board.seen c.args.b.now).memory.bbram c.args.root.now c.requires.root.root).uses
 
 pub sign_next-requires-clause-outgoing : goal.sign_next-requires-clause-outgoing
-sign_next-requires-clause-outgoing g c = (bounded (g.B.Board.seen c.args.b.now).memory.bbram c.args.root.now c.requires.root).outgoing
+sign_next-requires-clause-outgoing g c = (bounded (g.B.Board.seen c.args.b.now).memory.bbram c.args.root.now c.requires.root.root).outgoing
 
 pub sign_next-requires-clause-header : goal.sign_next-requires-clause-header
-sign_next-requires-clause-header g c = header_is_read (g.B.Board.seen c.args.b.now).memory c.args.root.now c.args.room.now.header.items c.requires.live c.requires.root c.requires.header
+sign_next-requires-clause-header g c = header_is_read (g.B.Board.seen c.args.b.now).memory c.args.root.now c.args.room.now.header.items c.requires.root.live c.requires.root.root c.requires.header
 
 pub returns-in_default-clause-added : goal.returns-in_default-clause-added
 returns-in_default-clause-added g c =
-    none_added (g.B.Board.seen c.args.b.now).memory c.args.root.now c.args.place c.args.room.now.header.items c.sign_next.new.room.log.items c.requires.place c.requires.root c.requires.header
+    none_added (g.B.Board.seen c.args.b.now).memory c.args.root.now c.args.place c.args.room.now.header.items c.sign_next.new.room.log.items c.requires.place c.requires.root.root c.requires.header
     (subst (λ (position : Option ℕ). SignsTextAt c.args.root.now c.args.place c.args.room.now.header.items position c.sign_next.new.room.log.items) c.in_default.is c.sign_next.ensures.signed)
 
 pub write_log-requires-clause-position : goal.write_log-requires-clause-position
 write_log-requires-clause-position g c =
-    let can = can_be_written (g.B.Board.seen c.args.b.now).memory c.args.root.now c.args.place c.in-Some.position c.args.room.now.header.items c.sign_next.new.room.log.items c.requires.place c.requires.live c.requires.root c.requires.header
+    let can = can_be_written (g.B.Board.seen c.args.b.now).memory c.args.root.now c.args.place c.in-Some.position c.args.room.now.header.items c.sign_next.new.room.log.items c.requires.place c.requires.root.live c.requires.root.root c.requires.header
     (subst (λ (position : Option ℕ). SignsTextAt c.args.root.now c.args.place c.args.room.now.header.items position c.sign_next.new.room.log.items) c.in-Some.is c.sign_next.ensures.signed)
     in
     record { within = can.within; uncounted = can.uncounted }
 
 pub write_log-requires-clause-log : goal.write_log-requires-clause-log
 write_log-requires-clause-log g c =
-    let can = can_be_written (g.B.Board.seen c.args.b.now).memory c.args.root.now c.args.place c.in-Some.position c.args.room.now.header.items c.sign_next.new.room.log.items c.requires.place c.requires.live c.requires.root c.requires.header
+    let can = can_be_written (g.B.Board.seen c.args.b.now).memory c.args.root.now c.args.place c.in-Some.position c.args.room.now.header.items c.sign_next.new.room.log.items c.requires.place c.requires.root.live c.requires.root.root c.requires.header
     (subst (λ (position : Option ℕ). SignsTextAt c.args.root.now c.args.place c.args.room.now.header.items position c.sign_next.new.room.log.items) c.in-Some.is c.sign_next.ensures.signed)
     in
     (can.some, can.short)
 
 pub returns-clause-added : goal.returns-clause-added
 returns-clause-added g c =
-    entry_added (g.B.Board.seen c.args.b.now).memory (g.B.Board.seen c.write_log.new.b).memory c.args.root.now c.args.place c.in-Some.position c.args.room.now.header.items c.sign_next.new.room.log.items c.requires.place c.requires.up.loaded
-    c.requires.live c.requires.root c.requires.header
+    entry_added (g.B.Board.seen c.args.b.now).memory (g.B.Board.seen c.write_log.new.b).memory c.args.root.now c.args.place c.in-Some.position c.args.room.now.header.items c.sign_next.new.room.log.items c.requires.place c.requires.root.up.loaded
+    c.requires.root.live c.requires.root.root c.requires.header
     (subst (λ (position : Option ℕ). SignsTextAt c.args.root.now c.args.place c.args.room.now.header.items position c.sign_next.new.room.log.items) c.in-Some.is c.sign_next.ensures.signed)
     c.in_ok-u.ensures.written

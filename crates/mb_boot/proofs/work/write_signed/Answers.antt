@@ -1,12 +1,10 @@
 use Rattle.mb_model_memory.proofs.FlashFrames.{agree_then}
-use Rattle.mb_model_memory.proofs.HoldingLemmas.{contents_keep}
-use Rattle.mb_boot.proofs.Settled.{live_still, record_signed}
+use Rattle.mb_boot.proofs.Settled.{live_with_writes, record_signed}
 use Rattle.mb_boot.proofs.work.write_signed.Goals as goal
 
-pub write_settled-requires-clause-live : goal.write_settled-requires-clause-live
-write_settled-requires-clause-live g c =
-    let now = (g.B.Board.seen c.write_entries.new.b).memory in
-    live_still (g.B.Board.seen c.args.b.now).memory now c.requires.live (contents_keep (g.B.Board.seen c.args.b.now).memory now c.write_entries.ensures.ran.ran.sized c.write_entries.ensures.contents)
+pub write_settled-requires-clause-root : goal.write_settled-requires-clause-root
+write_settled-requires-clause-root g c =
+    live_with_writes 4 _ (g.B.Board.seen c.args.b.now) (g.B.Board.seen c.write_entries.new.b) c.args.root.now c.in_ok-u.ensures.ran c.write_entries.ensures.contents c.requires.up c.requires.live c.requires.root
 
 pub returns-in_err-u-2-clause-agree : goal.returns-in_err-u-2-clause-agree
 returns-in_err-u-2-clause-agree g c =

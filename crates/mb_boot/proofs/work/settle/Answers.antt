@@ -1,6 +1,15 @@
-use Rattle.mb_boot.proofs.Settled.{only_root, finish_keeps, spared_by_writes, spared_then}
+use Rattle.mb_boot.proofs.Settled.{live_with, only_root, finish_keeps, spared_by_writes, spared_then}
 use Rattle.mb_model_memory.proofs.HoldingLemmas.{keeps_then, contents_keep}
-use Rattle.mb_boot.proofs.work.settle_by.Goals as goal
+use Rattle.mb_boot.proofs.work.settle.Goals as goal
+
+pub apply_fates-requires : goal.apply_fates-requires
+apply_fates-requires g c =
+    let first = (g.B.Board.seen c.args.b.now).memory in
+    record { up = c.requires.up; live = c.requires.live; root = only_root first.bbram c.read_root-root.result c.read_root-root.ensures.holds c.read_root-root.ensures.root }
+
+pub write_signed-requires : goal.write_signed-requires
+write_signed-requires g c =
+    live_with 4 _ (g.B.Board.seen c.args.b.now) (g.B.Board.seen c.apply_fates.new.b) c.read_root-root.result c.in_ok-u.ensures.ran.ran c.requires.up c.requires.live c.apply_fates.ensures.meaning c.apply_fates.ensures.root
 
 pub returns-in_err-w-clause-meaning : goal.returns-in_err-w-clause-meaning
 returns-in_err-w-clause-meaning g c =
