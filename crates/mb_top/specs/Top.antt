@@ -1,5 +1,5 @@
 -- What the program does, by its words: which command they call, and how it ends.
-use Rattle.std.specs.Prelude.{◌≡◌, ◌⊎◌, List, ℕ, map, codes, Result}
+use Rattle.std.specs.Prelude.{◌≡◌, ◌⊎◌, List, ℕ, map, codes, Result, Err}
 use Rattle.mb_model.specs.declared.event.Answered.{Answered}
 use Rattle.mb_model.specs.Outside.{Outside}
 use Rattle.mb_model.specs.Board.{Held}
@@ -15,6 +15,7 @@ use Rattle.mb_model.specs.ChainCommands.{chain, attach}
 use Rattle.mb_model.specs.GenerateCommand.{generate}
 use Rattle.mb_board.specs.Calls.{Seen}
 use Rattle.mb_console.specs.declared.end.End.{End}
+use Rattle.mb_console.specs.declared.end.End.TheVariants as end
 use Rattle.mb_console.specs.Ending.{ended_at, EndsOncePrinted}
 use Rattle.mb_console.specs.Words.{Row, Argument, IsCall}
 use Rattle.mb_tools.specs.Names.{keygen_given, sign_given, countersign_given, factory_given, migrate_given}
@@ -81,6 +82,23 @@ abbrev pub CarriesOutWords :
 CarriesOutWords words answered final before result now =
     EndsOncePrinted (λ after status. Ends words (ended_at before answered final after status)) result now
 
--- A board holds what it held at its last answer. Or an allocation failed between two runs, and power was turned off.
-abbrev pub HoldsAtStatus : ℕ → Seen → Type 0
-HoldsAtStatus status seen = HoldsAnswered seen ⊎ ((status ≡ 6) × HoldsShut seen)
+-- ---- what the board holds
+
+-- the words call `cutat`
+abbrev pub CallsCutat : List (List ℕ) → Type 0
+CallsCutat words = (given : List Argument) × IsCall commands words command.Cutat given
+
+-- After a command, a board holds what it held at its last answer. Or an allocation of `cutat` failed between its two
+-- runs, and power was turned off.
+abbrev pub HoldsAfter : Command → Result (Unit {0}) End → Seen → Type 0
+HoldsAfter called result seen =
+    HoldsAnswered seen ⊎ ((called ≡ command.Cutat) × (result ≡ Err end.NoMemory) × HoldsShut seen)
+
+-- what a board holds once the words have been carried out, up to the line of the status
+abbrev pub HoldsAfterWords : List (List ℕ) → Result (Unit {0}) End → Seen → Type 0
+HoldsAfterWords words result seen =
+    HoldsAnswered seen ⊎ (CallsCutat words × (result ≡ Err end.NoMemory) × HoldsShut seen)
+
+-- what a board holds when the words have ended with this exit status
+abbrev pub HoldsAtStatus : List (List ℕ) → ℕ → Seen → Type 0
+HoldsAtStatus words status seen = HoldsAnswered seen ⊎ (CallsCutat words × (status ≡ 6) × HoldsShut seen)

@@ -63,7 +63,9 @@ pub fn program<H: Host, B: Board>(
     ensures none { IfErr words (λ why. Stops (end_line (end_without why)) (end_status (end_without why)) at_first
         (ended_at (H.outside host.old) (B.seen board.new).ledger.answered (B.seen board.new).ledger.standing
         (H.outside host.new) result)) }
-    ensures stays { HoldsAnswered (B.seen board.old) → HoldsAtStatus result (B.seen board.new) }
+    ensures stays { HoldsAnswered (B.seen board.old)
+        → IfOk words (λ words. HoldsAtStatus (map string_bytes words.items) result (B.seen board.new)) }
+    ensures idle { IfErr words (λ why. B.seen board.new ≡ B.seen board.old) }
 {
     match words {
         Ok(words) => answer(alloc, &words, host, board),
@@ -81,7 +83,7 @@ fn answer<H: Host, B: Board>(alloc: Global, words: &[String], host: &mut H, boar
     ensures carried { ProgramEnds usage VERSION.now (map string_bytes words.now)
         (ended_at (H.outside host.old) (B.seen board.new).ledger.answered (B.seen board.new).ledger.standing
         (H.outside host.new) result) }
-    ensures stays { HoldsAnswered (B.seen board.old) → HoldsAtStatus result (B.seen board.new) }
+    ensures stays { HoldsAnswered (B.seen board.old) → HoldsAtStatus (map string_bytes words.now) result (B.seen board.new) }
 {
     if is_one_word(words, "--help") {
         tell(host, usage().as_slice())

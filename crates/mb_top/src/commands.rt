@@ -4,8 +4,8 @@ ghost use Rattle.std.specs.Prelude.{◌≡◌, ◌<◌, ◌⊎◌, ℕ, MatchOpt
 ghost use Rattle.mb_model.specs.Commands.{HasInputsFor, ComesToRefusal, IsFaultless, at_first};
 ghost use Rattle.mb_console.specs.Ending.{CarriesOutRest};
 ghost use Rattle.mb_console.specs.Words.{Argument, IsCall, given_argument};
-ghost use Rattle.mb_top.specs.Top.{commands, command_of, Ends, HoldsAtStatus, CarriesOutWords};
-ghost use Rattle.mb_tools_device.specs.Holding.{HoldsAnswered, EndsHolding};
+ghost use Rattle.mb_top.specs.Top.{commands, command_of, Ends, HoldsAfter, HoldsAfterWords, HoldsAtStatus, CarriesOutWords};
+ghost use Rattle.mb_tools_device.specs.Holding.{HoldsAnswered};
 
 use crate::table::{COMMANDS, Call, Command, call_in};
 use mb_board::Board;
@@ -47,7 +47,7 @@ fn command<H: Host, B: Board>(
     requires none_answered { (B.seen board.old).ledger.answered ≡ [] }
     ensures carried { CarriesOutWords (map string_bytes words.now) (B.seen board.new).ledger.answered (B.seen board.new).ledger.standing
         (H.outside host.old) result (H.outside host.new) }
-    ensures stays { HoldsAnswered (B.seen board.old) → EndsHolding result (B.seen board.new) }
+    ensures stays { HoldsAnswered (B.seen board.old) → HoldsAfterWords (map string_bytes words.now) result (B.seen board.new) }
 {
     counted_command::<H, B, Brand>(alloc, words, host, board, Blank::new(1))
 }
@@ -68,7 +68,7 @@ fn counted_command<H: Host, B: Board, L: Ledger>(
     requires none_answered { (B.seen board.old).ledger.answered ≡ [] }
     ensures carried { CarriesOutWords (map string_bytes words.now) (B.seen board.new).ledger.answered (B.seen board.new).ledger.standing
         (H.outside host.old) result (H.outside host.new) }
-    ensures stays { HoldsAnswered (B.seen board.old) → EndsHolding result (B.seen board.new) }
+    ensures stays { HoldsAnswered (B.seen board.old) → HoldsAfterWords (map string_bytes words.now) result (B.seen board.new) }
 {
     let mut hashes = HashCount::<L>::begin(alloc, blank);
     match called(words) {
@@ -100,7 +100,7 @@ fn carry_out<H: Host, B: Board, L: Ledger>(
     requires none_answered { (B.seen board.old).ledger.answered ≡ [] }
     ensures carried { CarriesOutRest (command_of call.now.command (map given_argument call.now.arguments.items)) at_first
         (B.seen board.new).ledger.answered (B.seen board.new).ledger.standing (H.outside host.old) result (H.outside host.new) }
-    ensures stays { HoldsAnswered (B.seen board.old) → EndsHolding result (B.seen board.new) }
+    ensures stays { HoldsAnswered (B.seen board.old) → HoldsAfter call.now.command result (B.seen board.new) }
 {
     let given = &call.arguments;
     match call.command {
@@ -144,7 +144,7 @@ pub fn top<H: Host, B: Board>(alloc: Global, words: &[String], host: &mut H, boa
         → (files : List ℕ → Option (List ℕ)) → (H.outside host.old).files ≡ Some files → HasInputsFor (command_of called given) files
         → IsFaultless (H.outside host.old) (H.outside host.new)
         → (result ≡ 0) ⊎ (result ≡ 6) ⊎ ((result ≡ 7) × ComesToRefusal (command_of called given) files) }
-    ensures stays { HoldsAnswered (B.seen board.old) → HoldsAtStatus result (B.seen board.new) }
+    ensures stays { HoldsAnswered (B.seen board.old) → HoldsAtStatus (map string_bytes words.now) result (B.seen board.new) }
 {
     match command(alloc, words, host, board) {
         Ok(()) => 0,
