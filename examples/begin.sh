@@ -1,9 +1,14 @@
-# How an example begins: read by its script, whose folder is in `here`. Makes a temporary folder, `work`, which is removed
-# when the script ends.
+# How an example begins: read by its script, whose folder is in `here`. Makes a folder, `work`: the one that KEEP_IN
+# names, which must not be there yet, or else a temporary one, which is removed when the script ends.
 
 crate=$(cd "$here/../../crates/miniboot" && pwd)
-work=$(mktemp -d)
-trap 'rm -rf "$work"' EXIT
+if [ -n "${KEEP_IN-}" ]; then
+    mkdir -- "$KEEP_IN" || exit 1
+    work=$(cd -- "$KEEP_IN" && pwd)
+else
+    work=$(mktemp -d)
+    trap 'rm -rf "$work"' EXIT
+fi
 # shellcheck source=../checks/program.sh
 . "$here/../../checks/program.sh"
 # shellcheck source=steps.sh

@@ -5,7 +5,7 @@
 # keys and the device with it, and shows each step. Fails if what was printed is not what expected.txt says, whose
 # answers another program computed (bench/applications/interpreter.c). run.sh [PROGRAM] tries a program that is built.
 # Works from any current folder; beside the build in crates/*/out/ it writes in a temporary folder alone, which it
-# removes.
+# removes, or in the new folder that KEEP_IN names.
 set -euo pipefail
 export LC_ALL=C
 

@@ -6,7 +6,7 @@
 # Each answer is one that peers/commands.py allows, and step 3 shows by `run` what is then left. The noise is known
 # here, so that the same keys can be made; people take bytes that nobody can guess, as `head -c 48 /dev/urandom` gives
 # them. run.sh [PROGRAM] tries a program that is built. Works from any current folder; beside the build in crates/*/out/
-# it writes in a temporary folder alone, which it removes.
+# it writes in a temporary folder alone, which it removes, or in the new folder that KEEP_IN names.
 set -euo pipefail
 export LC_ALL=C
 

@@ -16,7 +16,7 @@
 #
 # The noise is known here, so that the same keys can be made; people take bytes that nobody can guess, as
 # `head -c 32 /dev/urandom` gives them. Works from any current folder; beside the build in crates/*/out/ it writes in a
-# temporary folder alone, which it removes.
+# temporary folder alone, which it removes, or in the new folder that KEEP_IN names.
 set -euo pipefail
 export LC_ALL=C
 usage="usage: examples/device-life/run.sh [--unproved | PROGRAM]"

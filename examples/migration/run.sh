@@ -1,11 +1,12 @@
 #!/usr/bin/env bash
 # A device from the field, whose image has the earlier form, with a flash that is not in segments, is brought to the
-# current form, as docs/use/commands.md says. The image is that of a device which has lived as that of examples/device-life, with entries
-# of version 1; old-image.txt has it by offset and bytes, and another program made it. A second image is that of the
-# device before its last entry was signed, with the record of codes and log in the other area of the flash;
-# pending-image.txt has all of it but that record. Builds the proved program, and shows each step. Fails if what was
-# printed is not what expected.txt says. run.sh [PROGRAM] tries a program that is built. Works from any current folder;
-# beside the build in crates/*/out/ it writes in a temporary folder alone, which it removes.
+# current form, as docs/use/commands.md says. The image is that of a device which has lived as that of
+# examples/device-life, with entries of version 1; old-image.txt has it by offset and bytes, and another program made
+# it. A second image is that of the device before its last entry was signed, with the record of codes and log in the
+# other area of the flash; pending-image.txt has all of it but that record. Builds the proved program, and shows each
+# step. Fails if what was printed is not what expected.txt says. run.sh [PROGRAM] tries a program that is built. Works
+# from any current folder; beside the build in crates/*/out/ it writes in a temporary folder alone, which it removes, or
+# in the new folder that KEEP_IN names.
 set -euo pipefail
 export LC_ALL=C
 

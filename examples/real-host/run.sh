@@ -1,7 +1,7 @@
 #!/usr/bin/env bash
 # Tries the program on files and an output that fail, and compares its lines and statuses: run.sh [PROGRAM]. With no
 # PROGRAM it proves and builds the program first. Works from any current folder; beside that build it writes in a
-# temporary folder alone, which it removes. It needs Linux, for /dev/full.
+# temporary folder alone, which it removes, or in the new folder that KEEP_IN names. It needs Linux, for /dev/full.
 set -euo pipefail
 export LC_ALL=C
 
