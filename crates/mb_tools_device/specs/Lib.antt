@@ -1,4 +1,3 @@
-pub mod Boards
 pub mod Holding
 pub mod Names
 pub mod Generated

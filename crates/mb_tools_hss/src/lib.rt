@@ -12,4 +12,3 @@ mod input;
 mod laws;
 
 pub use laws::inputs_are_clear;
-pub use mb_hss::LEVEL_LIMIT;
