@@ -4,6 +4,7 @@ use Rattle.std.specs.Prelude.{bit_and, bit_or, bit_xor, List, [], ◌∷◌, ◌
 use Rattle.std.specs.Prelude.{Option, Some, None, if◌then◌else◌}
 use Rattle.mb_model.specs.declared.region.Secret.{Secret}
 use Rattle.mb_model.specs.LayerEvents.{has_name}
+use Rattle.mb_appvm.specs.declared.limits.TheConstants.{STACK_LIMIT, CALL_LIMIT, MEMORY_LENGTH, OUTPUT_LIMIT}
 use Rattle.mb_appvm.specs.declared.instruction.Operation.{Operation}
 use Rattle.mb_appvm.specs.declared.instruction.Operation.TheVariants as op
 use Rattle.mb_appvm.specs.declared.instruction.Plain.{Plain}
@@ -142,8 +143,8 @@ absent_secret = 4294967295
 abbrev pub DoesCopy : Option Secret → ℕ → ℕ → AppState → StepOutcome → Type 0
 DoesCopy None next address machine outcome = outcome ≡ goes (after_push next (absent_secret ∷ []) machine)
 DoesCopy (Some secret) next address machine outcome =
-    ((1024 < address + length secret.value) × (outcome ≡ traps trap.BadAddress))
-    ⊎ ((address + length secret.value ≤ 1024)
+    ((MEMORY_LENGTH < address + length secret.value) × (outcome ≡ traps trap.BadAddress))
+    ⊎ ((address + length secret.value ≤ MEMORY_LENGTH)
     × (outcome ≡ goes (after_push next (length secret.value ∷ []) (after_write address secret.value machine))))
 
 -- the region may not be read, or its secret with this name is looked up
@@ -167,17 +168,18 @@ DoesPlain input plain.Return next [] machine outcome =
     ⊎ ((others : List ℕ) × (last : ℕ) × (machine.returns ≡ others ++ last ∷ [])
     × (outcome ≡ goes (record machine { place = last; returns = others })))
 DoesPlain input plain.Load next (address ∷ []) machine outcome =
-    ((1023 < address) × (outcome ≡ traps trap.BadAddress))
-    ⊎ ((address ≤ 1023) × (outcome ≡ goes (after_push next (get_or machine.memory address 0 ∷ []) machine)))
+    ((MEMORY_LENGTH ≤ address) × (outcome ≡ traps trap.BadAddress))
+    ⊎ ((address < MEMORY_LENGTH) × (outcome ≡ goes (after_push next (get_or machine.memory address 0 ∷ []) machine)))
 DoesPlain input plain.Store next (value ∷ address ∷ []) machine outcome =
-    ((1023 < address) × (outcome ≡ traps trap.BadAddress))
-    ⊎ ((address ≤ 1023) × (outcome ≡ goes (after_push next [] (after_write address (value % 256 ∷ []) machine))))
+    ((MEMORY_LENGTH ≤ address) × (outcome ≡ traps trap.BadAddress))
+    ⊎ ((address < MEMORY_LENGTH)
+    × (outcome ≡ goes (after_push next [] (after_write address (value % 256 ∷ []) machine))))
 DoesPlain input plain.Input next (index ∷ []) machine outcome =
     outcome ≡ goes (after_push next (get_or input index 256 ∷ []) machine)
 DoesPlain input plain.Length next [] machine outcome = outcome ≡ goes (after_push next (length input ∷ []) machine)
 DoesPlain input plain.Emit next (value ∷ []) machine outcome =
-    ((4096 ≤ length machine.output) × (outcome ≡ traps trap.OutputFull))
-    ⊎ ((length machine.output < 4096)
+    ((OUTPUT_LIMIT ≤ length machine.output) × (outcome ≡ traps trap.OutputFull))
+    ⊎ ((length machine.output < OUTPUT_LIMIT)
     × (outcome ≡ goes (after_push next [] (record machine { output = machine.output ++ value % 256 ∷ [] }))))
 DoesPlain input kind next values machine outcome = ⊥
 
@@ -189,8 +191,8 @@ Does seen (instruction.Jump to) next [] machine outcome = outcome ≡ goes (afte
 Does seen (instruction.JumpZero to) next (a ∷ []) machine outcome =
     outcome ≡ goes (after_push (if a == 0 then to else next) [] machine)
 Does seen (instruction.Call to) next [] machine outcome =
-    ((64 ≤ length machine.returns) × (outcome ≡ traps trap.BadReturn))
-    ⊎ ((length machine.returns < 64)
+    ((CALL_LIMIT ≤ length machine.returns) × (outcome ≡ traps trap.BadReturn))
+    ⊎ ((length machine.returns < CALL_LIMIT)
     × (outcome ≡ goes (record (after_push to [] machine) { returns = machine.returns ++ next ∷ [] })))
 Does seen (instruction.Get name) next (address ∷ region ∷ []) machine outcome =
     DoesGet (seen.secrets region) name next address machine outcome
@@ -199,7 +201,7 @@ Does seen it next values machine outcome = ⊥
 -- ---- one step
 
 -- One step, with the traps in their order: no instruction stands at the place, or the one there finds too few values,
--- or it would leave more than 256, or it does what it does with the values that it takes.
+-- or it would leave more than `STACK_LIMIT`, or it does what it does with the values that it takes.
 pub data AppStep (seen : Surroundings) (machine : AppState) (outcome : StepOutcome) : Type 0 where
   unknown : ((it : Instruction) (next : ℕ) → Stands seen.code machine.place it next → ⊥)
       → outcome ≡ traps trap.NoInstruction → AppStep seen machine outcome
@@ -207,8 +209,8 @@ pub data AppStep (seen : Surroundings) (machine : AppState) (outcome : StepOutco
       → length machine.stack < takes it
       → outcome ≡ traps trap.TooFewValues → AppStep seen machine outcome
   overflows : (it : Instruction) (next : ℕ) → Stands seen.code machine.place it next → takes it ≤ length machine.stack
-      → takes it + 256 < length machine.stack + leaves it → outcome ≡ traps trap.TooManyValues
+      → takes it + STACK_LIMIT < length machine.stack + leaves it → outcome ≡ traps trap.TooManyValues
       → AppStep seen machine outcome
   does : (it : Instruction) (next : ℕ) → Stands seen.code machine.place it next → (rest values : List ℕ)
-      → machine.stack ≡ rest ++ values → length values ≡ takes it → length rest + leaves it ≤ 256
+      → machine.stack ≡ rest ++ values → length values ≡ takes it → length rest + leaves it ≤ STACK_LIMIT
       → Does seen it next values (record machine { stack = rest }) outcome → AppStep seen machine outcome

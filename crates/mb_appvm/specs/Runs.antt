@@ -6,13 +6,14 @@ use Rattle.mb_model.specs.declared.layer.Layers.{Layers}
 use Rattle.mb_model.specs.declared.region.Region.{Region}
 use Rattle.mb_model.specs.declared.region.Secret.{Secret}
 use Rattle.mb_model.specs.Layers.{is_upper, is_runnable}
+use Rattle.mb_appvm.specs.declared.limits.TheConstants.{MEMORY_LENGTH}
 use Rattle.mb_appvm.specs.declared.running.AppEnd.{AppEnd}
 use Rattle.mb_appvm.specs.declared.running.AppEnd.TheVariants as end
 use Rattle.mb_appvm.specs.Application.{AppState, Surroundings, StepOutcome, goes, run_halts, traps, AppStep}
 
 -- a machine before its first instruction
 abbrev pub first_state : AppState
-first_state = record { place = 0; stack = []; returns = []; memory = replicate 1024 0; output = [] }
+first_state = record { place = 0; stack = []; returns = []; memory = replicate MEMORY_LENGTH 0; output = [] }
 
 -- what follows from an outcome: the next machine goes on, or the run ends
 abbrev pub LeadsOn : (AppState → Type 0) → AppState → StepOutcome → ℕ → AppEnd → Type 0

@@ -3,6 +3,7 @@
 ghost use Rattle.std.specs.Prelude.{◌≡◌, ◌+◌, ◌<◌, ◌≤◌, ◌++◌, ◌∷◌, [], ℕ, length};
 ghost use Rattle.arrayvec.specs.ArrayVec.{array_vec_len};
 ghost use Rattle.mb_model.specs.declared.limits.TheConstants.{FILE_LIMIT};
+ghost use Rattle.mb_appvm.specs.declared.limits.TheConstants.{STACK_LIMIT};
 ghost use Rattle.mb_appvm.specs.Application.{Surroundings, takes, leaves};
 ghost use Rattle.mb_appvm.specs.Application.{plain_takes, plain_leaves};
 ghost use Rattle.mb_appvm.specs.Runs.{first_state};
@@ -13,23 +14,18 @@ ghost use Rattle.mb_appvm.specs.declared.machine.Step.TheVariants as step;
 use crate::environment::Environment;
 use crate::fetching::fetch;
 use crate::instruction::{Instruction, Plain};
+use crate::limits::{CALL_LIMIT, MEMORY_LENGTH, OUTPUT_LIMIT, STACK_LIMIT};
 use crate::trap::Trap;
 use arrayvec::ArrayVec;
-
-/// The most values on the stack.
-const VALUES: usize = 256;
-
-/// The number of bytes of memory.
-pub(crate) const MEMORY: usize = 1024;
 
 /// A machine between two instructions.
 #[derive(Drop)]
 pub struct Machine {
     pub(crate) place: u32,
-    pub(crate) stack: ArrayVec<u32, 256>,
-    pub(crate) returns: ArrayVec<u32, 64>,
-    pub(crate) memory: [u8; 1024],
-    pub(crate) output: ArrayVec<u8, 4096>,
+    pub(crate) stack: ArrayVec<u32, STACK_LIMIT>,
+    pub(crate) returns: ArrayVec<u32, CALL_LIMIT>,
+    pub(crate) memory: [u8; MEMORY_LENGTH],
+    pub(crate) output: ArrayVec<u8, OUTPUT_LIMIT>,
 }
 
 /// What an instruction leads to.
@@ -49,7 +45,7 @@ impl Machine {
             place: 0,
             stack: ArrayVec::new(),
             returns: ArrayVec::new(),
-            memory: [0; MEMORY],
+            memory: [0; MEMORY_LENGTH],
             output: ArrayVec::new(),
         }
     }
@@ -68,7 +64,7 @@ impl Machine {
         if values < taken {
             return Step::Traps(Trap::TooFewValues);
         }
-        if values + leaves(&instruction) > taken + VALUES {
+        if values + leaves(&instruction) > taken + STACK_LIMIT {
             return Step::Traps(Trap::TooManyValues);
         }
         self.act(instruction, next, environment)
@@ -82,8 +78,8 @@ impl Machine {
         environment: &Environment<'_>,
     ) -> Step
         requires enough { takes instruction ≤ array_vec_len self.old.stack }
-        requires room { array_vec_len self.old.stack + leaves instruction ≤ takes instruction + 256 }
-        requires fits { array_vec_len self.old.stack ≤ 256 }
+        requires room { array_vec_len self.old.stack + leaves instruction ≤ takes instruction + STACK_LIMIT }
+        requires fits { array_vec_len self.old.stack ≤ STACK_LIMIT }
         requires input { length environment.now.input.now ≤ FILE_LIMIT }
         ensures { DoesOn (surroundings_of environment.now) instruction.entry next self.old result self.new }
     {
@@ -126,7 +122,7 @@ impl Machine {
 
     /// Puts a value on top.
     pub(crate) fn push(&mut self, value: u32)
-        requires { array_vec_len self.old.stack < 256 }
+        requires { array_vec_len self.old.stack < STACK_LIMIT }
         ensures value { self.new.stack.items ≡ self.old.stack.items ++ value ∷ [] }
         ensures stays { self.new ≡ record self.old { stack = self.new.stack } }
     {
@@ -135,7 +131,7 @@ impl Machine {
 
     /// Keeps the next place and continues at another.
     fn call(&mut self, to: u16, next: u32) -> Step
-        requires room { array_vec_len self.old.stack ≤ 256 }
+        requires room { array_vec_len self.old.stack ≤ STACK_LIMIT }
         ensures { (s : Surroundings) → DoesOn s (instruction.Call to) next self.old result self.new }
     {
         if self.returns.is_full() {

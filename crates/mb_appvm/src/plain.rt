@@ -3,12 +3,14 @@
 ghost use Rattle.std.specs.Prelude.{◌≡◌, ◌+◌, ◌<◌, ◌≤◌, ℕ, List, length, get_or};
 ghost use Rattle.arrayvec.specs.ArrayVec.{array_vec_len};
 ghost use Rattle.mb_model.specs.declared.limits.TheConstants.{FILE_LIMIT};
+ghost use Rattle.mb_appvm.specs.declared.limits.TheConstants.{STACK_LIMIT};
 ghost use Rattle.mb_appvm.specs.Application.{plain_takes, plain_leaves, result_of};
 ghost use Rattle.mb_appvm.specs.Acting.{DoesPlainOn};
 ghost use Rattle.mb_appvm.specs.declared.instruction.Plain.TheVariants as plain;
 
 use crate::instruction::{Operation, Plain};
-use crate::machine::{MEMORY, Machine, Step};
+use crate::limits::MEMORY_LENGTH;
+use crate::machine::{Machine, Step};
 use crate::secrets::write;
 use crate::trap::Trap;
 
@@ -16,8 +18,8 @@ impl Machine {
     /// Does an instruction whose values are there and whose results have room.
     pub(crate) fn act_plain(&mut self, plain: Plain, next: u32, input: &[u8]) -> Step
         requires enough { plain_takes plain ≤ array_vec_len self.old.stack }
-        requires room { array_vec_len self.old.stack + plain_leaves plain ≤ plain_takes plain + 256 }
-        requires fits { array_vec_len self.old.stack ≤ 256 }
+        requires room { array_vec_len self.old.stack + plain_leaves plain ≤ plain_takes plain + STACK_LIMIT }
+        requires fits { array_vec_len self.old.stack ≤ STACK_LIMIT }
         requires input { length input.now ≤ FILE_LIMIT }
         ensures { DoesPlainOn input.now plain next self.old result self.new }
     {
@@ -50,7 +52,7 @@ impl Machine {
     /// Pushes the value on top once more.
     fn dup(&mut self, next: u32) -> Step
         requires enough { 1 ≤ array_vec_len self.old.stack }
-        requires room { array_vec_len self.old.stack < 256 }
+        requires room { array_vec_len self.old.stack < STACK_LIMIT }
         ensures { (input : List ℕ) → DoesPlainOn input plain.Dup next self.old result self.new }
     {
         let value = self.pop();
@@ -62,7 +64,7 @@ impl Machine {
     /// Exchanges the two values on top.
     fn swap(&mut self, next: u32) -> Step
         requires enough { 2 ≤ array_vec_len self.old.stack }
-        requires room { array_vec_len self.old.stack ≤ 256 }
+        requires room { array_vec_len self.old.stack ≤ STACK_LIMIT }
         ensures { (input : List ℕ) → DoesPlainOn input plain.Swap next self.old result self.new }
     {
         let second = self.pop();
@@ -75,7 +77,7 @@ impl Machine {
     /// Pushes the value under the one on top.
     fn over(&mut self, next: u32) -> Step
         requires enough { 2 ≤ array_vec_len self.old.stack }
-        requires room { array_vec_len self.old.stack < 256 }
+        requires room { array_vec_len self.old.stack < STACK_LIMIT }
         ensures { (input : List ℕ) → DoesPlainOn input plain.Over next self.old result self.new }
     {
         let second = self.pop();
@@ -89,7 +91,7 @@ impl Machine {
     /// Puts the result of an operation in place of its two values.
     fn compute(&mut self, operation: Operation, next: u32) -> Step
         requires enough { 2 ≤ array_vec_len self.old.stack }
-        requires room { array_vec_len self.old.stack ≤ 256 }
+        requires room { array_vec_len self.old.stack ≤ STACK_LIMIT }
         ensures { (input : List ℕ) → DoesPlainOn input (plain.Compute operation) next self.old result self.new }
     {
         let second = self.pop();
@@ -120,11 +122,11 @@ impl Machine {
     /// Puts the byte of memory at an address in place of the address.
     fn load(&mut self, next: u32) -> Step
         requires enough { 1 ≤ array_vec_len self.old.stack }
-        requires room { array_vec_len self.old.stack ≤ 256 }
+        requires room { array_vec_len self.old.stack ≤ STACK_LIMIT }
         ensures { (input : List ℕ) → DoesPlainOn input plain.Load next self.old result self.new }
     {
         let address = self.pop();
-        if address as usize >= MEMORY {
+        if address as usize >= MEMORY_LENGTH {
             self.push(address);
             return Step::Traps(Trap::BadAddress);
         }
@@ -136,12 +138,12 @@ impl Machine {
     /// Takes an address, and under it a value, and stores the value's low byte there.
     fn store(&mut self, next: u32) -> Step
         requires enough { 2 ≤ array_vec_len self.old.stack }
-        requires room { array_vec_len self.old.stack ≤ 256 }
+        requires room { array_vec_len self.old.stack ≤ STACK_LIMIT }
         ensures { (input : List ℕ) → DoesPlainOn input plain.Store next self.old result self.new }
     {
         let address = self.pop();
         let value = self.pop();
-        if address as usize >= MEMORY {
+        if address as usize >= MEMORY_LENGTH {
             self.push(value);
             self.push(address);
             return Step::Traps(Trap::BadAddress);
@@ -153,7 +155,7 @@ impl Machine {
     /// Takes a value and appends its low byte to the output.
     fn emit(&mut self, next: u32) -> Step
         requires enough { 1 ≤ array_vec_len self.old.stack }
-        requires room { array_vec_len self.old.stack ≤ 256 }
+        requires room { array_vec_len self.old.stack ≤ STACK_LIMIT }
         ensures { (input : List ℕ) → DoesPlainOn input plain.Emit next self.old result self.new }
     {
         let value = self.pop();

@@ -4,11 +4,13 @@ ghost use Rattle.std.specs.Prelude.{◌≡◌, ◌↔◌, ◌+◌, ◌<◌, ◌�
 ghost use Rattle.std.specs.Prelude.{IsTrue, IfSome, MatchOption};
 ghost use Rattle.arrayvec.specs.ArrayVec.{array_vec_len};
 ghost use Rattle.mb_model.specs.LayerEvents.{has_name};
+ghost use Rattle.mb_appvm.specs.declared.limits.TheConstants.{STACK_LIMIT, MEMORY_LENGTH};
 ghost use Rattle.mb_appvm.specs.Acting.{surroundings_of, DoesOn, LacksSecret, HasSecret};
 ghost use Rattle.mb_appvm.specs.declared.instruction.Instruction.TheVariants as instruction;
 
 use crate::environment::Environment;
-use crate::machine::{MEMORY, Machine, Step};
+use crate::limits::MEMORY_LENGTH;
+use crate::machine::{Machine, Step};
 use crate::trap::Trap;
 use mb_model::Secret;
 
@@ -17,7 +19,7 @@ impl Machine {
     /// 4,294,967,295 if the region has no such secret.
     pub(crate) fn get(&mut self, name: &[u8], next: u32, environment: &Environment<'_>) -> Step
         requires enough { 2 ≤ array_vec_len self.old.stack }
-        requires room { array_vec_len self.old.stack ≤ 256 }
+        requires room { array_vec_len self.old.stack ≤ STACK_LIMIT }
         ensures { DoesOn (surroundings_of environment.now) (instruction.Get name.now) next self.old result self.new }
     {
         let region = self.pop();
@@ -69,14 +71,14 @@ fn is_named(secret: &Secret, name: &[u8]) -> bool
 
 /// Whether the bytes fit into memory from an address on.
 fn has_room(address: u32, bytes: &[u8]) -> bool
-    ensures { IsTrue result ↔ (address + length bytes.now ≤ 1024) }
+    ensures { IsTrue result ↔ (address + length bytes.now ≤ MEMORY_LENGTH) }
 {
-    bytes.len() <= MEMORY && address as usize <= MEMORY - bytes.len()
+    bytes.len() <= MEMORY_LENGTH && address as usize <= MEMORY_LENGTH - bytes.len()
 }
 
 /// Writes bytes to memory from an address on.
-pub(crate) fn write(memory: &mut [u8; 1024], address: usize, bytes: &[u8])
-    requires { address + length bytes.now ≤ 1024 }
+pub(crate) fn write(memory: &mut [u8; MEMORY_LENGTH], address: usize, bytes: &[u8])
+    requires { address + length bytes.now ≤ MEMORY_LENGTH }
     ensures { memory.new ≡ take address memory.old ++ bytes.now ++ drop (address + length bytes.now) memory.old }
 {
     memory[address..address + bytes.len()].copy_from_slice(bytes);

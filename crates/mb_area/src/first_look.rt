@@ -1,6 +1,6 @@
 //! The first look at a device that comes up: which work is left in it.
 
-ghost use Rattle.std.specs.Prelude.{◌≡◌, IsOk, IfOk};
+ghost use Rattle.std.specs.Prelude.{◌≡◌};
 ghost use Rattle.mb_layout.specs.Plans.{SamePlans};
 ghost use Rattle.mb_model.specs.declared.stored.Root.{Root};
 ghost use Rattle.mb_model.specs.Memory.{inactive_area_of_slot};
@@ -26,29 +26,22 @@ pub enum Looked {
     Unwiped(Unwiped),
 }
 
-/// Why a device was not looked at.
-pub enum LookEnd {
-    /// An allocation failed.
-    NoMemory(Up<R1>),
-}
-
 /// Finds the work that is left, by the current root record and the root's inactive area. Writes nothing and takes no
 /// memory.
-pub fn look<B: Board>(up: Up<R1>, b: &mut B, room: &mut Room) -> Result<Looked, LookEnd>
+pub fn look<B: Board>(up: Up<R1>, b: &mut B, room: &mut Room) -> Looked
     requires up { IsUp 1 (B.seen b.old) }
     requires root { HasSomeRoot (B.seen b.old).memory }
-    ensures ok { IsOk result }
     ensures looked { (root : Root) → RootIn (B.seen b.old).memory.bbram root
-        → IfOk result (λ looked. IsLooked looked root (inactive_area_of_slot (B.seen b.old).memory.bbram 1)) }
+        → IsLooked result root (inactive_area_of_slot (B.seen b.old).memory.bbram 1) }
     ensures same { B.seen b.new ≡ B.seen b.old }
     ensures plans { SamePlans room.old room.new }
 {
     let root = read_root(b, room);
     if root.pending.is_some() {
-        return Ok(Looked::Unsettled(Unsettled { up }));
+        return Looked::Unsettled(Unsettled { up });
     }
     if is_other_blank(b, ROOT_SLOT) {
-        return Ok(Looked::Settled(up));
+        return Looked::Settled(up);
     }
-    Ok(Looked::Unwiped(Unwiped { up }))
+    Looked::Unwiped(Unwiped { up })
 }

@@ -12,7 +12,7 @@ mod public;
 mod root;
 mod state;
 
-pub use first_look::{LookEnd, Looked, look};
+pub use first_look::{Looked, look};
 pub use public::{read_header, read_log, write_log, write_public};
 pub use root::{commit_root, finish_root, read_root, wipe_root};
 pub use state::{Unsettled, Unwiped};

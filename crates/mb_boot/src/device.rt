@@ -13,7 +13,7 @@ ghost use Rattle.mb_boot.specs.Booting.{IsFoundAs, Rests, IsWiped, Cleans, IsQui
 ghost use Rattle.mb_lms.specs.declared.hash_count.TheConstants.{SIGNING_HASHES};
 
 use crate::work::settle;
-use mb_area::{LookEnd, Looked, Unsettled, look, wipe_root};
+use mb_area::{Looked, Unsettled, look, wipe_root};
 use mb_board::Board;
 use mb_layout::Room;
 use mb_lms::HashCount;
@@ -124,10 +124,7 @@ fn come_up<B: Board, L: Ledger>(
     ensures ran { Ran 15 result (B.seen b.old) (B.seen b.new) }
     ensures cost { hashes.new ≤ hashes.old + 2 * SIGNING_HASHES }
 {
-    let looked = match look(up, b, room) {
-        Ok(looked) => looked,
-        Err(LookEnd::NoMemory(_up)) => unreachable!(),
-    };
+    let looked = look(up, b, room);
     let up = bring_to_rest(looked, b, room, hashes)?;
     let up = wipe_regions(up, b)?;
     Ok(up)

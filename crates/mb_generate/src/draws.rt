@@ -3,6 +3,7 @@
 ghost use Rattle.std.specs.Prelude.{◌≡◌, ◌+◌, ◌*◌, ◌%◌, ◌≤◌, ◌++◌, length, map, replicate, IfOk};
 ghost use Rattle.std.specs.Int.{w32, to_be_bytes};
 ghost use Rattle.mb_model.specs.Workload.{DrawnBytes, DrawnCode, DrawnValue, DrawnRound};
+ghost use Rattle.mb_generate.specs.declared.limits.TheConstants.{ROUND_LIMIT};
 ghost use Rattle.mb_generate.specs.Drawing.{IsDrawn, DrawnValues, DrawnRounds, round_of, draws_of, AreDraws};
 
 use mb_model::{Bytes, DRAW_LENGTH, Items, NoMemory};
@@ -50,7 +51,7 @@ pub(crate) struct Drawn {
 
 /// Draws the workload of a number with `rounds` rounds.
 pub(crate) fn draw_all(alloc: Global, number: u32, rounds: u32) -> Result<Drawn, NoMemory>
-    requires { rounds ≤ 24 }
+    requires { rounds ≤ ROUND_LIMIT }
     ensures { IfOk result (λ drawn. AreDraws number rounds (draws_of drawn)) }
 {
     let mut rng = ChaCha20Rng::from_seed(seed_of(number));

@@ -5,9 +5,11 @@
 #![tactic(auto)]
 
 mod draws;
+mod limits;
 mod make;
 mod officers;
 mod script;
 
+pub use limits::ROUND_LIMIT;
 pub use make::workload;
 pub use mb_model::Workload;

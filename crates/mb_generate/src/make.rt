@@ -6,6 +6,7 @@ ghost use Rattle.mb_model.specs.Born.{officer_key};
 ghost use Rattle.mb_model.specs.Signing.{public_of};
 ghost use Rattle.mb_model.specs.Factory.{IsFactoryImage};
 ghost use Rattle.mb_model.specs.Workload.{IsWorkload};
+ghost use Rattle.mb_generate.specs.declared.limits.TheConstants.{ROUND_LIMIT};
 ghost use Rattle.mb_generate.specs.Drawing.{draws_of};
 ghost use Rattle.mb_generate.specs.Orders.{AreOfficers};
 ghost use Rattle.mb_generate.specs.Serving.{CanBeServed};
@@ -32,7 +33,7 @@ pub fn workload<L: Ledger>(
     hashes: &mut HashCount<L>,
 ) -> Result<Workload, NoMemory>
     requires least { 1 ≤ rounds }
-    requires most { rounds ≤ 24 }
+    requires most { rounds ≤ ROUND_LIMIT }
     ensures made { IfOk result (IsWorkload number rounds) }
     ensures served { IfOk result CanBeServed }
     ensures cost { hashes.new ≤ hashes.old + 4 * TREE_HASHES + 6 * SIGNING_HASHES + 3 * SIGNING_HASHES * rounds }

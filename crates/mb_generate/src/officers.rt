@@ -1,14 +1,14 @@
 //! The officers of a workload, and the orders that they sign.
 
-ghost use Rattle.std.specs.Prelude.{◌≡◌, ◌+◌, ◌-◌, ◌<◌, ◌≤◌, ◌∷◌, [], length, IsTrue, IfOk, OnOk, ◌*◌};
+ghost use Rattle.std.specs.Prelude.{◌≡◌, ◌+◌, ◌-◌, ◌<◌, ◌≤◌, length, IsTrue, IfOk, OnOk, ◌*◌};
 ghost use Rattle.mb_model.specs.declared.limits.TheConstants.{CODE_LIMIT, KEY_USES};
 ghost use Rattle.mb_model.specs.declared.key.Trust.TheVariants.{Countersigned};
-ghost use Rattle.mb_model.specs.Layers.{equal_trusts};
 ghost use Rattle.mb_model.specs.declared.order.Act.TheVariants as act;
 ghost use Rattle.mb_model.specs.Layers.{is_upper};
 ghost use Rattle.mb_model.specs.OrderFormat.{order_format};
 ghost use Rattle.mb_model.specs.SignedOrders.{keyfile_after_use, signed_order, countersigned_order, IsCountersignable};
 ghost use Rattle.mb_model.specs.Workload.{plan, plan_payload, round_plan};
+ghost use Rattle.mb_generate.specs.declared.limits.TheConstants.{ROUND_LIMIT};
 ghost use Rattle.mb_generate.specs.Orders.{HaveUsed, layers_above, targeted, CanBeOrdered, SignsPlan};
 ghost use Rattle.mb_lms.specs.declared.hash_count.TheConstants.{SIGNING_HASHES};
 
@@ -37,7 +37,7 @@ pub(crate) fn round_order<L: Ledger>(
     officers: &mut Officers,
     hashes: &mut HashCount<L>,
 ) -> Result<Order, NoMemory>
-    requires round { round ≤ 24 }
+    requires round { round ≤ ROUND_LIMIT }
     requires code { length code.now ≤ CODE_LIMIT }
     requires used { HaveUsed (5 + round) officers.old }
     ensures signs { SignsPlan (5 + round) (round_plan round code.now) officers.old result officers.new }

@@ -12,6 +12,7 @@ ghost use Rattle.mb_model.specs.OrderFormat.{order_format};
 ghost use Rattle.mb_model.specs.OrderLines.{order_line};
 ghost use Rattle.mb_model.specs.SignedOrders.{keyfile_after_use, signed_order};
 ghost use Rattle.mb_model.specs.Workload.{first_plans, put_line, workload_lines};
+ghost use Rattle.mb_generate.specs.declared.limits.TheConstants.{ROUND_LIMIT};
 ghost use Rattle.mb_generate.specs.Drawing.{round_of, draws_of};
 ghost use Rattle.mb_generate.specs.Orders.{AreOfficers, HaveUsed, DrawsFit};
 ghost use Rattle.mb_generate.specs.Scripts.{puts_text, first_orders_text, sign_line, AppendsRound, SignsRound};
@@ -34,7 +35,7 @@ pub(crate) fn script_of<L: Ledger>(
     officers: &mut Officers,
     hashes: &mut HashCount<L>,
 ) -> Result<Vec<u8>, NoMemory>
-    requires rounds { length drawn.now.rounds ≤ 24 }
+    requires rounds { length drawn.now.rounds ≤ ROUND_LIMIT }
     requires fit { DrawsFit (draws_of drawn.now) }
     requires officers { AreOfficers (draws_of drawn.now) [] officers.old }
     ensures text { IfOk result (λ script. script.items ≡ text_of (workload_lines (draws_of drawn.now))) }
@@ -143,7 +144,7 @@ fn put_round<L: Ledger>(
     hashes: &mut HashCount<L>,
 ) -> Result<(), NoMemory>
     requires least { 1 ≤ number }
-    requires most { number ≤ 24 }
+    requires most { number ≤ ROUND_LIMIT }
     requires fits { length round.now.code ≤ CODE_LIMIT }
     requires used { HaveUsed (5 + number) officers.old }
     requires values { length round.now.values ≤ 4 }

@@ -6,13 +6,14 @@ use Rattle.mb_model.specs.declared.separators.TheConstants.{LEVEL_SECRET, LEVEL_
 use Rattle.mb_model.specs.declared.key.KeySeed.{KeySeed}
 use Rattle.mb_model.specs.Key.{key_bytes}
 use Rattle.mb_model.specs.Signing.{public_of}
+use Rattle.mb_hss.specs.declared.limits.TheConstants.{LEVEL_LIMIT}
 use Rattle.mb_hss.specs.declared.key.HssKey.{HssKey}
 use Rattle.mb_hss.specs.declared.maker.Maker.{Maker}
 
 -- a maker has 1 to 8 levels, and has used at most the 32^levels numbers from 0 on
 pub record IsMaker (maker : Maker) : Type 0 where
   pub least : 1 ≤ maker.levels
-  pub most : maker.levels ≤ 8
+  pub most : maker.levels ≤ LEVEL_LIMIT
   pub next : maker.next ≤ 32 ^ maker.levels
 
 -- a new maker, derived from 32 bytes of noise

@@ -3,16 +3,15 @@
 ghost use Rattle.std.specs.Prelude.{◌≡◌, ◌≤◌, length, IfOk, MatchOption};
 ghost use Rattle.mb_format.specs.Format.{Spells};
 ghost use Rattle.mb_model.specs.declared.limits.TheConstants.{FILE_LIMIT};
+ghost use Rattle.mb_hss.specs.declared.limits.TheConstants.{LEVEL_LIMIT};
 ghost use Rattle.mb_hss.specs.declared.key.HssKey.{HssKey};
 ghost use Rattle.mb_hss.specs.HssKeyFormat.{hss_key_format};
 ghost use Rattle.mb_bytes.specs.Reads.{ReadsWhole, bad_at};
 
+use crate::limits::LEVEL_LIMIT;
 use mb_bytes::{Cursor, Field, public_key_at, put_at, read_whole, u32_between};
 use mb_lms::key_bytes;
 use mb_model::{BadRecord, PublicKey};
-
-/// The most levels that a key has (RFC 8554, section 6).
-pub(crate) const MOST_LEVELS: u8 = 8;
 
 /// A public key of HSS (RFC 8554, section 6.1).
 #[derive(Clone, Copy, PartialEq, Eq)]
@@ -40,7 +39,7 @@ impl Field for HssKeyField {
     ghost format = { hss_key_format };
 
     fn read_at(_needs: (), cursor: &mut Cursor<'_>) -> Result<HssKey, BadRecord> {
-        let levels = u32_between(cursor, 1, u32::from(MOST_LEVELS))?;
+        let levels = u32_between(cursor, 1, u32::from(LEVEL_LIMIT))?;
         let top = public_key_at(cursor)?;
         Ok(HssKey {
             levels: levels as u8,
@@ -57,7 +56,7 @@ impl Field for HssKeyField {
 pub fn read_hss_key(bytes: &[u8]) -> Result<HssKey, BadRecord>
     requires { length bytes.now ≤ FILE_LIMIT }
     ensures reads { ReadsWhole bad_at hss_key_format bytes.now result }
-    ensures levels { IfOk result (λ key. (1 ≤ key.levels) × (key.levels ≤ 8)) }
+    ensures levels { IfOk result (λ key. (1 ≤ key.levels) × (key.levels ≤ LEVEL_LIMIT)) }
 {
     read_whole::<HssKeyField>((), bytes)
 }

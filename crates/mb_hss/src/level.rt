@@ -6,7 +6,8 @@ ghost use Rattle.mb_model.specs.declared.limits.TheConstants.{LAST_INDEX};
 ghost use Rattle.mb_model.specs.Key.{key_bytes};
 ghost use Rattle.mb_model.specs.Signing.{public_of, signature_of};
 ghost use Rattle.mb_signer.specs.Tree.{IsTreeOf};
-ghost use Rattle.mb_hss.specs.MakerKeys.{level_key, prefix_at, index_at, key_at};
+ghost use Rattle.mb_hss.specs.declared.limits.TheConstants.{LEVEL_LIMIT};
+ghost use Rattle.mb_hss.specs.MakerKeys.{level_key, index_at, key_at};
 ghost use Rattle.mb_lms.specs.declared.hash_count.TheConstants.{LEAF_HASHES, TREE_HASHES};
 
 use crate::maker::Maker;
@@ -20,7 +21,7 @@ use std::sync::ledger::Ledger;
 /// The number without its last `count` digits to the base 32; `count` is at most 8.
 #[tactic(auto, using(crate::proofs::Digits::digit_powers))]
 fn without_digits(number: u64, count: u8) -> u64
-    requires { count ≤ 8 }
+    requires { count ≤ LEVEL_LIMIT }
     ensures { result ≡ number / 32 ^ count }
 {
     number >> (5 * count)
@@ -74,7 +75,7 @@ impl Level {
         hashes: &mut HashCount<L>,
     ) -> Level
         requires level { level < maker.now.levels }
-        requires most { maker.now.levels ≤ 8 }
+        requires most { maker.now.levels ≤ LEVEL_LIMIT }
         ensures seed { result.seed ≡ key_at maker.now number level }
         ensures index { result.index ≡ index_at maker.now.levels number level }
         ensures counted { hashes.new ≡ hashes.old + TREE_HASHES + 2 }

@@ -9,6 +9,7 @@
 mod key;
 mod laws;
 mod level;
+mod limits;
 mod maker;
 mod maker_file;
 mod signing;
@@ -16,6 +17,7 @@ mod verification;
 
 pub use key::{HssKey, hss_key_bytes, parse, read_hss_key};
 pub use laws::{indices_serve_one_text, makers_signatures_verify, numbers_count_up};
+pub use limits::LEVEL_LIMIT;
 pub use maker::{Maker, make_maker};
 pub use maker_file::{read_maker, write_maker};
 pub use mb_model::BadRecord;

@@ -1,6 +1,7 @@
 //! A maker of HSS signatures.
 
-ghost use Rattle.std.specs.Prelude.{◌≡◌, ◌≤◌, ◌∷◌, ◌^◌};
+ghost use Rattle.std.specs.Prelude.{◌≡◌, ◌≤◌, ◌^◌};
+ghost use Rattle.mb_hss.specs.declared.limits.TheConstants.{LEVEL_LIMIT};
 ghost use Rattle.mb_hss.specs.MakerKeys.{IsMaker, new_maker};
 
 use mb_model::separators::MAKER_SECRET;
@@ -21,7 +22,7 @@ pub struct Maker {
 #[tactic(auto, unfolding(crate::specs::MakerKeys::new_maker))]
 pub fn make_maker(noise: &[u8; 32], levels: u8) -> Maker
     requires least { 1 ≤ levels }
-    requires most { levels ≤ 8 }
+    requires most { levels ≤ LEVEL_LIMIT }
     ensures value { result ≡ new_maker noise.now levels }
     ensures valid { IsMaker result }
 {
@@ -38,7 +39,7 @@ pub fn make_maker(noise: &[u8; 32], levels: u8) -> Maker
 /// The number of signatures that a maker of 1 to 8 levels can make, 32^levels.
 #[tactic(auto, using(crate::proofs::Digits::digit_powers))]
 pub(crate) fn number_count(levels: u8) -> u64
-    requires { levels ≤ 8 }
+    requires { levels ≤ LEVEL_LIMIT }
     ensures { result ≡ 32 ^ levels }
 {
     1 << (5 * levels)

@@ -6,10 +6,11 @@ ghost use Rattle.mb_format.specs.Format.{Spells};
 ghost use Rattle.mb_format.specs.Combinators.{number, between};
 ghost use Rattle.mb_model.specs.declared.limits.TheConstants.{FILE_LIMIT};
 ghost use Rattle.mb_bytes.specs.Reads.{Reads, ReadsWhole, short_at, bad_at};
+ghost use Rattle.mb_hss.specs.declared.limits.TheConstants.{LEVEL_LIMIT};
 ghost use Rattle.mb_hss.specs.MakerKeys.{IsMaker};
 ghost use Rattle.mb_hss.specs.MakerFormat.{maker_format};
 
-use crate::key::MOST_LEVELS;
+use crate::limits::LEVEL_LIMIT;
 use crate::maker::{Maker, number_count};
 use mb_bytes::{Cursor, Field, Short, put_at, read_whole, u8_between, word_at};
 use mb_model::BadRecord;
@@ -26,7 +27,7 @@ fn take_u64(cursor: &mut Cursor) -> Result<u64, Short>
 
 /// The next number of a maker of at most 8 levels.
 fn next_at(cursor: &mut Cursor, levels: u8) -> Result<u64, BadRecord>
-    requires { levels ≤ 8 }
+    requires { levels ≤ LEVEL_LIMIT }
     ensures { Reads bad_at (between w64 0 (32 ^ levels)) cursor.old result cursor.new }
 {
     let at = cursor.offset();
@@ -55,7 +56,7 @@ impl Field for MakerField {
 
     fn read_at(_needs: (), cursor: &mut Cursor<'_>) -> Result<Maker, BadRecord> {
         word_at(cursor, &WORD)?;
-        let levels = u8_between(cursor, 1, MOST_LEVELS)?;
+        let levels = u8_between(cursor, 1, LEVEL_LIMIT)?;
         let seed = cursor.take_array()?;
         let next = next_at(cursor, levels)?;
         Ok(Maker { levels, seed, next })

@@ -3,6 +3,7 @@
 ghost use Rattle.std.specs.Prelude.{◌≡◌, ◌↔◌, ◌+◌, ◌-◌, ◌*◌, ◌^◌, ◌≤◌, ◌<◌, ◌++◌};
 ghost use Rattle.std.specs.Prelude.{length, vec_len, vec_capacity, IfOk, OnOk, OnErr, IsErrOf};
 ghost use Rattle.mb_bytes.specs.Puts.{Appends, HasNoRoom};
+ghost use Rattle.mb_hss.specs.declared.limits.TheConstants.{LEVEL_LIMIT};
 ghost use Rattle.mb_hss.specs.MakerKeys.{IsMaker, maker_key};
 ghost use Rattle.mb_hss.specs.MakerSignatures.{maker_signature, SignsOnto, IsUnsigned};
 ghost use Rattle.mb_lms.specs.declared.hash_count.TheConstants.{SIGNING_HASHES, TREE_HASHES};
@@ -57,7 +58,7 @@ pub fn public<L: Ledger>(maker: &Maker, hashes: &mut HashCount<L>) -> HssKey
 /// The length of the signatures of a maker of 1 to 8 levels, in bytes.
 fn signature_length(levels: u8) -> usize
     requires least { 1 ≤ levels }
-    requires most { levels ≤ 8 }
+    requires most { levels ≤ LEVEL_LIMIT }
     ensures { result ≡ 2404 * levels - 52 }
 {
     let levels = usize::from(levels);

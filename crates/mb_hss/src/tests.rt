@@ -1,6 +1,7 @@
 //! Makers, keys and endorsements that another program made.
 
 ghost use Rattle.std.specs.Prelude.{◌≡◌, ◌<◌, ◌≤◌, IfOk};
+ghost use Rattle.mb_hss.specs.declared.limits.TheConstants.{LEVEL_LIMIT};
 ghost use Rattle.mb_hss.specs.MakerKeys.{IsMaker};
 
 use crate::level::level_key;
@@ -36,7 +37,7 @@ fn root_bytes() -> Result<[u8; 56], Fail> {
 /// The file of the maker from `NOISE`, with `number` as its next number.
 fn file_of(levels: u8, number: u64) -> Result<[u8; 45], Fail>
     requires least { 1 ≤ levels }
-    requires most { levels ≤ 8 }
+    requires most { levels ≤ LEVEL_LIMIT }
 {
     let noise = <[u8; 32] as FromHex>::from_hex(NOISE)?;
     let mut file = write_maker(&make_maker(&noise, levels));
@@ -47,7 +48,7 @@ fn file_of(levels: u8, number: u64) -> Result<[u8; 45], Fail>
 /// The maker from `NOISE`, with `number` as its next number.
 fn maker_at(levels: u8, number: u64) -> Result<Maker, Fail>
     requires least { 1 ≤ levels }
-    requires most { levels ≤ 8 }
+    requires most { levels ≤ LEVEL_LIMIT }
     ensures { IfOk result IsMaker }
 {
     let file = file_of(levels, number)?;

@@ -2,6 +2,7 @@
 
 ghost use Rattle.std.specs.Prelude.{◌≡◌, ◌↔◌, ◌≤◌, ◌++◌, IsTrue, MatchOption};
 ghost use Rattle.mb_model.specs.Key.{chain_count, height};
+ghost use Rattle.mb_hss.specs.declared.limits.TheConstants.{LEVEL_LIMIT};
 ghost use Rattle.mb_hss.specs.HssVerification.{VerifiesUnder, HssVerifies};
 ghost use Rattle.mb_hss.specs.SignatureParts.{signature_length, ArePartsOf, HasNoParts};
 
@@ -81,7 +82,7 @@ fn verifies_under(key: &PublicKey, below: u8, head: &[u8], body: &[u8], sig: &[u
 /// section 6.3). A signature with further bytes after it is none.
 pub fn verify(key: &HssKey, head: &[u8], body: &[u8], sig: &[u8]) -> bool
     requires least { 1 ≤ key.now.levels }
-    requires most { key.now.levels ≤ 8 }
+    requires most { key.now.levels ≤ LEVEL_LIMIT }
     ensures { IsTrue result ↔ HssVerifies key.now (head.now ++ body.now) sig.now }
 {
     let below = key.levels - 1;

@@ -1,3 +1,4 @@
+pub mod Boards
 pub mod Holding
 pub mod Names
 pub mod Generated

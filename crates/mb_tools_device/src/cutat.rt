@@ -1,17 +1,18 @@
 //! The command `cutat`.
 
-ghost use Rattle.std.specs.Prelude.{◌≡◌, ◌≤◌, ℕ, List, [], length, All, None, Option, false, map};
+ghost use Rattle.std.specs.Prelude.{◌≡◌, ◌≤◌, ℕ, List, length, All, None, Option, false, map};
 ghost use Rattle.mb_model.specs.declared.event.Answered.{Answered as Gave};
 ghost use Rattle.mb_model.specs.declared.limits.TheConstants.{CUT_LIMIT, EVENT_LIMIT, IMAGE_LENGTH};
 ghost use Rattle.mb_model.specs.declared.state.State.{State as Stands};
 ghost use Rattle.mb_model.specs.Board.{Held, IsLoaded, image_of};
-ghost use Rattle.mb_model.specs.Commands.{at_first, serve};
+ghost use Rattle.mb_model.specs.Commands.{serve};
 ghost use Rattle.mb_model.specs.Meaning.{IsWellFormed};
 ghost use Rattle.mb_model.specs.Script.{IsScriptEvent};
 ghost use Rattle.mb_script.specs.Reading.{IsFill};
 ghost use Rattle.mb_console.specs.Words.{given_argument};
 ghost use Rattle.mb_console.specs.Ending.{CarriesOutRest};
 ghost use Rattle.mb_tools_device.specs.CutCommand.{AreUncut, CutRun, IsCutServed, cut_events, cutat, read_uncut_script, read_cut_noise, serve_twice, serve_first, tell_cut, tell_state};
+ghost use Rattle.mb_tools_device.specs.Boards.{IsFresh, CarriesOutOn};
 ghost use Rattle.mb_tools_device.specs.Holding.{HoldsAnswered, HoldsShut, EndsHolding};
 ghost use Rattle.mb_tools_device.specs.Names.{cut_files, cut_given};
 ghost use Rattle.mb_tools_device.specs.TwoRuns.{AreRuns, CanBeCut, IsImageLeft};
@@ -66,14 +67,11 @@ pub fn cutat<H: Host, B: Board, L: Ledger>(
     board: &mut B,
     hashes: &mut HashCount<L>,
 ) -> Result<(), End>
-    requires least { 1 ≤ names.now.count }
-    requires most { names.now.count ≤ CUT_LIMIT }
+    requires count { (1 ≤ names.now.count) × (names.now.count ≤ CUT_LIMIT) }
     requires fill { (bytes : List ℕ) × IsFill names.now.fill.now bytes }
-    requires off { (B.seen board.old).power ≡ false }
-    requires none_out { (B.seen board.old).ledger.out ≡ None }
-    requires none_answered { (B.seen board.old).ledger.answered ≡ [] }
-    ensures carried { CarriesOutRest (cutat (cut_files names.now)) at_first (B.seen board.new).ledger.answered
-        (B.seen board.new).ledger.standing (H.outside host.old) result (H.outside host.new) }
+    requires fresh { IsFresh (B.seen board.old) }
+    ensures carried { CarriesOutOn (cutat (cut_files names.now)) (B.seen board.new) (H.outside host.old)
+        result (H.outside host.new) }
     ensures stays { HoldsAnswered (B.seen board.old) → EndsHolding result (B.seen board.new) }
 {
     let image = read_image(alloc, host, names.image, hashes)?;
@@ -89,16 +87,13 @@ fn cut_image<H: Host, B: Board, L: Ledger>(
     board: &mut B,
     hashes: &mut HashCount<L>,
 ) -> Result<(), End>
-    requires least { 1 ≤ names.now.count }
-    requires most { names.now.count ≤ CUT_LIMIT }
+    requires count { (1 ≤ names.now.count) × (names.now.count ≤ CUT_LIMIT) }
     requires fill { (bytes : List ℕ) × IsFill names.now.fill.now bytes }
-    requires off { (B.seen board.old).power ≡ false }
-    requires none_out { (B.seen board.old).ledger.out ≡ None }
-    requires none_answered { (B.seen board.old).ledger.answered ≡ [] }
+    requires fresh { IsFresh (B.seen board.old) }
     requires image { (state : Option Stands) × IsWellFormed image.items state }
     ensures carried { (state : Option Stands) → IsWellFormed image.items state
-        → CarriesOutRest (read_uncut_script (cut_files names.now) state) at_first (B.seen board.new).ledger.answered
-        (B.seen board.new).ledger.standing (H.outside host.old) result (H.outside host.new) }
+        → CarriesOutOn (read_uncut_script (cut_files names.now) state) (B.seen board.new) (H.outside host.old)
+        result (H.outside host.new) }
     ensures stays { HoldsAnswered (B.seen board.old) → EndsHolding result (B.seen board.new) }
 {
     let events = read_as(alloc, host, Role::Script, names.script, UncutScriptForm)?;
@@ -115,18 +110,15 @@ fn cut_script<H: Host, B: Board, L: Ledger>(
     board: &mut B,
     hashes: &mut HashCount<L>,
 ) -> Result<(), End>
-    requires least { 1 ≤ names.now.count }
-    requires most { names.now.count ≤ CUT_LIMIT }
+    requires count { (1 ≤ names.now.count) × (names.now.count ≤ CUT_LIMIT) }
     requires fill { (bytes : List ℕ) × IsFill names.now.fill.now bytes }
-    requires off { (B.seen board.old).power ≡ false }
-    requires none_out { (B.seen board.old).ledger.out ≡ None }
-    requires none_answered { (B.seen board.old).ledger.answered ≡ [] }
+    requires fresh { IsFresh (B.seen board.old) }
     requires image { (state : Option Stands) × IsWellFormed image.items state }
     requires uncut { AreUncut events }
     requires events { All IsScriptEvent events }
     ensures carried { (state : Option Stands) → IsWellFormed image.items state
-        → CarriesOutRest (read_cut_noise (cut_files names.now) state events) at_first (B.seen board.new).ledger.answered
-        (B.seen board.new).ledger.standing (H.outside host.old) result (H.outside host.new) }
+        → CarriesOutOn (read_cut_noise (cut_files names.now) state events) (B.seen board.new) (H.outside host.old)
+        result (H.outside host.new) }
     ensures stays { HoldsAnswered (B.seen board.old) → EndsHolding result (B.seen board.new) }
 {
     let drawn = read_draws(alloc, host, names.noise, events)?;
@@ -143,18 +135,15 @@ fn cut_drawn<H: Host, B: Board, L: Ledger>(
     board: &mut B,
     hashes: &mut HashCount<L>,
 ) -> Result<(), End>
-    requires least { 1 ≤ names.now.count }
-    requires most { names.now.count ≤ CUT_LIMIT }
+    requires count { (1 ≤ names.now.count) × (names.now.count ≤ CUT_LIMIT) }
     requires fill { (bytes : List ℕ) × IsFill names.now.fill.now bytes }
-    requires off { (B.seen board.old).power ≡ false }
-    requires none_out { (B.seen board.old).ledger.out ≡ None }
-    requires none_answered { (B.seen board.old).ledger.answered ≡ [] }
+    requires fresh { IsFresh (B.seen board.old) }
     requires image { (state : Option Stands) × IsWellFormed image.items state }
     requires uncut { AreUncut events }
     requires events { All IsScriptEvent events }
     ensures carried { (state : Option Stands) → IsWellFormed image.items state
-        → CarriesOutRest (serve_twice (cut_files names.now) state events) at_first (B.seen board.new).ledger.answered
-        (B.seen board.new).ledger.standing (H.outside host.old) result (H.outside host.new) }
+        → CarriesOutOn (serve_twice (cut_files names.now) state events) (B.seen board.new) (H.outside host.old)
+        result (H.outside host.new) }
     ensures stays { HoldsAnswered (B.seen board.old) → EndsHolding result (B.seen board.new) }
 {
     let Ok(runs) = two_runs(alloc, events, names.count, names.fill) else {
@@ -173,9 +162,7 @@ fn serve_first<H: Host, B: Board, L: Ledger>(
     board: &mut B,
     hashes: &mut HashCount<L>,
 ) -> Result<(), End>
-    requires off { (B.seen board.old).power ≡ false }
-    requires none_out { (B.seen board.old).ledger.out ≡ None }
-    requires none_answered { (B.seen board.old).ledger.answered ≡ [] }
+    requires fresh { IsFresh (B.seen board.old) }
     requires image { (state : Option Stands) × IsWellFormed image.items state }
     requires first_count { length runs.first ≤ EVENT_LIMIT }
     requires first_events { All IsScriptEvent runs.first }
@@ -183,8 +170,8 @@ fn serve_first<H: Host, B: Board, L: Ledger>(
     requires second_events { All IsScriptEvent runs.second }
     ensures carried { (state : Option Stands) (cut : CutRun) → IsWellFormed image.items state
         → AreRuns names.now.count runs.first runs.second cut
-        → CarriesOutRest (serve_first (cut_files names.now) state cut) at_first (B.seen board.new).ledger.answered
-        (B.seen board.new).ledger.standing (H.outside host.old) result (H.outside host.new) }
+        → CarriesOutOn (serve_first (cut_files names.now) state cut) (B.seen board.new) (H.outside host.old)
+        result (H.outside host.new) }
     ensures stays { HoldsAnswered (B.seen board.old) → EndsHolding result (B.seen board.new) }
 {
     let Ok(mut before) = Vec::from_slice(alloc, &image) else {

@@ -1,18 +1,20 @@
 //! The command `generate`.
 
-ghost use Rattle.std.specs.Prelude.{◌≡◌, ◌≤◌, [], length, All, IfOk, IfErr, OnOk, None, false, map};
+ghost use Rattle.std.specs.Prelude.{◌≡◌, ◌≤◌, length, All, IfOk, IfErr, OnOk, map};
 ghost use Rattle.mb_model.specs.declared.limits.TheConstants.{EVENT_LIMIT, IMAGE_LENGTH};
 ghost use Rattle.mb_model.specs.Board.{IsLoaded};
 ghost use Rattle.mb_model.specs.Machine.{World};
 ghost use Rattle.mb_model.specs.Acknowledged.{Shows};
 ghost use Rattle.mb_model.specs.Script.{IsScriptEvent};
-ghost use Rattle.mb_model.specs.Commands.{Past, at_first};
+ghost use Rattle.mb_model.specs.Commands.{Past};
 ghost use Rattle.mb_model.specs.GenerateCommand.{generate, summarise};
 ghost use Rattle.mb_model.specs.Workload.{IsWorkload};
+ghost use Rattle.mb_generate.specs.declared.limits.TheConstants.{ROUND_LIMIT};
 ghost use Rattle.mb_generate.specs.Serving.{CanBeServed};
 ghost use Rattle.mb_tools_device.specs.Names.{generate_files, generate_given};
 ghost use Rattle.mb_console.specs.Words.{given_argument};
 ghost use Rattle.mb_console.specs.Ending.{CarriesOutRest};
+ghost use Rattle.mb_tools_device.specs.Boards.{IsFresh, CarriesOutOn};
 ghost use Rattle.mb_tools_device.specs.Holding.{HoldsAnswered};
 ghost use Rattle.mb_console.specs.Outputs.{WritesAll, StopsWriting};
 ghost use Rattle.mb_tools_device.specs.Generated.{HasEvents, workload_outputs};
@@ -65,13 +67,10 @@ pub fn generate<H: Host, B: Board, L: Ledger>(
     board: &mut B,
     hashes: &mut HashCount<L>,
 ) -> Result<(), End>
-    requires least { 1 ≤ names.now.rounds }
-    requires most { names.now.rounds ≤ 24 }
-    requires off { (B.seen board.old).power ≡ false }
-    requires none_out { (B.seen board.old).ledger.out ≡ None }
-    requires none_answered { (B.seen board.old).ledger.answered ≡ [] }
-    ensures carried { CarriesOutRest (generate (generate_files names.now)) at_first (B.seen board.new).ledger.answered (B.seen board.new).ledger.standing
-        (H.outside host.old) result (H.outside host.new) }
+    requires rounds { (1 ≤ names.now.rounds) × (names.now.rounds ≤ ROUND_LIMIT) }
+    requires fresh { IsFresh (B.seen board.old) }
+    ensures carried { CarriesOutOn (generate (generate_files names.now)) (B.seen board.new) (H.outside host.old)
+        result (H.outside host.new) }
     ensures stays { HoldsAnswered (B.seen board.old) → HoldsAnswered (B.seen board.new) }
 {
     let Ok(files) = workload(alloc, names.number, names.rounds, hashes) else {
@@ -115,11 +114,9 @@ fn load_workload<H: Host, B: Board, L: Ledger>(
     requires events { HasEvents files events }
     requires count { length events ≤ EVENT_LIMIT }
     requires each { All IsScriptEvent events }
-    requires off { (B.seen board.old).power ≡ false }
-    requires none_out { (B.seen board.old).ledger.out ≡ None }
-    requires none_answered { (B.seen board.old).ledger.answered ≡ [] }
-    ensures carried { CarriesOutRest (generate (generate_files names.now)) at_first (B.seen board.new).ledger.answered (B.seen board.new).ledger.standing
-        (H.outside host.old) result (H.outside host.new) }
+    requires fresh { IsFresh (B.seen board.old) }
+    ensures carried { CarriesOutOn (generate (generate_files names.now)) (B.seen board.new) (H.outside host.old)
+        result (H.outside host.new) }
     ensures stays { HoldsAnswered (B.seen board.old) → HoldsAnswered (B.seen board.new) }
 {
     match board.load(alloc, files.image.as_slice(), events) {

@@ -16,3 +16,4 @@ mod twice;
 
 pub use counter_examples::cut_counter_examples;
 pub use laws::{plain_runs_are_the_machines, uncut_scripts_are_clear};
+pub use mb_generate::ROUND_LIMIT;

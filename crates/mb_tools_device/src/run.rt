@@ -1,16 +1,16 @@
 //! The command `run`.
 
-ghost use Rattle.std.specs.Prelude.{◌≡◌, ◌≤◌, [], length, All, None, Option, false, map};
+ghost use Rattle.std.specs.Prelude.{◌≡◌, ◌≤◌, length, All, Option, false, map};
 ghost use Rattle.mb_model.specs.declared.limits.TheConstants.{EVENT_LIMIT, IMAGE_LENGTH};
 ghost use Rattle.mb_model.specs.declared.state.State.{State};
 ghost use Rattle.mb_model.specs.Board.{IsLoaded};
-ghost use Rattle.mb_model.specs.Commands.{at_first};
 ghost use Rattle.mb_model.specs.Meaning.{IsWellFormed};
 ghost use Rattle.mb_model.specs.RunCommand.{run, read_script, read_noise, serve_events, write_image};
 ghost use Rattle.mb_model.specs.Script.{IsScriptEvent};
 ghost use Rattle.mb_tools_device.specs.Names.{run_files, run_given};
 ghost use Rattle.mb_console.specs.Words.{given_argument};
 ghost use Rattle.mb_console.specs.Ending.{CarriesOutRest};
+ghost use Rattle.mb_tools_device.specs.Boards.{IsFresh, CarriesOutOn};
 ghost use Rattle.mb_tools_device.specs.Holding.{HoldsAnswered};
 
 use crate::replies::write_replies;
@@ -54,11 +54,9 @@ pub fn run<H: Host, B: Board, L: Ledger>(
     board: &mut B,
     hashes: &mut HashCount<L>,
 ) -> Result<(), End>
-    requires off { (B.seen board.old).power ≡ false }
-    requires none_out { (B.seen board.old).ledger.out ≡ None }
-    requires none_answered { (B.seen board.old).ledger.answered ≡ [] }
-    ensures carried { CarriesOutRest (run (run_files names.now)) at_first (B.seen board.new).ledger.answered (B.seen board.new).ledger.standing
-        (H.outside host.old) result (H.outside host.new) }
+    requires fresh { IsFresh (B.seen board.old) }
+    ensures carried { CarriesOutOn (run (run_files names.now)) (B.seen board.new) (H.outside host.old)
+        result (H.outside host.new) }
     ensures stays { HoldsAnswered (B.seen board.old) → HoldsAnswered (B.seen board.new) }
 {
     let image = read_image(alloc, host, names.image, hashes)?;
@@ -74,13 +72,11 @@ fn run_image<H: Host, B: Board, L: Ledger>(
     board: &mut B,
     hashes: &mut HashCount<L>,
 ) -> Result<(), End>
-    requires off { (B.seen board.old).power ≡ false }
-    requires none_out { (B.seen board.old).ledger.out ≡ None }
-    requires none_answered { (B.seen board.old).ledger.answered ≡ [] }
+    requires fresh { IsFresh (B.seen board.old) }
     requires image { (state : Option State) × IsWellFormed image.items state }
     ensures carried { (state : Option State) → IsWellFormed image.items state
-        → CarriesOutRest (read_script (run_files names.now) state) at_first (B.seen board.new).ledger.answered (B.seen board.new).ledger.standing
-        (H.outside host.old) result (H.outside host.new) }
+        → CarriesOutOn (read_script (run_files names.now) state) (B.seen board.new) (H.outside host.old)
+        result (H.outside host.new) }
     ensures stays { HoldsAnswered (B.seen board.old) → HoldsAnswered (B.seen board.new) }
 {
     let events = read_as(alloc, host, Role::Script, names.script, ScriptForm)?;
@@ -97,15 +93,13 @@ fn run_events<H: Host, B: Board, L: Ledger>(
     board: &mut B,
     hashes: &mut HashCount<L>,
 ) -> Result<(), End>
-    requires off { (B.seen board.old).power ≡ false }
-    requires none_out { (B.seen board.old).ledger.out ≡ None }
-    requires none_answered { (B.seen board.old).ledger.answered ≡ [] }
+    requires fresh { IsFresh (B.seen board.old) }
     requires image { (state : Option State) × IsWellFormed image.items state }
     requires count { length events ≤ EVENT_LIMIT }
     requires events { All IsScriptEvent events }
     ensures carried { (state : Option State) → IsWellFormed image.items state
-        → CarriesOutRest (read_noise (run_files names.now) state events) at_first (B.seen board.new).ledger.answered (B.seen board.new).ledger.standing
-        (H.outside host.old) result (H.outside host.new) }
+        → CarriesOutOn (read_noise (run_files names.now) state events) (B.seen board.new) (H.outside host.old)
+        result (H.outside host.new) }
     ensures stays { HoldsAnswered (B.seen board.old) → HoldsAnswered (B.seen board.new) }
 {
     let drawn = read_draws(alloc, host, names.noise, events)?;
@@ -122,15 +116,13 @@ fn run_drawn<H: Host, B: Board, L: Ledger>(
     board: &mut B,
     hashes: &mut HashCount<L>,
 ) -> Result<(), End>
-    requires off { (B.seen board.old).power ≡ false }
-    requires none_out { (B.seen board.old).ledger.out ≡ None }
-    requires none_answered { (B.seen board.old).ledger.answered ≡ [] }
+    requires fresh { IsFresh (B.seen board.old) }
     requires image { (state : Option State) × IsWellFormed image.items state }
     requires count { length events ≤ EVENT_LIMIT }
     requires events { All IsScriptEvent events }
     ensures carried { (state : Option State) → IsWellFormed image.items state
-        → CarriesOutRest (serve_events (run_files names.now) state events) at_first (B.seen board.new).ledger.answered (B.seen board.new).ledger.standing
-        (H.outside host.old) result (H.outside host.new) }
+        → CarriesOutOn (serve_events (run_files names.now) state events) (B.seen board.new) (H.outside host.old)
+        result (H.outside host.new) }
     ensures stays { HoldsAnswered (B.seen board.old) → HoldsAnswered (B.seen board.new) }
 {
     match board.load(alloc, &image, events) {

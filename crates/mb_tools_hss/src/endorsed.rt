@@ -3,6 +3,7 @@
 ghost use Rattle.std.specs.Prelude.{◌≡◌, ◌≤◌, map};
 ghost use Rattle.mb_console.specs.Ending.{CarriesOut};
 ghost use Rattle.mb_console.specs.Words.{given_argument};
+ghost use Rattle.mb_hss.specs.declared.limits.TheConstants.{LEVEL_LIMIT};
 ghost use Rattle.mb_tools_hss.specs.Endorsed.{endorsed, endorsed_under, endorsed_root, judge_endorsement};
 ghost use Rattle.mb_tools_hss.specs.Names.{endorsed_files, endorsed_given};
 
@@ -53,7 +54,7 @@ fn endorsed_under<H: Host>(
     host: &mut H,
 ) -> Result<(), End>
     requires least { 1 ≤ key.now.levels }
-    requires most { key.now.levels ≤ 8 }
+    requires most { key.now.levels ≤ LEVEL_LIMIT }
     ensures { CarriesOut (endorsed_under (endorsed_files names.now) key.now) (H.outside host.old) result (H.outside host.new) }
 {
     let root = read_as(alloc, host, Role::Root, names.root, PublicKeyForm)?;
@@ -69,7 +70,7 @@ fn endorsed_root<H: Host>(
     host: &mut H,
 ) -> Result<(), End>
     requires least { 1 ≤ key.now.levels }
-    requires most { key.now.levels ≤ 8 }
+    requires most { key.now.levels ≤ LEVEL_LIMIT }
     ensures { CarriesOut (endorsed_root (endorsed_files names.now) key.now root.now) (H.outside host.old) result (H.outside host.new) }
 {
     let endorsement = read_as(alloc, host, Role::Endorsement, names.endorsement, AnyBytes)?;
@@ -85,7 +86,7 @@ fn judge_endorsement<H: Host>(
     host: &mut H,
 ) -> Result<(), End>
     requires least { 1 ≤ key.now.levels }
-    requires most { key.now.levels ≤ 8 }
+    requires most { key.now.levels ≤ LEVEL_LIMIT }
     ensures { CarriesOut (judge_endorsement key.now root.now endorsement.now) (H.outside host.old) result (H.outside host.new) }
 {
     if verify(key, &[ENDORSED_TEXT], &key_bytes(root), endorsement) {

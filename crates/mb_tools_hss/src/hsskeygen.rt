@@ -3,6 +3,7 @@
 ghost use Rattle.std.specs.Prelude.{◌≡◌, ◌≤◌, IfOk, map, string_bytes};
 ghost use Rattle.mb_console.specs.Ending.{CarriesOut};
 ghost use Rattle.mb_console.specs.Words.{given_argument};
+ghost use Rattle.mb_hss.specs.declared.limits.TheConstants.{LEVEL_LIMIT};
 ghost use Rattle.mb_hss.specs.HssKeyFormat.{hss_key_format};
 ghost use Rattle.mb_hss.specs.MakerKeys.{IsMaker, maker_key};
 ghost use Rattle.mb_tools_hss.specs.HssKeygen.{hsskeygen, maker_text, write_maker_key};
@@ -49,8 +50,7 @@ pub fn hsskeygen<H: Host, L: Ledger>(
     host: &mut H,
     hashes: &mut HashCount<L>,
 ) -> Result<(), End>
-    requires least { 1 ≤ names.now.levels }
-    requires most { names.now.levels ≤ 8 }
+    requires { (1 ≤ names.now.levels) × (names.now.levels ≤ LEVEL_LIMIT) }
     ensures { CarriesOut (hsskeygen (hsskeygen_files names.now)) (H.outside host.old) result (H.outside host.new) }
 {
     let noise = read_as(

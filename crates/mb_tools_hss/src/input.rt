@@ -41,6 +41,7 @@ pub struct HssKeyForm;
 
 impl Form for HssKeyForm {
     ghost use Rattle.std.specs.Prelude.{[], ◌≤◌};
+    ghost use Rattle.mb_hss.specs.declared.limits.TheConstants.{LEVEL_LIMIT};
     ghost use Rattle.mb_hss.specs.declared.key.HssKey.{HssKey};
     ghost use Rattle.mb_tools_hss.specs.MakerInputs.{hss_key_input};
 
@@ -54,7 +55,7 @@ impl Form for HssKeyForm {
 
     ghost FaultyAt = { λ form. (hss_key_input []).FaultyAt };
 
-    ghost Keeps = { λ key. (1 ≤ key.levels) × (key.levels ≤ 8) };
+    ghost Keeps = { λ key. (1 ≤ key.levels) × (key.levels ≤ LEVEL_LIMIT) };
 
     fn read(self, _alloc: Global, bytes: Vec<u8>) -> Result<HssKey, Unread> {
         match read_hss_key(&bytes) {

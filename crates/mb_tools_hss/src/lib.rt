@@ -12,3 +12,4 @@ mod input;
 mod laws;
 
 pub use laws::inputs_are_clear;
+pub use mb_hss::LEVEL_LIMIT;

@@ -1,10 +1,10 @@
 //! The commands by their words.
 
 ghost use Rattle.std.specs.Prelude.{◌≡◌, ◌<◌, ◌⊎◌, ℕ, MatchOption, List, Option, [], map, None, Some, false, string_bytes};
-ghost use Rattle.mb_model.specs.Commands.{HasInputsFor, ComesToRefusal, IsFaultless, at_first};
-ghost use Rattle.mb_console.specs.Ending.{CarriesOutRest};
+ghost use Rattle.mb_model.specs.Commands.{HasInputsFor, ComesToRefusal, IsFaultless};
 ghost use Rattle.mb_console.specs.Words.{Argument, IsCall, given_argument};
 ghost use Rattle.mb_top.specs.Top.{commands, command_of, Ends, HoldsAfter, HoldsAfterWords, HoldsAtStatus, CarriesOutWords};
+ghost use Rattle.mb_tools_device.specs.Boards.{IsFresh, CarriesOutOn};
 ghost use Rattle.mb_tools_device.specs.Holding.{HoldsAnswered};
 
 use crate::table::{COMMANDS, Call, Command, call_in};
@@ -42,9 +42,7 @@ fn command<H: Host, B: Board>(
     host: &mut H,
     board: &mut B,
 ) -> Result<(), End>
-    requires off { (B.seen board.old).power ≡ false }
-    requires none_out { (B.seen board.old).ledger.out ≡ None }
-    requires none_answered { (B.seen board.old).ledger.answered ≡ [] }
+    requires fresh { IsFresh (B.seen board.old) }
     ensures carried { CarriesOutWords (map string_bytes words.now) (B.seen board.new).ledger.answered (B.seen board.new).ledger.standing
         (H.outside host.old) result (H.outside host.new) }
     ensures stays { HoldsAnswered (B.seen board.old) → HoldsAfterWords (map string_bytes words.now) result (B.seen board.new) }
@@ -63,9 +61,7 @@ fn counted_command<H: Host, B: Board, L: Ledger>(
     requires name { blank.name ≡ L.name }
     requires parts { blank.parts ≡ L.parts }
     requires some { 0 < blank.parts }
-    requires off { (B.seen board.old).power ≡ false }
-    requires none_out { (B.seen board.old).ledger.out ≡ None }
-    requires none_answered { (B.seen board.old).ledger.answered ≡ [] }
+    requires fresh { IsFresh (B.seen board.old) }
     ensures carried { CarriesOutWords (map string_bytes words.now) (B.seen board.new).ledger.answered (B.seen board.new).ledger.standing
         (H.outside host.old) result (H.outside host.new) }
     ensures stays { HoldsAnswered (B.seen board.old) → HoldsAfterWords (map string_bytes words.now) result (B.seen board.new) }
@@ -95,11 +91,9 @@ fn carry_out<H: Host, B: Board, L: Ledger>(
     hashes: &mut HashCount<L>,
 ) -> Result<(), End>
     requires called { (words : List (List ℕ)) × IsCall commands words call.now.command (map given_argument call.now.arguments.items) }
-    requires off { (B.seen board.old).power ≡ false }
-    requires none_out { (B.seen board.old).ledger.out ≡ None }
-    requires none_answered { (B.seen board.old).ledger.answered ≡ [] }
-    ensures carried { CarriesOutRest (command_of call.now.command (map given_argument call.now.arguments.items)) at_first
-        (B.seen board.new).ledger.answered (B.seen board.new).ledger.standing (H.outside host.old) result (H.outside host.new) }
+    requires fresh { IsFresh (B.seen board.old) }
+    ensures carried { CarriesOutOn (command_of call.now.command (map given_argument call.now.arguments.items))
+        (B.seen board.new) (H.outside host.old) result (H.outside host.new) }
     ensures stays { HoldsAnswered (B.seen board.old) → HoldsAfter call.now.command result (B.seen board.new) }
 {
     let given = &call.arguments;

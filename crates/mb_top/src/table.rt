@@ -1,6 +1,6 @@
 //! The table of the commands: their names, the words after each name, and what `--help` says of them.
 
-ghost use Rattle.std.specs.Prelude.{◌≡◌, ◌+◌, ◌≤◌, ◌∷◌, ◌++◌, ℕ, List, MatchOption, flat_map, length, map, string_bytes};
+ghost use Rattle.std.specs.Prelude.{◌≡◌, ◌+◌, ◌≤◌, ◌∷◌, ◌++◌, List, MatchOption, flat_map, length, map, string_bytes};
 ghost use Rattle.arrayvec.specs.ArrayVec.{array_vec_len};
 ghost use Rattle.mb_console.specs.Words.{Argument, IsCall, given_argument};
 ghost use Rattle.mb_top.specs.Usage.{AllFit, usage_line};
@@ -8,6 +8,8 @@ ghost use Rattle.mb_top.specs.Usage.{AllFit, usage_line};
 use arrayvec::ArrayVec;
 use mb_console::{Arguments, Kind, WORD_LIMIT, Word, arguments_of};
 use mb_model::CUT_LIMIT;
+use mb_tools_device::ROUND_LIMIT;
+use mb_tools_hss::LEVEL_LIMIT;
 
 /// The commands of the program.
 #[derive(Clone, Copy)]
@@ -70,7 +72,13 @@ const KEYNUMBER: Word = (
 
 const LAYER: Word = ("LAYER", Kind::Number { least: 2, most: 3 });
 
-const LEVELS: Word = ("LEVELS", Kind::Number { least: 1, most: 8 });
+const LEVELS: Word = (
+    "LEVELS",
+    Kind::Number {
+        least: 1,
+        most: LEVEL_LIMIT as u32,
+    },
+);
 
 const NOISE: Word = ("NOISE", Kind::File);
 
@@ -96,7 +104,13 @@ const REGISTER: Word = ("REGISTER", Kind::File);
 
 const ROOT: Word = ("ROOT", Kind::File);
 
-const ROUNDS: Word = ("ROUNDS", Kind::Number { least: 1, most: 24 });
+const ROUNDS: Word = (
+    "ROUNDS",
+    Kind::Number {
+        least: 1,
+        most: ROUND_LIMIT,
+    },
+);
 
 const SCRIPT: Word = ("SCRIPT", Kind::File);
 

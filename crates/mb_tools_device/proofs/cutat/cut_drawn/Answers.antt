@@ -7,7 +7,7 @@ use Rattle.mb_tools_device.proofs.cutat.cut_drawn.Goals as goal
 
 pub returns-in_default-clause-carried : goal.returns-in_default-clause-carried
 returns-in_default-clause-carried g c = λ state held.
-    memory_unfound (IsCutRun c.args.names.now.fill.now c.args.events) (serve_first (cut_files c.args.names.now) state) at_first _ _ (g.H.Host.outside c.args.host.now) refl c.requires.none_answered
+    memory_unfound (IsCutRun c.args.names.now.fill.now c.args.events) (serve_first (cut_files c.args.names.now) state) at_first _ _ (g.H.Host.outside c.args.host.now) refl c.requires.fresh.none_answered
 
 pub returns-clause-carried : goal.returns-clause-carried
 returns-clause-carried g c = λ state held.

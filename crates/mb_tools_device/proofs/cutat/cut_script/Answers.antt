@@ -12,7 +12,7 @@ pub returns-in_err-drawn-clause-carried : goal.returns-in_err-drawn-clause-carri
 returns-in_err-drawn-clause-carried g c = λ state held.
     let p = err_from_is_err_and c.from_residual.result c.from_residual.ensures.1 in
     let outside = g.H.Host.outside in
-    rw (p.1, p.2) (input_carried_out (draws_input c.args.events c.args.names.now.noise.now) (serve_twice (cut_files c.args.names.now) state) at_first _ _ (outside c.args.host.now) (outside c.read_draws.new.host) c.in_err-drawn.field-0.0 refl c.requires.none_answered c.in_err-drawn.ensures.err)
+    rw (p.1, p.2) (input_carried_out (draws_input c.args.events c.args.names.now.noise.now) (serve_twice (cut_files c.args.names.now) state) at_first _ _ (outside c.args.host.now) (outside c.read_draws.new.host) c.in_err-drawn.field-0.0 refl c.requires.fresh.none_answered c.in_err-drawn.ensures.err)
 
 pub cut_drawn-requires-clause-uncut : goal.cut_drawn-requires-clause-uncut
 cut_drawn-requires-clause-uncut g c = draws_uncut c.args.events c.in_ok-drawn.ensures.read.bytes c.in_ok-drawn.drawn c.requires.uncut c.in_ok-drawn.ensures.read.is

@@ -16,20 +16,20 @@ use Rattle.mb_tools_device.proofs.cutat.serve_first.Goals as goal
 
 pub returns-in_default-clause-carried : goal.returns-in_default-clause-carried
 returns-in_default-clause-carried g c = λ state cut formed are.
-    memory_unrehearsed (IsRehearsed state cut) (serve_cut (cut_files c.args.names.now) state cut) at_first _ _ (g.H.Host.outside c.args.host.now) refl c.requires.none_answered
+    memory_unrehearsed (IsRehearsed state cut) (serve_cut (cut_files c.args.names.now) state cut) at_first _ _ (g.H.Host.outside c.args.host.now) refl c.requires.fresh.none_answered
 
 pub returns-in_default-clause-stays : goal.returns-in_default-clause-stays
 returns-in_default-clause-stays g c = λ holds. inl holds
 
 pub returns-in-Err-clause-carried : goal.returns-in-Err-clause-carried
 returns-in-Err-clause-carried g c = λ state cut formed are.
-    memory_unrehearsed (IsRehearsed state cut) (serve_cut (cut_files c.args.names.now) state cut) at_first _ _ (g.H.Host.outside c.args.host.now) refl (ap (λ l. l.answered) c.in-Err.ensures.err_ledger ∙ c.requires.none_answered)
+    memory_unrehearsed (IsRehearsed state cut) (serve_cut (cut_files c.args.names.now) state cut) at_first _ _ (g.H.Host.outside c.args.host.now) refl (ap (λ l. l.answered) c.in-Err.ensures.err_ledger ∙ c.requires.fresh.none_answered)
 
 pub returns-in-Err-clause-stays : goal.returns-in-Err-clause-stays
 returns-in-Err-clause-stays g c = λ holds.
     let old = g.B.Board.seen c.args.board.now in
     let new = g.B.Board.seen c.load.new.self in
-    inl (unloaded_holds old.memory new.memory old.ledger new.ledger old.power new.power old.level new.level old.meter new.meter c.in-Err.ensures.err_memory c.in-Err.ensures.err_ledger c.in-Err.ensures.err_meter c.requires.off c.load.ensures.power holds)
+    inl (unloaded_holds old.memory new.memory old.ledger new.ledger old.power new.power old.level new.level old.meter new.meter c.in-Err.ensures.err_memory c.in-Err.ensures.err_ledger c.in-Err.ensures.err_meter c.requires.fresh.off c.load.ensures.power holds)
 
 pub serve-device-requires-clause-between : goal.serve-device-requires-clause-between
 serve-device-requires-clause-between g c =

@@ -12,7 +12,7 @@ unfolding run
 returns-in_err-image-clause-carried g c =
     let p = err_from_is_err_and c.from_residual.result c.from_residual.ensures.1 in
     let outside = g.H.Host.outside in
-    rw (p.1, p.2) (input_carried_out (image_input c.args.names.now.image.now) (read_script (run_files c.args.names.now)) at_first _ _ (outside c.args.host.now) (outside c.read_image.new.host) c.in_err-image.field-0.0 refl c.requires.none_answered c.in_err-image.ensures.err)
+    rw (p.1, p.2) (input_carried_out (image_input c.args.names.now.image.now) (read_script (run_files c.args.names.now)) at_first _ _ (outside c.args.host.now) (outside c.read_image.new.host) c.in_err-image.field-0.0 refl c.requires.fresh.none_answered c.in_err-image.ensures.err)
 
 pub returns-clause-carried : goal.returns-clause-carried
 unfolding run

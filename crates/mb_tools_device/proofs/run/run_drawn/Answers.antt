@@ -8,7 +8,7 @@ use Rattle.mb_tools_device.proofs.run.run_drawn.Goals as goal
 
 pub returns-in-Err-clause-carried : goal.returns-in-Err-clause-carried
 returns-in-Err-clause-carried g c = λ state held.
-    memory_unserved _ _ at_first _ _ (g.H.Host.outside c.args.host.now) refl (ap (λ l. l.answered) c.in-Err.ensures.err_ledger ∙ c.requires.none_answered)
+    memory_unserved _ _ at_first _ _ (g.H.Host.outside c.args.host.now) refl (ap (λ l. l.answered) c.in-Err.ensures.err_ledger ∙ c.requires.fresh.none_answered)
 
 pub serve-device-requires-clause-between : goal.serve-device-requires-clause-between
 serve-device-requires-clause-between g c =
@@ -43,4 +43,4 @@ pub returns-in-Err-clause-stays : goal.returns-in-Err-clause-stays
 returns-in-Err-clause-stays g c = λ holds.
     unloaded_holds (g.B.Board.seen c.args.board.now).memory (g.B.Board.seen c.load.new.self).memory (g.B.Board.seen c.args.board.now).ledger (g.B.Board.seen c.load.new.self).ledger
     (g.B.Board.seen c.args.board.now).power (g.B.Board.seen c.load.new.self).power (g.B.Board.seen c.args.board.now).level (g.B.Board.seen c.load.new.self).level (g.B.Board.seen c.args.board.now).meter (g.B.Board.seen c.load.new.self).meter
-    c.in-Err.ensures.err_memory c.in-Err.ensures.err_ledger c.in-Err.ensures.err_meter c.requires.off c.load.ensures.power holds
+    c.in-Err.ensures.err_memory c.in-Err.ensures.err_ledger c.in-Err.ensures.err_meter c.requires.fresh.off c.load.ensures.power holds

@@ -11,7 +11,7 @@ pub returns-in_err-events-clause-carried : goal.returns-in_err-events-clause-car
 returns-in_err-events-clause-carried g c = λ state held.
     let p = err_from_is_err_and c.from_residual.result c.from_residual.ensures.1 in
     let outside = g.H.Host.outside in
-    rw (p.1, p.2) (input_carried_out (script_input c.args.names.now.script.now) (read_noise (run_files c.args.names.now) state) at_first _ _ (outside c.args.host.now) (outside c.read_as.new.host) c.in_err-events.field-0.0 refl c.requires.none_answered c.in_err-events.ensures.err)
+    rw (p.1, p.2) (input_carried_out (script_input c.args.names.now.script.now) (read_noise (run_files c.args.names.now) state) at_first _ _ (outside c.args.host.now) (outside c.read_as.new.host) c.in_err-events.field-0.0 refl c.requires.fresh.none_answered c.in_err-events.ensures.err)
 
 pub returns-clause-carried : goal.returns-clause-carried
 returns-clause-carried g c = λ state held.
