@@ -109,7 +109,9 @@ pub record IsSwitched (before after : Seen) : Type 0 where
   pub ledger : after.ledger ≡ before.ledger
   pub meter : after.meter ≡ before.meter
 
--- No event is out, and the board holds what it held at the last answer or, if there is none, at the load.
+-- No event is out, and the board holds what it held at the last answer or, if there is none, at the load. No power loss
+-- has stopped a call since.
 pub record IsBetweenEvents (seen : Seen) : Type 0 where
   pub none_out : seen.ledger.out ≡ None
   pub standing : seen.ledger.standing ≡ held_in seen
+  pub stops : seen.ledger.stops ≡ seen.meter.stops

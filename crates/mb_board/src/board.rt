@@ -2,10 +2,10 @@
 
 ghost use Rattle.std.specs.Prelude.{◌≡◌, ◌+◌, ◌*◌, ◌/◌, ◌-◌, ◌<◌, ◌≤◌, ◌++◌, ◌∷◌, [], true, false, length, All, IfSome, IfNone, OnOk, OnErr, List, Some, None};
 ghost use Rattle.mb_format.specs.Format.{IsBytes};
-ghost use Rattle.mb_model.specs.declared.limits.TheConstants.{EVENT_LIMIT, IMAGE_LENGTH, SECTOR_LENGTH};
+ghost use Rattle.mb_model.specs.declared.limits.TheConstants.{EVENT_LIMIT, IMAGE_LENGTH, SECTOR_LENGTH, WRITE_LIMIT};
 ghost use Rattle.mb_model.specs.Pieces.{part};
 ghost use Rattle.mb_model.specs.Script.{IsScriptEvent};
-ghost use Rattle.mb_model.specs.Board.{IsLoaded, image_of, memory_with_bytes, erased_bytes, ledger_at_load, power_after, memory_after, armed_after};
+ghost use Rattle.mb_model.specs.Board.{IsLoaded, image_of, memory_with_bytes, erased_bytes, counted_load, ledger_at_load, power_after, memory_after, armed_after, stops_by_answer};
 ghost use Rattle.mb_model.specs.Acknowledged.{MayAnswer};
 ghost use Rattle.mb_board.specs.Calls.{power_of, level_of, metered, Torn, Seen, held_in};
 ghost use Rattle.mb_board.specs.Reach.{Reached, Readable};
@@ -105,12 +105,11 @@ pub trait Board: Register {
         ensures sized { OnOk result (IsLoaded (seen self.new).memory) }
         ensures image { OnOk result (image_of (seen self.new).memory ≡ image.now) }
         ensures ledger { OnOk result ((seen self.new).ledger
-            ≡ ledger_at_load (seen self.new).memory events) }
+            ≡ ledger_at_load (counted_load (seen self.old).ledger.loads) (seen self.old).meter.stops
+            (seen self.new).memory events) }
         ensures meter { OnOk result ((seen self.new).meter
             ≡ record (seen self.old).meter { armed = false; writes = 0 }) }
-        ensures err_memory { OnErr result ((seen self.new).memory ≡ (seen self.old).memory) }
-        ensures err_ledger { OnErr result ((seen self.new).ledger ≡ (seen self.old).ledger) }
-        ensures err_meter { OnErr result ((seen self.new).meter ≡ (seen self.old).meter) };
+        ensures failed { OnErr result (seen self.new ≡ seen self.old) };
 
     /// The number of events that wait.
     fn events_left(&self) -> u32
@@ -139,15 +138,19 @@ pub trait Board: Register {
         ensures bbram_bytes { IsBytes (seen self.new).memory.bbram };
 
     /// Answers the event that is out. Event and reply have to be one step from the world at the last answer to the
-    /// world now.
+    /// world now. There were at most 35 write calls since the event was handed out, and the reply is `Stopped` exactly
+    /// if a power loss stopped a call since the last answer.
     fn answer(&mut self, event: Event, reply: Reply)
         requires out { (seen self.old).ledger.out ≡ Some event }
         requires step { MayAnswer (seen self.old).ledger.standing
             (held_in (seen self.old)) event reply }
+        requires writes { (seen self.old).meter.writes ≤ WRITE_LIMIT }
+        requires stops { (seen self.old).meter.stops ≡ stops_by_answer reply (seen self.old).ledger.stops }
         ensures ledger { (seen self.new).ledger ≡ record (seen self.old).ledger {
           out = None;
           answered = (seen self.old).ledger.answered ++ record { event = event; reply = reply } ∷ [];
           standing = held_in (seen self.old);
+          stops = (seen self.old).meter.stops;
         } }
         ensures power { (seen self.new).power ≡ (seen self.old).power }
         ensures level { (seen self.new).level ≡ (seen self.old).level }

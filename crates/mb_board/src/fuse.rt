@@ -68,6 +68,13 @@ impl Fuse {
         self.cut.is_some()
     }
 
+    /// How many calls power losses have stopped.
+    pub fn stops(&self) -> u64
+        ensures { result ≡ self.now.stops }
+    {
+        self.stops
+    }
+
     /// Arms a power loss, in place of one that was armed before.
     pub fn arm(&mut self, count: u32, tear: Tear)
         requires { HasFill tear }

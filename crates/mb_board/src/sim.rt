@@ -4,10 +4,10 @@ ghost use Rattle.std.specs.Prelude.{◌≡◌, ◌+◌, ◌*◌, ◌-◌, ◌/�
 ghost use Rattle.std.specs.Result.{is_ok};
 ghost use Rattle.std.proofs.Common.{ap, refl};
 ghost use Rattle.mb_format.specs.Format.{IsBytes};
-ghost use Rattle.mb_model.specs.declared.limits.TheConstants.{EVENT_LIMIT, IMAGE_LENGTH, SECTOR_LENGTH};
+ghost use Rattle.mb_model.specs.declared.limits.TheConstants.{EVENT_LIMIT, IMAGE_LENGTH, SECTOR_LENGTH, WRITE_LIMIT};
 ghost use Rattle.mb_model.specs.Pieces.{part};
 ghost use Rattle.mb_model.specs.Script.{IsScriptEvent};
-ghost use Rattle.mb_model.specs.Board.{IsLoaded, image_of, ledger_at_load, memory_with_bytes, erased_bytes, power_after, memory_after, armed_after};
+ghost use Rattle.mb_model.specs.Board.{IsLoaded, image_of, counted_load, ledger_at_load, memory_with_bytes, erased_bytes, power_after, memory_after, armed_after, stops_by_answer};
 ghost use Rattle.mb_model.specs.Acknowledged.{MayAnswer};
 ghost use Rattle.mb_board.specs.Calls.{Torn, held_by};
 ghost use Rattle.mb_board.specs.Cuts.{unused, passes, left_by, cut_after, meter_of, is_armed};
@@ -23,24 +23,50 @@ use std::alloc::Global;
 use std::collections::VecDeque;
 use std::marker::Model;
 
-/// The power of a board when the bytes of its memories were last kept.
+/// The power of a board when the bytes of its memories were last kept, and how many calls power losses had stopped.
 #[derive(Drop)]
 struct Standing {
     is_on: bool,
     level: u8,
     is_armed: bool,
+    stops: u64,
 }
 
 impl Standing {
-    /// Power off, and no power loss armed.
-    fn off() -> Standing
+    /// Power off, and no power loss armed, when power losses have stopped so many calls.
+    fn off(stops: u64) -> Standing
         ensures on { result.is_on ≡ false }
         ensures armed { result.is_armed ≡ false }
+        ensures stops { result.stops ≡ stops }
     {
         Standing {
             is_on: false,
             level: 0,
             is_armed: false,
+            stops,
+        }
+    }
+}
+
+/// The count of loads saturates here.
+const COUNTED_LOADS: u16 = 1_000;
+
+/// The memories as they were when the board was last loaded.
+#[derive(Drop)]
+struct Loaded {
+    flash: Vec<u8>,
+    bbram: Vec<u8>,
+}
+
+impl Loaded {
+    /// Both memories are empty.
+    fn none(alloc: Global) -> Loaded
+        ensures flash { result.flash.items ≡ [] }
+        ensures bbram { result.bbram.items ≡ [] }
+    {
+        Loaded {
+            flash: Vec::new(alloc),
+            bbram: Vec::new(alloc),
         }
     }
 }
@@ -57,6 +83,9 @@ pub struct SimBoard {
     flash: Bank,
     bbram: Bank,
     standing: Standing,
+    loaded: Loaded,
+    /// How many loads there were.
+    loads: u16,
     waiting: VecDeque<Event>,
     /// A copy of each event that waits; the board keeps it while that event is out.
     copies: VecDeque<Event>,
@@ -84,6 +113,9 @@ impl Model for SimBoard {
           phase = phase_at s.standing.is_on s.standing.level;
           armed = s.standing.is_armed;
         };
+        stops = s.standing.stops;
+        loaded = record { flash = s.loaded.flash.items; bbram = s.loaded.bbram.items };
+        loads = s.loads;
       };
       fuse = s.fuse;
     } };
@@ -96,7 +128,7 @@ impl SimBoard {
     pub fn new(alloc: Global) -> SimBoard
         ensures power { result.power ≡ false }
         ensures memory { result.memory ≡ unloaded }
-        ensures ledger { result.ledger ≡ ledger_at_load unloaded [] }
+        ensures ledger { result.ledger ≡ ledger_at_load 0 0 unloaded [] }
         ensures fuse { result.fuse ≡ unused }
     {
         SimBoard {
@@ -105,7 +137,9 @@ impl SimBoard {
             fuse: Fuse::new(),
             flash: Bank::new(alloc),
             bbram: Bank::new(alloc),
-            standing: Standing::off(),
+            standing: Standing::off(0),
+            loaded: Loaded::none(alloc),
+            loads: 0,
             waiting: VecDeque::new(alloc),
             copies: VecDeque::new(alloc),
             out: None,
@@ -270,19 +304,28 @@ impl Board for SimBoard {
         ensures power { self.new.power ≡ false }
         ensures sized { OnOk result (IsLoaded self.new.memory) }
         ensures image { OnOk result (image_of self.new.memory ≡ image.now) }
-        ensures ledger { OnOk result (self.new.ledger ≡ ledger_at_load self.new.memory events) }
+        ensures ledger { OnOk result (self.new.ledger
+            ≡ ledger_at_load (counted_load self.old.ledger.loads) self.old.fuse.stops self.new.memory events) }
         ensures fuse { OnOk result (self.new.fuse
             ≡ record self.old.fuse { cut = None; writes = 0 }) }
         ensures failed { OnErr result (self.new ≡ self.old) }
     {
         let (flash, bbram) = image.split_at(FLASH_LENGTH);
+        let loaded = Loaded {
+            flash: Vec::from_slice(alloc, flash)?,
+            bbram: Vec::from_slice(alloc, bbram)?,
+        };
         let flash = Bank::from_slice(alloc, flash)?;
         let bbram = Bank::from_slice(alloc, bbram)?;
         let answered = Vec::with_capacity(alloc, events.as_slice().len())?;
         let copies = copies_of(alloc, events.as_slice())?;
         self.flash = flash;
         self.bbram = bbram;
-        self.standing = Standing::off();
+        self.standing = Standing::off(self.fuse.stops());
+        self.loaded = loaded;
+        if self.loads < COUNTED_LOADS {
+            self.loads += 1;
+        }
         self.waiting = VecDeque::from_vec(events.into_vec());
         self.copies = copies;
         self.answered = answered;
@@ -325,11 +368,14 @@ impl Board for SimBoard {
         requires out { self.old.ledger.out ≡ Some event }
         requires step { MayAnswer self.old.ledger.standing
             (held_by self.old.memory self.old.power self.old.level (meter_of self.old.fuse)) event reply }
+        requires writes { self.old.fuse.writes ≤ WRITE_LIMIT }
+        requires stops { self.old.fuse.stops ≡ stops_by_answer reply self.old.ledger.stops }
         ensures { self.new ≡ record self.old {
           ledger = record self.old.ledger {
             out = None;
             answered = self.old.ledger.answered ++ record { event = event; reply = reply } ∷ [];
             standing = held_by self.old.memory self.old.power self.old.level (meter_of self.old.fuse);
+            stops = self.old.fuse.stops;
           };
         } }
     {
@@ -339,6 +385,7 @@ impl Board for SimBoard {
             is_on: self.is_on,
             level: self.level,
             is_armed: self.fuse.is_armed(),
+            stops: self.fuse.stops(),
         };
         self.out = None;
         append(&mut self.answered, Answered { event, reply });

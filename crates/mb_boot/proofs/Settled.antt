@@ -21,7 +21,8 @@ use Rattle.mb_model.specs.Valid.{IsValidState}
 use Rattle.mb_model_lemmas.proofs.HeldSegments.{begins_with, segments_fit}
 use Rattle.mb_model_lemmas.proofs.PublicLemmas.{IsBounded, bounded_by, length-signed_for}
 use Rattle.mb_model_memory.specs.Commits.{two_done, both_done, at_rest, has_both}
-use Rattle.mb_model_memory.specs.FlashInForce.{AgreeForArea, SparesSectors, IsUncounted, IsSectorWritten}
+use Rattle.mb_model.specs.Spared.{SparesSectors}
+use Rattle.mb_model_memory.specs.FlashInForce.{AgreeForArea, IsUncounted, IsSectorWritten}
 use Rattle.mb_model_memory.specs.Holding.{Holds, Means, KeepsContents, KeepsMeaning}
 use Rattle.mb_model_memory.specs.InForce.{AgreeBesides}
 use Rattle.mb_model_memory.specs.NextHeaders.{header_settled}

@@ -4,7 +4,8 @@ ghost use Rattle.std.specs.Prelude.{◌≡◌, ◌≤◌, ◌+◌, OnOk, ◌*◌
 ghost use Rattle.mb_model.specs.Flash.{sector};
 ghost use Rattle.mb_model.specs.Sectors.{header_sector};
 ghost use Rattle.mb_board.specs.Calls.{Ran, RanOnBbram, RanOnFlash};
-ghost use Rattle.mb_model_memory.specs.FlashInForce.{AgreeForArea, SparesSectors};
+ghost use Rattle.mb_model.specs.Spared.{SparesSectors};
+ghost use Rattle.mb_model_memory.specs.FlashInForce.{AgreeForArea};
 ghost use Rattle.mb_model_memory.specs.Holding.{KeepsContents, KeepsMeaning};
 ghost use Rattle.mb_boot.specs.Settling.{IsLiveBoard, IsLiveWith, IsOnlyRoot, AppliesBoth, AddsToLog, CompletesLog, CountsLog, SignsRecord, Settles};
 ghost use Rattle.mb_lms.specs.declared.hash_count.TheConstants.{SIGNING_HASHES};

@@ -4,7 +4,8 @@ use Rattle.std.proofs.Common.{nat_lt}
 use Rattle.std.proofs.lemmas.Bool.{ltb-false}
 use Rattle.mb_model.specs.declared.role.Place.{Place}
 use Rattle.mb_model.specs.Outside.{Outside, HasRisen, count_after_call, count_limit, by_fault, by_absence}
-use Rattle.mb_model.specs.Commands.{Input, Command, read, find, either_command, serve, rehearse, write, print, refuse, lack, Past, Ended, SaysLine, InputEnds, input_is_too_long, input_is_faulty, input_is_not_read, memory_lacks, text_is_printed, text_is_not_printed, CommandEnds, IsFaultless, HasInputsFor, ComesToRefusal, end_seen_from, role_word}
+use Rattle.mb_model.specs.Board.{loaded_once_more, having_answered}
+use Rattle.mb_model.specs.Commands.{Input, Command, read, find, either_command, load, serve, rehearse, write, print, refuse, lack, Past, Ended, SaysLine, InputEnds, input_is_too_long, input_is_faulty, input_is_not_read, memory_lacks, text_is_printed, text_is_not_printed, CommandEnds, IsFaultless, HasInputsFor, ComesToRefusal, end_seen_from, role_word}
 
 -- ---- counts of faults
 
@@ -81,14 +82,15 @@ command_completes (either_command If first second) past e files told has well (i
 command_completes (either_command If first second) past e files told has well (inr (inl ends)) =
     completes_as second (either_command If first second) files files e.status (λ refused. inr (ends.0, refused)) (command_completes second past e files told (has.1 ends.0) well ends.1)
 command_completes (either_command If first second) past e files told has well (inr (inr wants)) = inr (inl wants.stops.status_is)
-command_completes (serve IsServed rest) past e files told has well (inl ends) =
-    completes_as (rest e.answered e.final) (serve IsServed rest) files files e.status (λ refused. (e.answered, e.final, ends.0, refused))
-    (command_completes (rest e.answered e.final) (record past { answered = e.answered }) e files told (has e.answered e.final ends.0) well ends.1)
-command_completes (serve IsServed rest) past e files told has well (inr wants) = inr (inl wants.stops.status_is)
-command_completes (rehearse IsRehearsed rest) past e files told has well (inl ends) =
+command_completes (load image rest) past e files told has well (inl ends) =
+    completes_as rest (load image rest) files files e.status (λ refused. refused) (command_completes rest (record past { used = loaded_once_more image past.used }) e files told has well ends)
+command_completes (load image rest) past e files told has well (inr wants) = inr (inl wants.stops.status_is)
+command_completes (serve IsServed rest) past e files told has well ends =
+    completes_as (rest e.used.answered e.final) (serve IsServed rest) files files e.status (λ refused. (e.used.answered, e.final, ends.1, refused))
+    (command_completes (rest e.used.answered e.final) (record past { used = e.used }) e files told (has e.used.answered e.final ends.1) well ends.2)
+command_completes (rehearse IsRehearsed rest) past e files told has well ends =
     completes_as (rest ends.0 ends.1) (rehearse IsRehearsed rest) files files e.status (λ refused. (ends.0, ends.1, ends.2, refused))
-    (command_completes (rest ends.0 ends.1) (record past { answered = ends.0 }) e files told (has ends.0 ends.1 ends.2) well ends.3)
-command_completes (rehearse IsRehearsed rest) past e files told has well (inr wants) = inr (inl wants.stops.status_is)
+    (command_completes (rest ends.0 ends.1) (record past { used = having_answered ends.0 past.used }) e files told (has ends.0 ends.1 ends.2) well ends.3)
 command_completes (write output rest) past e files told has well (inl ends) =
     absurd (well.write (says_writes (codes "write failed " ++ role_word output.role) e.before.write_faults ends.mid e.after (ap (λ o. o.write_faults) ends.fails.stays) ends.stops.says))
 command_completes (write output rest) past e files told has well (inr (inl ends)) =

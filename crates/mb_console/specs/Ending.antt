@@ -2,11 +2,10 @@
 -- status?
 use Rattle.std.specs.Prelude.{◌≡◌, ℕ, List, [], ◌++◌, codes, Option, None, Some, Result, Ok, Err}
 use Rattle.std.specs.Fmt.{decimal}
-use Rattle.mb_model.specs.declared.event.Answered.{Answered}
 use Rattle.mb_model.specs.declared.role.Role.{Role}
 use Rattle.mb_model.specs.declared.role.Place.{Place}
 use Rattle.mb_model.specs.Outside.{Outside, HoldsTooMuch, read_once, FailsToRead}
-use Rattle.mb_model.specs.Board.{Held}
+use Rattle.mb_model.specs.Board.{Held, Used, not_used}
 use Rattle.mb_model.specs.Commands.{Input, Command, Past, Ended, SaysLine, HasRead, CommandEnds, at_first, input_line}
 use Rattle.mb_model.specs.Commands.{role_word, place_words}
 use Rattle.mb_console.specs.declared.end.End.{End}
@@ -47,9 +46,9 @@ pub record RefusesWith (line : List ℕ) (why : End) : Type 0 where
   pub status_is : end_status why ≡ 7
 
 -- an end by its parts
-abbrev pub ended_at : Outside → List Answered → Held → Outside → ℕ → Ended
-ended_at before answered final after status =
-    record { before = before; after = after; answered = answered; final = final; status = status }
+abbrev pub ended_at : Outside → Used → Held → Outside → ℕ → Ended
+ended_at before used final after status =
+    record { before = before; after = after; used = used; final = final; status = status }
 
 -- A part is done, and `EndsSo` holds now with status 0; or it ends, and `EndsSo` holds once the line of its end is
 -- printed, with the status of the end.
@@ -58,20 +57,20 @@ EndsOncePrinted EndsSo (Ok u) now = EndsSo now 0
 EndsOncePrinted EndsSo (Err why) now =
     (after : Outside) → SaysLine (end_line why) now after → EndsSo after (end_status why)
 
--- The rest of a command is carried out after its past, with these events answered and this on the board in the end.
+-- The rest of a command is carried out after its past, with the board used so and this on it in the end.
 unfoldable pub CarriesOutRest :
-    Command → Past → List Answered → Held → Outside → Result (Unit {0}) End → Outside → Type 0
-CarriesOutRest command past answered final before result now =
-    EndsOncePrinted (λ after status. CommandEnds command past (ended_at before answered final after status)) result now
+    Command → Past → Used → Held → Outside → Result (Unit {0}) End → Outside → Type 0
+CarriesOutRest command past used final before result now =
+    EndsOncePrinted (λ after status. CommandEnds command past (ended_at before used final after status)) result now
 
 -- A command that leaves the board alone is carried out from any past on.
 abbrev pub CarriesOutAfter : Command → Outside → Result (Unit {0}) End → Outside → Type 0
 CarriesOutAfter command before result now =
-    (past : Past) (final : Held) → CarriesOutRest command past past.answered final before result now
+    (past : Past) (final : Held) → CarriesOutRest command past past.used final before result now
 
 -- A command that leaves the board alone is carried out from its beginning on.
 abbrev pub CarriesOut : Command → Outside → Result (Unit {0}) End → Outside → Type 0
-CarriesOut command before result now = (final : Held) → CarriesOutRest command at_first [] final before result now
+CarriesOut command before result now = (final : Held) → CarriesOutRest command at_first not_used final before result now
 
 -- ---- inputs
 

@@ -1,6 +1,6 @@
 -- Where no secret lies in the memory but those of the state, after an event and after several.
 use Rattle.std.proofs.Common.{◌≡◌, ℕ, Bool, true, false, List, [], ◌∷◌, ◌++◌, Option, None, Some, length, inl, inr, refl, sym, ap, subst, ◌∙◌, append_assoc, length-append, arith}
-use Rattle.std.specs.Prelude.{◌⊎◌, ◌≢◌, All}
+use Rattle.std.specs.Prelude.{◌⊎◌, ◌≢◌, All, IsTrue}
 use Rattle.std.proofs.lemmas.List.{append_cancel_left}
 use Rattle.std.proofs.lemmas.List.Elements.{All-pop}
 use Rattle.mb_model.specs.declared.event.Answered.{Answered}
@@ -9,16 +9,17 @@ use Rattle.mb_model.specs.declared.event.Event.TheVariants as event
 use Rattle.mb_model.specs.declared.reply.Reply.{Reply}
 use Rattle.mb_model.specs.declared.reply.Reply.TheVariants as reply
 use Rattle.mb_model.specs.declared.state.State.{State}
-use Rattle.mb_model.specs.Acknowledged.{HoldsNoOther, HasToBeClean, power_is_on, device_was_tampered, nothing_was_left, AreWiping}
+use Rattle.mb_model.specs.Spared.{SparesSectors}
+use Rattle.mb_model.specs.Acknowledged.{LeavesMemory, LeavesCleanMemory, HoldsNoOther, HasToBeClean, power_is_on, device_was_tampered, nothing_was_left, AreWiping}
 use Rattle.mb_model.specs.Board.{Memory, Held, AreBytes, memory_after}
 use Rattle.mb_model.specs.Clean.{Clean}
-use Rattle.mb_model.specs.Machine.{World, Step, may_be_cut}
+use Rattle.mb_model.specs.Machine.{World, Step, machine_step, lacks_memory, loses_power, may_be_cut, may_have_written}
 use Rattle.mb_model.specs.Meaning.{HasMeaning, is_dead, is_live, StandsFor}
-use Rattle.mb_model_memory.specs.Answering.{may_have_written}
 use Rattle.mb_model_lemmas.proofs.LineLemmas.{cons_same}
 use Rattle.mb_model_lemmas.proofs.MeaningLemmas.{one_meaning}
 use Rattle.mb_model_lemmas.proofs.RefusalLemmas.{written_is_on, tampered_is_dead}
 use Rattle.mb_model_lemmas.proofs.Splits.{two_splits}
+use Rattle.mb_device_orders.proofs.Spared.{same_flash_spared}
 use Rattle.mb_device.specs.declared.device.Device.{Device}
 use Rattle.mb_device.specs.Sound.{Steps}
 
@@ -63,10 +64,38 @@ written_or_stopped (reply.Status serial number size one two three) wrote unstopp
 written_or_stopped (reply.Refused refusal) wrote unstopped = wrote
 written_or_stopped reply.NoMemory wrote unstopped = wrote
 
--- what was handed out are bytes, and they stay where nothing was written
+-- what was handed out are bytes; they stay where nothing was written, and so do the sectors that no event changes
 pub record IsFramed (held : Held) (e : Event) (answer : Reply) (stepped : Held) : Type 0 where
   pub bytes : AreBytes (memory_after (Some e) held.memory)
   pub untold : may_have_written answer ≡ false → stepped.memory ≡ memory_after (Some e) held.memory
+  pub spared : SparesSectors (memory_after (Some e) held.memory) stepped.memory
+  pub quiet : e ≡ event.Boot → (state : State) → Clean held.memory.bbram (Some state) → stepped.memory ≡ held.memory
+
+tampered_told : (world : World) (answer : Reply) (next : World) → Step world event.Tamper answer next → answer ≡ reply.Tampered
+tampered_told world answer next (machine_step x) = x.0
+tampered_told world answer next (lacks_memory p) = absurd (grind (arith, p.wanted))
+tampered_told world answer next (loses_power p) =
+    let clash : IsTrue (may_be_cut reply.Tampered) = subst (λ (r : Reply). IsTrue (may_be_cut r)) p.machine.0 p.writes in
+    absurd (grind (arith, clash))
+
+-- handing out an event leaves the flash, so what is spared after it is spared in all
+pub spared_in_all : (world : World) (e : Event) (answer : Reply) (device : Device) (held stepped : Held) (done : Steps world e answer device stepped) → IsFramed held e answer stepped
+    → SparesSectors held.memory stepped.memory
+spared_in_all world e answer device held stepped done framed = by (zeroed_or_left e)
+  where
+    by : (e ≡ event.Tamper) ⊎ ((memory : Memory) → memory_after (Some e) memory ≡ memory) → SparesSectors held.memory stepped.memory
+    by (inr same) = subst (λ (m : Memory). SparesSectors m stepped.memory) (same held.memory) framed.spared
+    by (inl is) =
+        let told : answer ≡ reply.Tampered = tampered_told world answer done.next (subst (λ (x : Event). Step world x answer done.next) is done.step) in
+        let zeroed : stepped.memory ≡ memory_after (Some event.Tamper) held.memory = framed.untold (ap may_have_written told) ∙ ap (λ (x : Event). memory_after (Some x) held.memory) is in
+        same_flash_spared held.memory stepped.memory (ap (λ (m : Memory). m.flash) zeroed)
+
+-- an answer that tells of no change leaves the memory
+pub left_as_it_was : (held : Held) (one : Answered) (stepped : Held) → IsFramed held one.event one.reply stepped → LeavesMemory one → stepped.memory ≡ held.memory
+left_as_it_was held one stepped framed leaves = elim (zeroed_or_left one.event) [
+  | inl is ↦ absurd (leaves.untampered is)
+  | inr same ↦ framed.untold leaves.untold ∙ same held.memory
+]
 
 tampered_clean : (world : World) (e : Event) (answer : Reply) (device : Device) (stepped : Held) (done : Steps world e answer device stepped) → e ≡ event.Tamper
     → Clean stepped.memory.bbram done.next.state
@@ -99,6 +128,11 @@ clean_after world e answer device held stepped done framed (nothing_was_left cle
     by false quiet (inr same) =
         let stays : stepped.memory ≡ held.memory = framed.untold quiet ∙ same held.memory in
         left_clean held stepped done.next.state clean stays (subst AreBytes (same held.memory ∙ sym stays) framed.bytes) done.sound.shown.stands
+
+-- and so does a boot, where the memory was clean
+pub quiet_as_it_was : (held : Held) (one : Answered) (stepped : Held) (state : State) → IsFramed held one.event one.reply stepped → Clean held.memory.bbram (Some state) → LeavesCleanMemory one → stepped.memory ≡ held.memory
+quiet_as_it_was held one stepped state framed clean (inl leaves) = left_as_it_was held one stepped framed leaves
+quiet_as_it_was held one stepped state framed clean (inr boot) = framed.quiet boot state clean
 
 -- ---- several events
 

@@ -7,3 +7,4 @@ pub mod Ordered
 pub mod Told
 pub mod Cleans
 pub mod Serves
+pub mod Stops

@@ -1,14 +1,16 @@
 -- What holds while events are served.
-use Rattle.std.proofs.Common.{◌≡◌, List, [], ◌∷◌, ◌++◌, length, map, None, Some, inl, inr, refl, sym, ◌∙◌, ap, subst, append_assoc, length-append, arith}
+use Rattle.std.proofs.Common.{◌≡◌, ℕ, List, [], ◌∷◌, ◌++◌, length, map, None, Some, inl, inr, refl, sym, ◌∙◌, ap, subst, append_assoc, length-append, arith}
 use Rattle.std.specs.Prelude.{All}
 use Rattle.std.proofs.lemmas.List.{map-append, append-nil}
-use Rattle.std.proofs.lemmas.List.Elements.{All-head, All-tail}
+use Rattle.std.proofs.lemmas.List.Elements.{All-head, All-tail, All-pop}
 use Rattle.mb_model.specs.declared.event.Event.{Event}
 use Rattle.mb_model.specs.declared.event.Answered.{Answered}
 use Rattle.mb_model.specs.declared.reply.Reply.{Reply}
-use Rattle.mb_model.specs.Acknowledged.{Shows, HasToBeClean, power_is_on, device_was_tampered, nothing_was_left, AreWiping, MayAnswer}
-use Rattle.mb_model.specs.Board.{Held, Ledger, AreBytes}
+use Rattle.mb_model.specs.Acknowledged.{Shows, HasToBeClean, power_is_on, device_was_tampered, nothing_was_left, AreWiping, LeavesMemory, LeavesCleanMemory, MayAnswer}
+use Rattle.mb_model.specs.declared.state.State.{State}
+use Rattle.mb_model.specs.Board.{Memory, Held, Ledger, Used, AreBytes, image_of, memory_after, use_of, having_answered}
 use Rattle.mb_model.specs.Clean.{Clean}
+use Rattle.mb_model.specs.Spared.{SparesSectors}
 use Rattle.mb_model.specs.Machine.{World, Step, Run, may_be_cut}
 use Rattle.mb_model.specs.Script.{IsScriptEvent}
 use Rattle.mb_model_lemmas.proofs.RefusalLemmas.{written_is_on}
@@ -16,7 +18,7 @@ use Rattle.mb_model_lemmas.proofs.ValidStates.{kept_rightly}
 use Rattle.mb_device.specs.declared.device.Device.{Device}
 use Rattle.mb_device.specs.Sound.{IsSoundDevice, HasSound, taken, CanStep, Steps}
 use Rattle.mb_device.specs.Served.{IsServedFrom}
-use Rattle.mb_device.proofs.Cleans.{IsFramed, clean_after, WipesLast, at_boot, at_tamper, before, wiping_last}
+use Rattle.mb_device.proofs.Cleans.{IsFramed, clean_after, spared_in_all, left_as_it_was, quiet_as_it_was, WipesLast, at_boot, at_tamper, before, wiping_last}
 
 -- a run so far, from a world to that which the board holds
 pub record IsRunSo (world : World) (start : Ledger) (device : Device) (ledger : Ledger) (held : Held) : Type 0 where
@@ -27,11 +29,14 @@ pub record IsRunSo (world : World) (start : Ledger) (device : Device) (ledger : 
   pub run : Run world more last
   pub sound : IsSoundDevice device held last
   pub wiped : AreWiping more → Clean held.memory.bbram last.state
+  pub untouched : All LeavesMemory more → held.memory ≡ start.standing.memory
+  pub quiet : (state : State) → Clean start.standing.memory.bbram (Some state) → All LeavesCleanMemory more → held.memory ≡ start.standing.memory
 
 -- between two events
 pub record Serves (start : Ledger) (first : Device) (at_first : Held) (device : Device) (ledger : Ledger) (held : Held) : Type 0 where
   pub none_out : ledger.out ≡ None
   pub standing : ledger.standing ≡ held
+  pub used : use_of ledger ≡ having_answered ledger.answered (use_of start)
   pub script : All IsScriptEvent ledger.waiting
   pub some : HasSound device held
   pub runs : (world : World) → IsSoundDevice first at_first world → IsRunSo world start device ledger held
@@ -40,6 +45,7 @@ pub serves_first : (start : Ledger) (first : Device) (held : Held) → start.out
 serves_first start first held none standing script some = record {
   none_out = none;
   standing = standing;
+  used = refl;
   script = script;
   some = some;
   runs = λ world sound. record {
@@ -50,6 +56,8 @@ serves_first start first held none standing script some = record {
     run = refl;
     sound = sound;
     wiped = λ wiping. absurd (omega (arith, ap length wiping.split, length-append wiping.sooner (wiping.wiping ∷ wiping.later)));
+    untouched = λ none. sym (ap (λ (h : Held). h.memory) standing);
+    quiet = λ state clean none. sym (ap (λ (h : Held). h.memory) standing);
   };
 }
 
@@ -85,6 +93,10 @@ may_answer start first at_first device next ledger out kept held stepped e rest 
       clean = λ has_to_be.
           clean_after has.world e reply next held stepped done framed (subst (λ (h : Held). HasToBeClean h stepped e reply) stood has_to_be);
       kept = kept_rightly done.next.state done.sound.valid;
+      untouched = λ quiet. framed.untold quiet ∙ ap (λ (h : Held). memory_after (Some e) h.memory) (sym stood);
+      quiet = λ boot state clean.
+          framed.quiet boot state (subst (λ (h : Held). Clean h.memory.bbram (Some state)) stood clean) ∙ ap (λ (h : Held). h.memory) (sym stood);
+      spared = subst (λ (h : Held). SparesSectors h.memory stepped.memory) (sym stood) (spared_in_all has.world e reply next held stepped done framed);
     }
 
 -- after an event the memory has to be clean, where the answers leave it clean
@@ -96,13 +108,21 @@ still_clean world e reply next held stepped done more sound wiped (at_tamper tam
 still_clean world e reply next held stepped done more sound wiped (before wiping unstopped) =
     nothing_was_left (record { world = world; shown = sound.shown; clean = wiped wiping }) unstopped
 
+-- an answer is no load
+used_so : (ledger out kept after : Ledger) (standing : Held) (stops : ℕ) (e : Event) (rest : List Event) (one : Answered) → out ≡ record ledger { waiting = rest; out = Some e } → kept ≡ out
+    → after ≡ record kept { out = None; answered = kept.answered ++ one ∷ []; standing = standing; stops = stops } → use_of after ≡ having_answered after.answered (use_of ledger)
+used_so ledger out kept after standing stops e rest one is_out is_kept is_answered =
+    ap (λ (l : Ledger). use_of l) is_answered
+    ∙ ap (λ (l : Ledger). let u : Used = record { loads = l.loads; image = image_of l.loaded; answered = kept.answered ++ one ∷ [] } in u) (is_kept ∙ is_out)
+    ∙ ap (λ (a : List Answered). having_answered a (use_of ledger)) (sym (ap (λ (l : Ledger). l.answered) is_answered))
+
 -- an event is taken, stepped and answered
-pub serves_more : (start : Ledger) (first : Device) (at_first : Held) (device next : Device) (ledger out kept after : Ledger) (held stepped now : Held) (e : Event) (rest : List Event) (reply : Reply)
+pub serves_more : (start : Ledger) (first : Device) (at_first : Held) (device next : Device) (ledger out kept after : Ledger) (held stepped now : Held) (stops : ℕ) (e : Event) (rest : List Event) (reply : Reply)
     → Serves start first at_first device ledger held → ledger.waiting ≡ e ∷ rest → out ≡ record ledger { waiting = rest; out = Some e } → kept ≡ out
     → ((world : World) → IsSoundDevice device held world → Steps world e reply next stepped) → IsFramed held e reply stepped
-    → after ≡ record kept { out = None; answered = kept.answered ++ record { event = e; reply = reply } ∷ []; standing = stepped } → now ≡ stepped
+    → after ≡ record kept { out = None; answered = kept.answered ++ record { event = e; reply = reply } ∷ []; standing = stepped; stops = stops } → now ≡ stepped
     → Serves start first at_first next after now
-serves_more start first at_first device next ledger out kept after held stepped now e rest reply inv waits is_out is_kept steps framed is_answered is_now =
+serves_more start first at_first device next ledger out kept after held stepped now stops e rest reply inv waits is_out is_kept steps framed is_answered is_now =
     let one : Answered = record { event = e; reply = reply } in
     let answered_is : after.answered ≡ ledger.answered ++ one ∷ [] = ap (λ (l : Ledger). l.answered) is_answered ∙ ap (λ (l : Ledger). l.answered ++ one ∷ []) (is_kept ∙ is_out) in
     let waiting_is : after.waiting ≡ rest = ap (λ (l : Ledger). l.waiting) is_answered ∙ ap (λ (l : Ledger). l.waiting) (is_kept ∙ is_out) in
@@ -110,6 +130,7 @@ serves_more start first at_first device next ledger out kept after held stepped 
     record {
       none_out = ap (λ (l : Ledger). l.out) is_answered;
       standing = ap (λ (l : Ledger). l.standing) is_answered ∙ sym is_now;
+      used = used_so ledger out kept after stepped stops e rest one is_out is_kept is_answered ∙ ap (λ (u : Used). having_answered after.answered u) inv.used;
       script = subst (All IsScriptEvent) (sym waiting_is) (All-tail IsScriptEvent e rest (subst (All IsScriptEvent) waits inv.script));
       some = (let done = steps inv.some.world inv.some.sound in record { world = done.next; sound = sound_now done.next done.sound });
       runs = λ world sound. (
@@ -130,8 +151,22 @@ serves_more start first at_first device next ledger out kept after held stepped 
             wiped = λ wiping.
                 subst (λ (h : Held). Clean h.memory.bbram done.next.state) (sym is_now)
                 (clean_after so.last e reply next held stepped done framed (still_clean so.last e reply next held stepped done so.more so.sound so.wiped (wiping_last so.more one wiping)));
+            untouched = λ all. (
+                let parts = All-pop LeavesMemory (so.more ++ one ∷ []) so.more (Some one) refl all in
+                ap (λ (h : Held). h.memory) is_now ∙ left_as_it_was held one stepped framed parts.1 ∙ so.untouched parts.0);
+            quiet = λ state clean all. (
+                let parts = All-pop LeavesCleanMemory (so.more ++ one ∷ []) so.more (Some one) refl all in
+                let before = so.quiet state clean parts.0 in
+                let still : Clean held.memory.bbram (Some state) = subst (λ (m : Memory). Clean m.bbram (Some state)) (sym before) clean in
+                ap (λ (h : Held). h.memory) is_now ∙ quiet_as_it_was held one stepped state framed still parts.1 ∙ before);
           });
     }
+
+-- once nothing waits any more, there was still no load
+pub used_in_all : (start : Ledger) (first : Device) (at_first : Held) (device : Device) (ledger after : Ledger) (held : Held) → Serves start first at_first device ledger held → after ≡ ledger
+    → use_of after ≡ having_answered after.answered (use_of start)
+used_in_all start first at_first device ledger after held inv is_after =
+    ap (λ (l : Ledger). use_of l) is_after ∙ inv.used ∙ ap (λ (a : List Answered). having_answered a (use_of start)) (sym (ap (λ (l : Ledger). l.answered) is_after))
 
 -- nothing waits any more
 pub served : (start : Ledger) (first : Device) (at_first : Held) (device : Device) (ledger after : Ledger) (held now : Held) (world : World) → Serves start first at_first device ledger held
@@ -148,6 +183,8 @@ served start first at_first device ledger after held now world inv sound bytes n
       shown = subst (λ (h : Held). Shows h so.last) (sym is_now) so.sound.shown;
       valid = so.sound.valid;
       bytes = bytes;
+      untouched = λ all. ap (λ (h : Held). h.memory) is_now ∙ so.untouched all;
+      quiet = λ state clean all. ap (λ (h : Held). h.memory) is_now ∙ so.quiet state clean all;
       clean = λ has_to_be.
           subst (λ (h : Held). Clean h.memory.bbram so.last.state) (sym is_now)
           (elim (has_to_be) [

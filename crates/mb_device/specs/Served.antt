@@ -1,7 +1,8 @@
 -- The result of serving the events of a board. Is each event answered, once and in order, by one step of the machine?
-use Rattle.std.specs.Prelude.{◌≡◌, ◌≢◌, ◌⊎◌, ◌++◌, List, [], map}
+use Rattle.std.specs.Prelude.{◌≡◌, ◌≢◌, ◌⊎◌, ◌++◌, List, [], map, All, Some}
 use Rattle.mb_model.specs.declared.event.Answered.{Answered}
-use Rattle.mb_model.specs.Acknowledged.{Shows, AreWiping}
+use Rattle.mb_model.specs.declared.state.State.{State}
+use Rattle.mb_model.specs.Acknowledged.{Shows, AreWiping, LeavesMemory, LeavesCleanMemory}
 use Rattle.mb_model.specs.Board.{Held, Ledger, AreBytes}
 use Rattle.mb_model.specs.Clean.{Clean}
 use Rattle.mb_model.specs.Machine.{World, Run, off}
@@ -19,6 +20,11 @@ pub record IsServedFrom (world : World) (before after : Ledger) (held : Held) : 
   pub shown : Shows held last
   pub valid : Valid last.state
   pub bytes : AreBytes held.memory
+  -- if no answer tells of a change, and no event is a tamper, the memory is as before
+  pub untouched : All LeavesMemory more → held.memory ≡ before.standing.memory
+  -- the same with boots, if the memory was clean
+  pub quiet : (state : State) → Clean before.standing.memory.bbram (Some state) → All LeavesCleanMemory more
+      → held.memory ≡ before.standing.memory
   -- the memory holds no secrets but those of the state: while power is on, and while it is off if no power loss has
   -- stopped the device since it last booted or was tampered with
   pub clean : (held.phase ≢ off) ⊎ AreWiping more → Clean held.memory.bbram last.state

@@ -6,7 +6,7 @@ use Rattle.mb_model.specs.declared.reply.Reply.{Reply}
 use Rattle.mb_model.specs.declared.reply.Reply.TheVariants as reply
 use Rattle.mb_model.specs.Layers.{layer_standing}
 use Rattle.mb_model.specs.Board.{Memory, Meter}
-use Rattle.mb_model_memory.specs.Answering.{may_have_written}
+use Rattle.mb_model.specs.Machine.{may_have_written}
 use Rattle.mb_device_orders.specs.declared.remembering.Known.{Known}
 use Rattle.mb_device.specs.declared.device.Device.{Device}
 use Rattle.mb_device.specs.declared.device.Device.TheVariants as device

@@ -15,3 +15,4 @@ mod status;
 mod step;
 
 pub use device::{Device, Running};
+pub use step::STEP_HASHES;

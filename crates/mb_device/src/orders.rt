@@ -4,7 +4,7 @@ ghost use Rattle.std.specs.Prelude.{◌≡◌, ◌+◌, ◌≤◌, ◌*◌};
 ghost use Rattle.mb_model.specs.declared.event.Event.TheVariants as event;
 ghost use Rattle.mb_model.specs.Board.{AreBytes};
 ghost use Rattle.mb_board.specs.Calls.{held_in, KeepsEvents};
-ghost use Rattle.mb_model_memory.specs.FlashInForce.{SparesSectors};
+ghost use Rattle.mb_model.specs.Spared.{SparesSectors};
 ghost use Rattle.mb_device.specs.Sound.{HasSound, StepsFrom};
 ghost use Rattle.mb_device.specs.Stepping.{stop_told, IfNothingTold};
 ghost use Rattle.mb_lms.specs.declared.hash_count.TheConstants.{SIGNING_HASHES, TREE_HASHES};

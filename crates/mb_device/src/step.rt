@@ -1,23 +1,27 @@
 //! How a device answers the events of its board.
 
-ghost use Rattle.std.specs.Prelude.{◌≡◌, ◌+◌, ◌≤◌, All, ◌*◌};
-ghost use Rattle.mb_model.specs.Board.{AreBytes, Held, IsLoaded};
+ghost use Rattle.std.specs.Prelude.{◌≡◌, ◌+◌, ◌*◌, ◌≤◌, [], All, length};
+ghost use Rattle.mb_model.specs.declared.limits.TheConstants.{WRITE_LIMIT};
+ghost use Rattle.mb_model.specs.Board.{AreBytes, Held, IsLoaded, use_of, having_answered};
 ghost use Rattle.mb_model.specs.Machine.{World};
 ghost use Rattle.mb_model.specs.Script.{IsScriptEvent};
 ghost use Rattle.mb_board.specs.Calls.{held_in, KeepsEvents, IsBetweenEvents};
-ghost use Rattle.mb_model_memory.specs.FlashInForce.{SparesSectors};
+ghost use Rattle.mb_model.specs.Spared.{SparesSectors};
 ghost use Rattle.mb_boot.specs.Booting.{IsQuiet};
 ghost use Rattle.mb_device.specs.Sound.{IsSoundDevice, HasSound, taken, CanStep, Steps};
 ghost use Rattle.mb_device.specs.Stepping.{stop_told, IfNothingTold, IfBoot};
 ghost use Rattle.mb_device.specs.Served.{IsServedFrom};
-ghost use Rattle.mb_lms.specs.declared.hash_count.TheConstants.{SIGNING_HASHES, TREE_HASHES};
+ghost use Rattle.mb_device.specs.declared.step.TheConstants.{STEP_HASHES};
 
 use crate::device::Device;
 use mb_board::Board;
-use mb_lms::HashCount;
+use mb_lms::{HashCount, SIGNING_HASHES, TREE_HASHES};
 use mb_model::{Event, Reply};
 use std::alloc::Global;
 use std::sync::ledger::Ledger;
+
+/// The most hashes that answering one event takes: two trees, and two signatures each by a tree of its own.
+pub const STEP_HASHES: u64 = 2 * TREE_HASHES + 2 * SIGNING_HASHES;
 
 impl Device {
     /// Answers an event that the board has handed out. Together with the handing out, the answer is one step of the
@@ -45,8 +49,8 @@ impl Device {
             (IsQuiet (B.seen b.old).memory (B.seen b.new).memory (B.seen b.old).meter
             (B.seen b.new).meter) }
         ensures spared { SparesSectors (B.seen b.old).memory (B.seen b.new).memory }
-        ensures events { KeepsEvents 35 (stop_told result.1) (B.seen b.old) (B.seen b.new) }
-        ensures cost { hashes.new ≤ hashes.old + 2 * TREE_HASHES + 2 * SIGNING_HASHES }
+        ensures events { KeepsEvents WRITE_LIMIT (stop_told result.1) (B.seen b.old) (B.seen b.new) }
+        ensures cost { hashes.new ≤ hashes.old + STEP_HASHES }
     {
         match event {
             Event::Boot => self.boot(alloc, b, hashes),
@@ -67,7 +71,7 @@ impl Device {
     }
 
     /// Answers all waiting events in order, each by one step of the machine from the world that the board held at the
-    /// previous answer.
+    /// previous answer. There are at most 139,744 hashes for each event.
     pub fn serve<B: Board, L: Ledger>(
         self,
         alloc: Global,
@@ -81,6 +85,10 @@ impl Device {
             → IsServedFrom world (B.seen b.old).ledger (B.seen b.new).ledger
             (held_in (B.seen b.new)) }
         ensures between { IsBetweenEvents (B.seen b.new) }
+        ensures used { use_of (B.seen b.new).ledger
+            ≡ having_answered (B.seen b.new).ledger.answered (use_of (B.seen b.old).ledger) }
+        ensures none_waits { (B.seen b.new).ledger.waiting ≡ [] }
+        ensures cost { hashes.new ≤ hashes.old + STEP_HASHES * length (B.seen b.old).ledger.waiting }
         ensures loaded { IsLoaded (B.seen b.new).memory }
     {
         let mut device = self;

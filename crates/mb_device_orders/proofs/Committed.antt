@@ -18,7 +18,8 @@ use Rattle.mb_model.specs.StoredLog.{AreCounted}
 use Rattle.mb_model_lemmas.proofs.HeldSegments.{begins_with}
 use Rattle.mb_model_lemmas.proofs.ValidSteps.{obeyed_valid}
 use Rattle.mb_model_memory.specs.Commits.{committed, at_rest, new_entries}
-use Rattle.mb_model_memory.specs.FlashInForce.{slot_in, AgreeForArea, SparesSectors}
+use Rattle.mb_model.specs.Spared.{SparesSectors}
+use Rattle.mb_model_memory.specs.FlashInForce.{slot_in, AgreeForArea}
 use Rattle.mb_model_memory.specs.Holding.{Holds, Means, KeepsContents, KeepsMeaning, IsReady}
 use Rattle.mb_model_memory.specs.NextHeaders.{code_brought, IsCodeWritten, header_after}
 use Rattle.mb_model_memory.proofs.CommitLemmas.{commit_counted, commit_stands, committed_area_is}

@@ -3,7 +3,7 @@ use Rattle.std.proofs.Common.{◌≡◌, List, ℕ, ap}
 use Rattle.mb_model.specs.Board.{Memory}
 use Rattle.mb_model.specs.Flash.{sector}
 use Rattle.mb_model.specs.Sectors.{log_sector}
-use Rattle.mb_model_memory.specs.FlashInForce.{SparesSectors}
+use Rattle.mb_model.specs.Spared.{SparesSectors}
 
 pub same_flash_spared : (before after : Memory) → after.flash ≡ before.flash → SparesSectors before after
 same_flash_spared before after same = record {

@@ -5,7 +5,7 @@ ghost use Rattle.mb_model.specs.declared.order.Order.{Order};
 ghost use Rattle.mb_model.specs.declared.state.State.{State};
 ghost use Rattle.mb_model.specs.OrderEffects.{state_after_order};
 ghost use Rattle.mb_board.specs.Calls.{IsUp, Ran};
-ghost use Rattle.mb_model_memory.specs.FlashInForce.{SparesSectors};
+ghost use Rattle.mb_model.specs.Spared.{SparesSectors};
 ghost use Rattle.mb_model_memory.specs.Holding.{Means, IsReady};
 ghost use Rattle.mb_device_orders.specs.Planning.{IsCommit, HasCommit};
 ghost use Rattle.mb_lms.specs.declared.hash_count.TheConstants.{SIGNING_HASHES};

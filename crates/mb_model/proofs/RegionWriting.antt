@@ -1,6 +1,5 @@
 -- What is written for a region stands for it, and fits an area.
 use Rattle.std.proofs.Common.{◌≡◌, ℕ, ◌≤◌, inl, inr, List, [], ◌∷◌, length, refl, ap, ◌∙◌, arith, lit≤}
-use Rattle.mb_format.specs.Format.{Spells}
 use Rattle.mb_model.specs.declared.region.Region.{Region}
 use Rattle.mb_model.specs.declared.region.RegionKey.{RegionKey}
 use Rattle.mb_model.specs.declared.region.Secret.{Secret}

@@ -1,15 +1,17 @@
 -- When a board takes an answer. Is what a device acknowledges already stored, and nothing beyond it?
-use Rattle.std.specs.Prelude.{◌≡◌, ◌≢◌, ◌⊎◌, List, ◌∷◌, ◌++◌, All}
+use Rattle.std.specs.Prelude.{◌≡◌, ◌≢◌, ◌⊎◌, List, ◌∷◌, ◌++◌, All, Some, false}
 use Rattle.mb_model.specs.declared.event.Answered.{Answered}
 use Rattle.mb_model.specs.declared.event.Event.{Event}
-use Rattle.mb_model.specs.declared.event.Event.TheVariants.{Tamper}
+use Rattle.mb_model.specs.declared.event.Event.TheVariants.{Boot, Tamper}
 use Rattle.mb_model.specs.declared.reply.Reply.{Reply}
 use Rattle.mb_model.specs.declared.reply.Reply.TheVariants.{Booted, Stopped}
-use Rattle.mb_model.specs.Board.{Held}
+use Rattle.mb_model.specs.declared.state.State.{State}
+use Rattle.mb_model.specs.Board.{Held, memory_after}
 use Rattle.mb_model.specs.Clean.{Clean}
-use Rattle.mb_model.specs.Machine.{World, Step, off}
+use Rattle.mb_model.specs.Machine.{World, Step, off, may_have_written}
 use Rattle.mb_model.specs.Meaning.{StandsFor}
 use Rattle.mb_model.specs.Regions.{KeptRightly}
+use Rattle.mb_model.specs.Spared.{SparesSectors}
 use Rattle.mb_model.specs.Valid.{Valid}
 
 -- what a board holds shows this world: the state that its memory means, its phase, and whether a power loss is armed
@@ -45,11 +47,24 @@ pub record AreWiping (answered : List Answered) : Type 0 where
   pub wipes : (wiping.reply ≡ Booted) ⊎ (wiping.event ≡ Tamper)
   pub unstopped : All (λ each. each.reply ≢ Stopped) later
 
+-- ---- what stays
+
+-- The answer tells of no change, and the event is no tamper: the memory is left as it was.
+pub record LeavesMemory (each : Answered) : Type 0 where
+  pub untold : may_have_written each.reply ≡ false
+  pub untampered : each.event ≢ Tamper
+
+-- The answer leaves a memory that is clean as it was: it tells of no change, or the event is a boot.
+abbrev pub LeavesCleanMemory : Answered → Type 0
+LeavesCleanMemory each = LeavesMemory each ⊎ (each.event ≡ Boot)
+
 -- ---- an answer
 
 -- A board that held `standing` at the answer before, and holds `now`, may answer the event with this reply: one step
 -- leads from the world before to the world now, whose state a device can have; each secret and key of that state was
--- kept rightly; and battery-backed memory is clean if it has to be.
+-- kept rightly; and battery-backed memory is clean if it has to be. If the reply tells of no change, nothing was written
+-- beyond what handing out the event does, and nothing at a boot of a clean memory. The sectors that hold a signed entry
+-- of the log keep their bytes, and so do those that hold nothing.
 pub record MayAnswer (standing now : Held) (event : Event) (reply : Reply) : Type 0 where
   pub before : World
   pub after : World
@@ -59,3 +74,7 @@ pub record MayAnswer (standing now : Held) (event : Event) (reply : Reply) : Typ
   pub valid : Valid after.state
   pub clean : HasToBeClean standing now event reply → Clean now.memory.bbram after.state
   pub kept : KeptRightly after.state
+  pub untouched : may_have_written reply ≡ false → now.memory ≡ memory_after (Some event) standing.memory
+  pub quiet : event ≡ Boot → (state : State) → Clean standing.memory.bbram (Some state)
+      → now.memory ≡ standing.memory
+  pub spared : SparesSectors standing.memory now.memory

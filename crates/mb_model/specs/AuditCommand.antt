@@ -69,4 +69,4 @@ audit_device names state = read (root_input names.root) (audit_under names state
 
 -- reads the device's image, the maker's public key and the chain, and audits the chain
 unfoldable pub audit : AuditNames → Command
-audit names = read (image_input names.image) (audit_device names)
+audit names = read (image_input names.image) (λ image. audit_device names image.state)

@@ -1,11 +1,13 @@
 -- What a board is for those who use it: its memory, its power, the events that it hands out and takes back answered,
 -- and what it counts.
 use Rattle.std.specs.Prelude.{ℕ, zero, suc, ◌+◌, List, [], ◌++◌, length, take, drop, replicate, Bool, true, false}
-use Rattle.std.specs.Prelude.{Option, None, Some}
+use Rattle.std.specs.Prelude.{Option, None, Some, nat_lt, if◌then◌else◌}
 use Rattle.mb_format.specs.Format.{IsBytes}
 use Rattle.mb_model.specs.declared.event.Event.{Event}
 use Rattle.mb_model.specs.declared.event.Event.TheVariants as event
 use Rattle.mb_model.specs.declared.event.Answered.{Answered}
+use Rattle.mb_model.specs.declared.reply.Reply.{Reply}
+use Rattle.mb_model.specs.declared.reply.Reply.TheVariants as reply
 use Rattle.mb_model.specs.Memory.{AreSized}
 use Rattle.mb_model.specs.Machine.{Phase, off, dead, ratchet}
 
@@ -48,13 +50,17 @@ pub record Held : Type 0 where
   pub phase : Phase
   pub armed : Bool
 
--- the events that wait, the one that is out, and those answered; and what the board held at the last answer, or at the
--- load if nothing has been answered since
+-- The events that wait, the one that is out, and those answered. What the board held at the last answer, and how many
+-- calls power losses had stopped by then; or both at the load, if nothing has been answered since. The memory that was
+-- loaded last, and how many loads there were, counted up to 1,000.
 pub record Ledger : Type 0 where
   pub waiting : List Event
   pub out : Option Event
   pub answered : List Answered
   pub standing : Held
+  pub stops : ℕ
+  pub loaded : Memory
+  pub loads : ℕ
 
 -- whether a power loss is armed; how many calls power losses have stopped; how many write calls were made since the
 -- last event was taken, counted up to 1,000
@@ -67,9 +73,55 @@ pub record Meter : Type 0 where
 abbrev pub held_at_load : Memory → Held
 held_at_load memory = record { memory = memory; phase = off; armed = false }
 
--- the ledger of a board when this memory has just been loaded, with these events waiting
-abbrev pub ledger_at_load : Memory → List Event → Ledger
-ledger_at_load memory events = record { waiting = events; out = None; answered = []; standing = held_at_load memory }
+-- one more load; the count saturates at 1,000
+abbrev pub counted_load : ℕ → ℕ
+counted_load loads = if nat_lt loads 1000 then loads + 1 else loads
+
+-- The ledger of a board when this memory has just been loaded, by a load of this number, with these events waiting.
+-- Power losses have stopped so many calls by then.
+abbrev pub ledger_at_load : ℕ → ℕ → Memory → List Event → Ledger
+ledger_at_load loads stops memory events = record {
+  waiting = events;
+  out = None;
+  answered = [];
+  standing = held_at_load memory;
+  stops = stops;
+  loaded = memory;
+  loads = loads;
+}
+
+-- ---- an answer and what was counted
+
+-- how many calls power losses have stopped by an answer: one more if the answer is `stopped`, and else as many as by the
+-- answer before
+abbrev pub stops_by_answer : Reply → ℕ → ℕ
+stops_by_answer reply.Stopped stops = stops + 1
+stops_by_answer other stops = stops
+
+-- ---- how a board was used
+
+-- How a board was used: how many times it was loaded, the image of the last load, and the events answered since.
+pub record Used : Type 0 where
+  pub loads : ℕ
+  pub image : List ℕ
+  pub answered : List Answered
+
+-- a board that was never loaded
+abbrev pub not_used : Used
+not_used = record { loads = 0; image = []; answered = [] }
+
+-- how a board with this ledger was used
+abbrev pub use_of : Ledger → Used
+use_of ledger =
+    record { loads = ledger.loads; image = image_of ledger.loaded; answered = ledger.answered }
+
+-- one more load, of this image
+abbrev pub loaded_once_more : List ℕ → Used → Used
+loaded_once_more image used = record { loads = counted_load used.loads; image = image; answered = [] }
+
+-- these events have been answered since the last load
+abbrev pub having_answered : List Answered → Used → Used
+having_answered answered used = record used { answered = answered }
 
 -- ---- what handing out an event does
 

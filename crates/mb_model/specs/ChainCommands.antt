@@ -54,7 +54,7 @@ chain_of names None = refuse (codes "zeroised")
 chain_of names (Some state) = find (IsChainOf state) (write_entries names.out)
 
 unfoldable pub chain : ChainNames → Command
-chain names = read (image_input names.image) (chain_of names)
+chain names = read (image_input names.image) (λ image. chain_of names image.state)
 
 -- ---- attach
 

@@ -1,5 +1,5 @@
 -- What any command does. What has been read, written and printed when it ends, in which order, and with which status?
-use Rattle.std.specs.Prelude.{◌≡◌, ◌≢◌, ℕ, ◌≤◌, ◌⊎◌, Bool, true, false, List, [], ◌++◌, length, codes, Option, Some}
+use Rattle.std.specs.Prelude.{◌≡◌, ◌≢◌, ℕ, ◌≤◌, ◌⊎◌, Bool, true, false, List, ◌++◌, length, codes, Option, Some}
 use Rattle.std.specs.Fmt.{decimal}
 use Rattle.mb_format.specs.Format.{IsBytes}
 use Rattle.mb_model.specs.declared.event.Answered.{Answered}
@@ -11,7 +11,7 @@ use Rattle.mb_model.specs.Texts.{line_with_lf}
 use Rattle.mb_model.specs.declared.limits.TheConstants.{FILE_LIMIT}
 use Rattle.mb_model.specs.Outside.{Outside, HasRisen, HoldsFile, HoldsTooMuch, read_once, FailsToRead}
 use Rattle.mb_model.specs.Outside.{WritesFile, FailsToWrite, Prints, FailsToPrint}
-use Rattle.mb_model.specs.Board.{Held}
+use Rattle.mb_model.specs.Board.{Held, Used, not_used, loaded_once_more, having_answered}
 
 -- ---- words
 
@@ -71,9 +71,11 @@ pub data Command : Type 1 where
   find : {A : Type 0} → (A → Type 0) → (A → Command) → Command
   -- does the first if this holds, and else the second
   either_command : Type 0 → Command → Command → Command
+  -- loads this image on the board
+  load : List ℕ → Command → Command
   -- serves the board's events, so that this holds of what was answered and of what the board held at the last answer
   serve : (List Answered → Held → Type 0) → (List Answered → Held → Command) → Command
-  -- serves events as `serve` does, and then loads the board anew, so that what the board answered before is gone
+  -- serves events as `serve` does, before the board is loaded anew, so that what the board answered is gone then
   rehearse : (List Answered → Held → Type 0) → (List Answered → Held → Command) → Command
   -- writes an output
   write : Output → Command → Command
@@ -86,20 +88,20 @@ pub data Command : Type 1 where
 
 -- ---- how a command ends
 
--- What a command has done so far that its end depends on: which events were answered, and whether a file was written.
+-- What a command has done so far that its end depends on: how it used the board, and whether a file was written.
 pub record Past : Type 0 where
-  pub answered : List Answered
+  pub used : Used
   pub wrote : Bool
 
 abbrev pub at_first : Past
-at_first = record { answered = []; wrote = false }
+at_first = record { used = not_used; wrote = false }
 
--- A command from one of its steps to its end: what is outside before the step and after the end, the events that the
--- board has answered and what it held at the last answer, and the status.
+-- A command from one of its steps to its end: what is outside before the step and after the end, how the board was used
+-- by then and what it held at the last answer, and the status.
 pub record Ended : Type 0 where
   pub before : Outside
   pub after : Outside
-  pub answered : List Answered
+  pub used : Used
   pub final : Held
   pub status : ℕ
 
@@ -111,10 +113,11 @@ end_seen_from mid ending = record ending { before = mid }
 abbrev pub SaysLine : List ℕ → Outside → Outside → Type 0
 SaysLine line before after = Prints (line_with_lf line) before after ⊎ FailsToPrint (line_with_lf line) before after
 
--- The command stops: it prints a line and does nothing else, and no event was answered beyond those of its past.
+-- The command stops: it prints a line and does nothing else, and there was neither a load nor an answer beyond those of
+-- its past.
 pub record Stops (line : List ℕ) (status : ℕ) (past : Past) (ending : Ended) : Type 0 where
   pub says : SaysLine line ending.before ending.after
-  pub answered : ending.answered ≡ past.answered
+  pub used : ending.used ≡ past.used
   pub status_is : ending.status ≡ status
 
 -- Status 6: an allocation failed. Except at `lack`, this can happen only while no file has been written.
@@ -159,7 +162,7 @@ pub record WriteEnds (output : Output) (past : Past) (ending : Ended) : Type 0 w
 -- the command ends with its text
 pub data PrintEnds (text : List ℕ) (past : Past) (ending : Ended) : Type 0 where
   -- status 0: done
-  text_is_printed : Prints text ending.before ending.after → ending.answered ≡ past.answered → ending.status ≡ 0
+  text_is_printed : Prints text ending.before ending.after → ending.used ≡ past.used → ending.status ≡ 0
       → PrintEnds text past ending
   -- status 5: the call that prints the text failed
   text_is_not_printed : (mid : Outside) → FailsToPrint text ending.before mid
@@ -179,14 +182,15 @@ CommandEnds (find {A = A} Is rest) past ending =
     ((value : A) × Is value × CommandEnds (rest value) past ending) ⊎ WantsMemory past ending
 CommandEnds (either_command If first second) past ending =
     (If × CommandEnds first past ending) ⊎ ((If → ⊥) × CommandEnds second past ending) ⊎ WantsMemory past ending
+CommandEnds (load image rest) past ending =
+    CommandEnds rest (record past { used = loaded_once_more image past.used }) ending ⊎ WantsMemory past ending
 CommandEnds (serve IsServed rest) past ending =
-    (IsServed ending.answered ending.final
-    × CommandEnds (rest ending.answered ending.final) (record past { answered = ending.answered }) ending)
-    ⊎ WantsMemory past ending
+    (ending.used ≡ having_answered ending.used.answered past.used)
+    × IsServed ending.used.answered ending.final
+    × CommandEnds (rest ending.used.answered ending.final) (record past { used = ending.used }) ending
 CommandEnds (rehearse IsRehearsed rest) past ending =
-    ((answered : List Answered) × (held : Held) × IsRehearsed answered held
-    × CommandEnds (rest answered held) (record past { answered = answered }) ending)
-    ⊎ WantsMemory past ending
+    (answered : List Answered) × (held : Held) × IsRehearsed answered held
+    × CommandEnds (rest answered held) (record past { used = having_answered answered past.used }) ending
 CommandEnds (write output rest) past ending =
     WriteEnds output past ending
     ⊎ ((mid : Outside) × WritesFile output.name output.bytes ending.before mid
@@ -212,6 +216,7 @@ HasInputsFor (read {A = A} input rest) files =
 HasInputsFor (find {A = A} Is rest) files = (value : A) → Is value → HasInputsFor (rest value) files
 HasInputsFor (either_command If first second) files =
     (If → HasInputsFor first files) × ((If → ⊥) → HasInputsFor second files)
+HasInputsFor (load image rest) files = HasInputsFor rest files
 HasInputsFor (serve IsServed rest) files =
     (answered : List Answered) (final : Held) → IsServed answered final → HasInputsFor (rest answered final) files
 HasInputsFor (rehearse IsRehearsed rest) files =
@@ -232,6 +237,7 @@ ComesToRefusal (read {A = A} input rest) files =
 ComesToRefusal (find {A = A} Is rest) files = (value : A) × Is value × ComesToRefusal (rest value) files
 ComesToRefusal (either_command If first second) files =
     (If × ComesToRefusal first files) ⊎ ((If → ⊥) × ComesToRefusal second files)
+ComesToRefusal (load image rest) files = ComesToRefusal rest files
 ComesToRefusal (serve IsServed rest) files =
     (answered : List Answered) × (final : Held) × IsServed answered final × ComesToRefusal (rest answered final) files
 ComesToRefusal (rehearse IsRehearsed rest) files =

@@ -16,7 +16,8 @@ use Rattle.mb_model.specs.Lines.{ReadsLines, text_of}
 use Rattle.mb_model.specs.Script.{IsScript, Drawn}
 use Rattle.mb_model.specs.Listing.{summary}
 use Rattle.mb_model.specs.Workload.{IsWorkload}
-use Rattle.mb_model.specs.Commands.{Command, find, either_command, serve, write, print, lack}
+use Rattle.mb_model.specs.Commands.{Command, find, either_command, load, serve, write, print, lack}
+use Rattle.mb_model.specs.Inputs.{Image}
 use Rattle.mb_model.specs.RunCommand.{IsServed}
 
 -- the number of the workload, how many rounds it has, and the names of its files
@@ -60,13 +61,18 @@ summarise answered final =
     either_command (Any (λ each. each.reply ≡ reply.NoMemory) answered) lack
     (find (ShowsLog final) (λ entries. print (text_of (summary answered entries (sha256 (image_of final.memory))))))
 
--- writes the three files, and then serves the events
+-- the image of a workload, with its state
+abbrev pub prepared_image : Prepared → Image
+prepared_image made = record { bytes = made.files.image; state = made.state }
+
+-- loads the image, writes the three files, and then serves the events
 abbrev pub serve_workload : GenerateNames → Prepared → Command
 serve_workload names made =
-    write (record { role = role.Image; name = names.image; bytes = made.files.image })
+    load made.files.image
+    (write (record { role = role.Image; name = names.image; bytes = made.files.image })
     (write (record { role = role.Script; name = names.script; bytes = made.files.script })
     (write (record { role = role.Noise; name = names.noise; bytes = made.files.noise })
-    (serve (IsServed made.state made.events) summarise)))
+    (serve (IsServed (prepared_image made) made.events) summarise))))
 
 unfoldable pub generate : GenerateNames → Command
 generate names = find (IsPrepared names.number names.rounds) (serve_workload names)

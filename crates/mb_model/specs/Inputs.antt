@@ -109,12 +109,17 @@ fault_place bad_region_two = fault.Region 2
 fault_place bad_region_three = fault.Region 3
 fault_place bad_state = fault.State
 
--- the image of a device; its bytes mean the device's state
-abbrev pub image_input : List ℕ → Input (Option State)
+-- an image, and the state of a device that its bytes mean
+pub record Image : Type 0 where
+  pub bytes : List ℕ
+  pub state : Option State
+
+-- the image of a device
+abbrev pub image_input : List ℕ → Input Image
 image_input name = record {
   role = role.Image;
   name = name;
-  Is = IsWellFormed;
+  Is = λ bytes image. (image.bytes ≡ bytes) × IsWellFormed bytes image.state;
   FaultyAt = λ bytes place. (faulty : Fault) × (place ≡ fault_place faulty) × HasFault bytes faulty;
 }
 

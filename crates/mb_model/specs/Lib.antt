@@ -51,6 +51,7 @@ pub mod Meaning
 pub mod Faults
 pub mod OldFlash
 pub mod Clean
+pub mod Spared
 pub mod Acknowledged
 pub mod Runs
 pub mod WrittenImage
@@ -66,3 +67,4 @@ pub mod Attach
 pub mod Acceptance
 pub mod Workload
 pub mod SignedOrders
+pub mod NumberLaws

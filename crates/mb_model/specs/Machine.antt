@@ -142,6 +142,11 @@ may_be_cut (reply.Refused refusal) = false
 may_be_cut reply.Stopped = false
 may_be_cut reply.NoMemory = false
 
+-- the answer is one to an event that writes, or says that power failed
+abbrev pub may_have_written : Reply → Bool
+may_have_written reply.Stopped = true
+may_have_written other = may_be_cut other
+
 -- an allocation failed: nothing has changed
 pub record LacksMemory (world : World) (event : Event) (answer : Reply) (next : World) : Type 0 where
   pub answered : answer ≡ reply.NoMemory

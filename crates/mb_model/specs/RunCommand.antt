@@ -1,18 +1,18 @@
 -- What the command `run` does. Do the replies and the new image come from one and the same run?
-use Rattle.std.specs.Prelude.{◌≡◌, ◌≢◌, ◌⊎◌, ℕ, List, map, Option}
+use Rattle.std.specs.Prelude.{◌≡◌, ◌≢◌, ◌⊎◌, ℕ, List, map, All, Some}
 use Rattle.mb_model.specs.declared.event.Event.{Event}
 use Rattle.mb_model.specs.declared.event.Answered.{Answered}
 use Rattle.mb_model.specs.declared.role.Role.TheVariants as role
 use Rattle.mb_model.specs.declared.state.State.{State}
 use Rattle.mb_model.specs.Machine.{World, Run, opening_world, off}
-use Rattle.mb_model.specs.Board.{Held, AreBytes, image_of}
-use Rattle.mb_model.specs.Acknowledged.{Shows, AreWiping}
+use Rattle.mb_model.specs.Board.{Memory, Held, IsLoaded, AreBytes, image_of}
+use Rattle.mb_model.specs.Acknowledged.{Shows, AreWiping, LeavesMemory, LeavesCleanMemory}
 use Rattle.mb_model.specs.Clean.{Clean}
 use Rattle.mb_model.specs.Regions.{KeptRightly}
 use Rattle.mb_model.specs.Runs.{IsSoundRun, StatementsStayAccepted}
 use Rattle.mb_model.specs.Replies.{replies_text}
-use Rattle.mb_model.specs.Inputs.{image_input, script_input, draws_input}
-use Rattle.mb_model.specs.Commands.{Command, read, serve, write, print}
+use Rattle.mb_model.specs.Inputs.{Image, image_input, script_input, draws_input}
+use Rattle.mb_model.specs.Commands.{Command, read, load, serve, write, print}
 
 -- the names of the files
 pub record RunNames : Type 0 where
@@ -20,16 +20,24 @@ pub record RunNames : Type 0 where
   pub script : List ℕ
   pub noise : List ℕ
 
--- The events were answered, all and in order, by a run of the machine from the device's state. What the board held at
--- the last answer shows the world in which that run ended.
+-- an image of a live device, in whose battery-backed memory lie no secrets but those of a state
+pub record IsCleanImage (image : Image) : Type 0 where
+  pub memory : Memory
+  pub sized : IsLoaded memory
+  pub same : image_of memory ≡ image.bytes
+  pub state : State
+  pub clean : Clean memory.bbram (Some state)
+
+-- The events were answered, all and in order, by a run of the machine from the state of the image that was loaded. What
+-- the board held at the last answer shows the world in which that run ended.
 pub record IsServed
-    (first : Option State)
+    (image : Image)
     (events : List Event)
     (answered : List Answered)
     (final : Held) : Type 0 where
   pub all : map (λ each. each.event) answered ≡ events
   pub last : World
-  pub run : Run (opening_world first) answered last
+  pub run : Run (opening_world image.state) answered last
   pub shown : Shows final last
   pub bytes : AreBytes final.memory
   -- No secret lies in battery-backed memory but those of the state, while power is on, and also while it is off if no
@@ -38,8 +46,12 @@ pub record IsServed
   -- since each secret and key of the state came into its region, its layer has admitted each change of itself or
   -- beneath it
   pub kept : KeptRightly last.state
-  pub sound : IsSoundRun (opening_world first) answered last run
-  pub accepted : StatementsStayAccepted (opening_world first) answered last run
+  pub sound : IsSoundRun (opening_world image.state) answered last run
+  pub accepted : StatementsStayAccepted (opening_world image.state) answered last run
+  -- if no answer tells of a change, and no event is a tamper, the memory holds the image that was loaded, byte for byte
+  pub untouched : All LeavesMemory answered → image_of final.memory ≡ image.bytes
+  -- the same with boots among the events, if the image is clean
+  pub quiet : IsCleanImage image → All LeavesCleanMemory answered → image_of final.memory ≡ image.bytes
 
 -- the new image is written over the old one, and then the replies are printed
 abbrev pub write_image : RunNames → List Answered → Held → Command
@@ -47,15 +59,16 @@ write_image names answered final =
     write (record { role = role.Image; name = names.image; bytes = image_of final.memory })
     (print (replies_text answered))
 
-abbrev pub serve_events : RunNames → Option State → List Event → Command
-serve_events names state events = serve (IsServed state events) (write_image names)
+-- the image is loaded, and the events are served
+abbrev pub serve_events : RunNames → Image → List Event → Command
+serve_events names image events = load image.bytes (serve (IsServed image events) (write_image names))
 
-abbrev pub read_noise : RunNames → Option State → List Event → Command
-read_noise names state events = read (draws_input events names.noise) (serve_events names state)
+abbrev pub read_noise : RunNames → Image → List Event → Command
+read_noise names image events = read (draws_input events names.noise) (serve_events names image)
 
-abbrev pub read_script : RunNames → Option State → Command
-read_script names state = read (script_input names.script) (read_noise names state)
+abbrev pub read_script : RunNames → Image → Command
+read_script names image = read (script_input names.script) (read_noise names image)
 
--- image, script and noise are read, and the events are served
+-- image, script and noise are read, the image is loaded, and the events are served
 unfoldable pub run : RunNames → Command
 run names = read (image_input names.image) (read_script names)

@@ -88,3 +88,6 @@ pub const CUT_LIMIT: u32 = 100_000;
 
 /// The longest fill of a torn write, in bytes.
 pub const FILL_LIMIT: u8 = 16;
+
+/// The most write calls of a board from the handing out of an event to its answer.
+pub const WRITE_LIMIT: u16 = 35;

@@ -3,7 +3,8 @@ use Rattle.std.proofs.Common.{◌≡◌, ℕ, zero, suc, ◌≤◌, List, [], �
 use Rattle.std.specs.Prelude.{◌⊎◌, codes, slice_index}
 use Rattle.std.proofs.lemmas.Bool.{false≢true}
 use Rattle.mb_model.specs.Outside.{Outside, count_after_call, read_once, FailsToRead, by_fault, by_absence}
-use Rattle.mb_model.specs.Commands.{Command, read, find, either_command, serve, rehearse, write, print, refuse, lack, Input, Output, Past, Ended, end_seen_from, InputEnds, input_is_too_long, input_is_faulty, input_is_not_read, memory_lacks, PrintEnds, text_is_printed, text_is_not_printed, CommandEnds, HasInputsFor}
+use Rattle.mb_model.specs.Commands.{Command, read, find, either_command, load, serve, rehearse, write, print, refuse, lack, Input, Output, Past, Ended, end_seen_from, InputEnds, input_is_too_long, input_is_faulty, input_is_not_read, memory_lacks, PrintEnds, text_is_printed, text_is_not_printed, CommandEnds, HasInputsFor}
+use Rattle.mb_model.specs.Board.{loaded_once_more, having_answered}
 use Rattle.mb_model.specs.Inputs.{code_input}
 use Rattle.mb_model_lemmas.proofs.Splits.{some_same, none_is_some}
 use Rattle.mb_model.specs.Keygen.{keygen}
@@ -38,10 +39,10 @@ statuses (find {A = A} Is rest) past e least most (inr wants) = omega (arith, mo
 statuses (either_command If first second) past e least most (inl it) = statuses first past e least most it.1
 statuses (either_command If first second) past e least most (inr (inl it)) = statuses second past e least most it.1
 statuses (either_command If first second) past e least most (inr (inr wants)) = omega (arith, most, wants.stops.status_is)
-statuses (serve IsServed rest) past e least most (inl it) = statuses (rest e.answered e.final) (record past { answered = e.answered }) e least most it.1
-statuses (serve IsServed rest) past e least most (inr wants) = omega (arith, most, wants.stops.status_is)
-statuses (rehearse IsRehearsed rest) past e least most (inl it) = statuses (rest it.0 it.1) (record past { answered = it.0 }) e least most it.3
-statuses (rehearse IsRehearsed rest) past e least most (inr wants) = omega (arith, most, wants.stops.status_is)
+statuses (load image rest) past e least most (inl it) = statuses rest (record past { used = loaded_once_more image past.used }) e least most it
+statuses (load image rest) past e least most (inr wants) = omega (arith, most, wants.stops.status_is)
+statuses (serve IsServed rest) past e least most it = statuses (rest e.used.answered e.final) (record past { used = e.used }) e least most it.2
+statuses (rehearse IsRehearsed rest) past e least most it = statuses (rest it.0 it.1) (record past { used = having_answered it.0 past.used }) e least most it.3
 statuses (write output rest) past e least most (inl ends) = omega (arith, most, ends.stops.status_is)
 statuses (write output rest) past e least most (inr (inl it)) = statuses rest (record past { wrote = true }) (end_seen_from it.0 e) least most it.2
 statuses (write output rest) past e least most (inr (inr wants)) = omega (arith, most, wants.stops.status_is)

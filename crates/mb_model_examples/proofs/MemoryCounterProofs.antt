@@ -178,6 +178,9 @@ answers standing now = record {
     | nothing_was_left none unstopped ↦ unstopped refl
   ];
   still_on = λ on may. off_turns_off may.before may.after (may.shown.phase ∙ on) may.step;
+  changed = λ other may. other (may.untouched refl);
+  unspared = λ other may. other (may.spared.unused 50 (inl (omega arith, omega arith)));
+  rewritten = λ state clean other may. other (may.quiet refl state clean);
   unarmed = λ unarmed given may. never_unarmed may.before given (may.stood.armed ∙ unarmed) may.after may.step;
   unclean = λ offset on byte life may.
       not_clean now.memory.bbram offset life byte may.after.state (may.clean (power_is_on (λ is_off. absurd (grind (arith, sym on ∙ is_off)))));

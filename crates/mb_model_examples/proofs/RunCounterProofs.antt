@@ -30,7 +30,8 @@ use Rattle.mb_model.specs.Rules.{IsFirstFailing}
 use Rattle.mb_model.specs.OrderChecks.{view_of, TargetHoldsIn, IsCountersigned}
 use Rattle.mb_model.specs.OrderStep.{spells_none, fails_check, is_obeyed}
 use Rattle.mb_model.specs.Machine.{Phase, World, Told, off, dead, ratchet, boot_event, running_state_in, status_of, status_event, Step, machine_step, lacks_memory, loses_power}
-use Rattle.mb_model.specs.Acknowledged.{AreWiping}
+use Rattle.mb_model.specs.Inputs.{Image}
+use Rattle.mb_model.specs.Acknowledged.{LeavesMemory, LeavesCleanMemory, AreWiping}
 use Rattle.mb_model.specs.Board.{Held}
 use Rattle.mb_model.specs.Runs.{IsSignedAt, HasInCharge}
 use Rattle.mb_model.proofs.OrderFormatLaws.{order_exact}
@@ -153,8 +154,8 @@ boot_and_off = record {
   unstopped = All-cons (λ a. a.reply ≢ reply.Stopped) turned_off [] (λ stopped. absurd (grind (arith, stopped))) (All-nil (λ a. a.reply ≢ reply.Stopped));
 }
 
-pub served : (first : Option State) (final : Held) → ServedCounterExamples first final
-served first final = record {
+pub served : (image : Image) (final : Held) → ServedCounterExamples image final
+served image final = record {
   unanswered = λ served. cons_none event.Boot [] served.all;
   invented = λ served. cons_none event.Off [] (sym served.all);
   swapped = λ served. absurd (grind (arith, (cons_same event.Off event.Boot (event.Boot ∷ []) (event.Off ∷ []) served.all).0));
@@ -162,6 +163,10 @@ served first final = record {
   unclean = λ offset life byte served. not_clean final.memory.bbram offset life byte served.last.state (served.clean (inr one_boot));
   unclean_off = λ offset life byte served. not_clean final.memory.bbram offset life byte served.last.state (served.clean (inr boot_and_off));
   no_byte = λ high events answered served. omega (arith, high, served.bytes.flash 0);
+  changed = λ other served.
+      other (served.untouched (All-cons LeavesMemory turned_off [] (record { untold = refl; untampered = λ is. absurd (grind (arith, is)) }) (All-nil LeavesMemory)));
+  rewritten = λ clean other served.
+      other (served.quiet clean (All-cons LeavesCleanMemory booted [] (inr refl) (All-nil LeavesCleanMemory)));
 }
 
 -- ---- logs

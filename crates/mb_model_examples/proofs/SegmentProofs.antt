@@ -27,7 +27,8 @@ use Rattle.mb_model.proofs.HeaderFormatLaws.{header_exact, log_exact}
 use Rattle.mb_model.specs.WrittenFlash.{CodesFitSlots}
 use Rattle.mb_model_lemmas.specs.SegmentLaws.{SpellsLog}
 use Rattle.mb_model_lemmas.proofs.WrittenLemmas.{written_is_whole}
-use Rattle.mb_model_memory.specs.FlashInForce.{AgreeInSlots, IsUnused}
+use Rattle.mb_model.specs.Spared.{IsUnused}
+use Rattle.mb_model_memory.specs.FlashInForce.{AgreeInSlots}
 use Rattle.mb_model_lemmas.proofs.HeldSegments.{holds_entry}
 use Rattle.mb_model_lemmas.proofs.OneFlash.{one_entry}
 use Rattle.mb_model_examples.specs.RecordValues.{bytes_of, birth, birth_digits, succession}

@@ -17,6 +17,7 @@ use Rattle.mb_model.specs.Meaning.{HasMeaning, StandsFor, IsWellFormed}
 use Rattle.mb_model.specs.Faults.{Fault, bad_length, HasFault}
 use Rattle.mb_model.specs.Clean.{Clean}
 use Rattle.mb_model.specs.GenerateCommand.{ShowsLog}
+use Rattle.mb_model.specs.Flash.{sector}
 use Rattle.mb_model.specs.Acknowledged.{Shows, HoldsNoOther, HasToBeClean, AreWiping, MayAnswer}
 
 -- ---- what a memory holds
@@ -101,6 +102,14 @@ pub record AnswerCounterExamples (standing now : Held) : Type 0 where
       → HasToBeClean standing now given reply.Stopped → ⊥
   -- `off` is answered, and layer 1 still runs
   pub still_on : now.phase ≡ ratchet 1 → MayAnswer standing now event.Off reply.Off → ⊥
+  -- `off` is answered, and the memory is another
+  pub changed : now.memory ≢ standing.memory → MayAnswer standing now event.Off reply.Off → ⊥
+  -- `boot` is answered, and a sector that holds nothing has changed
+  pub unspared : sector now.memory.flash 50 ≢ sector standing.memory.flash 50
+      → MayAnswer standing now event.Boot reply.Booted → ⊥
+  -- a device with a clean memory boots, and the memory is another
+  pub rewritten : (state : State) → Clean standing.memory.bbram (Some state) → now.memory ≢ standing.memory
+      → MayAnswer standing now event.Boot reply.Booted → ⊥
   -- an event stops, and no power loss was armed
   pub unarmed : standing.armed ≡ false → (given : Event) → MayAnswer standing now given reply.Stopped → ⊥
   -- `boot` is answered, and a byte of an old region is left

@@ -25,10 +25,11 @@ use Rattle.mb_model.specs.OrderChecks.{view_of, Passes, Fails}
 use Rattle.mb_model.specs.OrderStep.{OrderStep}
 use Rattle.mb_model.specs.Machine.{World, off, ratchet, LosesPower, Step, Run}
 use Rattle.mb_model.specs.Memory.{life_byte}
-use Rattle.mb_model.specs.Board.{Held}
+use Rattle.mb_model.specs.Board.{Held, image_of}
 use Rattle.mb_model.specs.Runs.{BeginsWith, LogGoesOn, HasInCharge, SignsEntriesOnce, SignsStatementsOnce}
 use Rattle.mb_model.specs.Runs.{SignsAfterUses, HoldsLivingKeys}
-use Rattle.mb_model.specs.RunCommand.{IsServed}
+use Rattle.mb_model.specs.Inputs.{Image}
+use Rattle.mb_model.specs.RunCommand.{IsCleanImage, IsServed}
 use Rattle.mb_model_examples.specs.RuleExamples.{officer, nobody, by_two, three_renewed, life}
 use Rattle.mb_model_examples.specs.Device.{signed_with, token, key_one}
 use Rattle.mb_model_examples.specs.Device.{with_secrets, with_keys, with_regions, after_uses}
@@ -90,22 +91,27 @@ pub record RunCounterExamples (world next : World) : Type 0 where
   pub twice : Run world (booted ∷ booted ∷ []) next → ⊥
 
 -- how events are not served
-pub record ServedCounterExamples (first : Option State) (final : Held) : Type 0 where
+pub record ServedCounterExamples (image : Image) (final : Held) : Type 0 where
   -- an event is left out, one is answered that was not there, two are answered in the wrong order
-  pub unanswered : IsServed first (event.Boot ∷ []) [] final → ⊥
-  pub invented : IsServed first [] (turned_off ∷ []) final → ⊥
-  pub swapped : IsServed first (event.Boot ∷ event.Off ∷ []) (turned_off ∷ booted ∷ []) final → ⊥
+  pub unanswered : IsServed image (event.Boot ∷ []) [] final → ⊥
+  pub invented : IsServed image [] (turned_off ∷ []) final → ⊥
+  pub swapped : IsServed image (event.Boot ∷ event.Off ∷ []) (turned_off ∷ booted ∷ []) final → ⊥
   -- nothing happened, and power is on
-  pub still_on : final.phase ≡ ratchet 1 → IsServed first [] [] final → ⊥
+  pub still_on : final.phase ≡ ratchet 1 → IsServed image [] [] final → ⊥
   -- the device booted, and a byte of an old region is left
   pub unclean : (offset : ℕ) → life_byte final.memory.bbram ≡ 0xA5 → IsLeftOver final.memory.bbram offset
-      → IsServed first (event.Boot ∷ []) (booted ∷ []) final → ⊥
+      → IsServed image (event.Boot ∷ []) (booted ∷ []) final → ⊥
   -- the device booted, power went off, and a byte of an old region is left
   pub unclean_off : (offset : ℕ) → life_byte final.memory.bbram ≡ 0xA5 → IsLeftOver final.memory.bbram offset
-      → IsServed first (event.Boot ∷ event.Off ∷ []) (booted ∷ turned_off ∷ []) final → ⊥
+      → IsServed image (event.Boot ∷ event.Off ∷ []) (booted ∷ turned_off ∷ []) final → ⊥
   -- the flash begins with 300, which is no byte
   pub no_byte : get_or final.memory.flash 0 0 ≡ 300 → (events : List Event) (answered : List Answered)
-      → IsServed first events answered final → ⊥
+      → IsServed image events answered final → ⊥
+  -- power went off, and the memory is not what was loaded
+  pub changed : image_of final.memory ≢ image.bytes → IsServed image (event.Off ∷ []) (turned_off ∷ []) final → ⊥
+  -- a device with a clean image booted, and the memory is not what was loaded
+  pub rewritten : IsCleanImage image → image_of final.memory ≢ image.bytes
+      → IsServed image (event.Boot ∷ []) (booted ∷ []) final → ⊥
 
 -- ---- logs
 

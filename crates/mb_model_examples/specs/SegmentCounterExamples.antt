@@ -14,8 +14,10 @@ use Rattle.mb_model.specs.Flash.{sector, code_slot, HoldsHeader, HoldsCode, Hold
 use Rattle.mb_model.specs.Flash.{HoldsPublic}
 use Rattle.mb_model.specs.WrittenFlash.{written_flash, CodesFitSlots, LogFitsSectors}
 use Rattle.mb_model_lemmas.specs.SegmentLaws.{IsOnlyHeader, HoldsNoEntry, IsSmallHeader, SegmentsFit, SpellsLog}
-use Rattle.mb_model_memory.specs.FlashInForce.{AgreeInSlots, AgreeForArea, KeepsSignedLog, SparesSectors, IsUncounted}
-use Rattle.mb_model_memory.specs.FlashInForce.{IsFreeSlot, IsUnused, DiffersOnlyIn, BeginsWithBytes, IsSectorWritten}
+use Rattle.mb_model.specs.Spared.{KeepsSignedLog, SparesSectors}
+use Rattle.mb_model_memory.specs.FlashInForce.{AgreeInSlots, AgreeForArea, IsUncounted}
+use Rattle.mb_model.specs.Spared.{IsUnused}
+use Rattle.mb_model_memory.specs.FlashInForce.{IsFreeSlot, DiffersOnlyIn, BeginsWithBytes, IsSectorWritten}
 use Rattle.mb_model_memory.specs.NextHeaders.{HasNewCode, IsCodeWritten}
 use Rattle.mb_model_examples.specs.RecordValues.{bytes_of, birth, birth_digits, succession}
 use Rattle.mb_model_examples.specs.RecordExamples.{with_byte}

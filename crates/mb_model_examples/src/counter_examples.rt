@@ -17,6 +17,7 @@ ghost use Rattle.mb_model.specs.declared.state.Codes.{Codes};
 ghost use Rattle.mb_model.specs.declared.stored.Root.{Root};
 ghost use Rattle.mb_model.specs.Board.{Memory};
 ghost use Rattle.mb_model.specs.Outside.{Outside};
+ghost use Rattle.mb_model.specs.Inputs.{Image};
 ghost use Rattle.mb_model.specs.Commands.{Past, Ended};
 ghost use Rattle.mb_model_examples.specs.ChainCounterExamples.{ChainCounterExamples, VerdictCounterExamples, StatementCounterExamples, AuditCounterExamples, ForgedCounterExamples};
 ghost use Rattle.mb_model_examples.specs.CommandCounterExamples.{StatusCounterExamples, CommandCounterExamples, FileCounterExamples, HostCounterExamples};
@@ -59,7 +60,7 @@ pub fn run_counter_examples()
     ensures refusals { (state : State) (order : Order) → RefusalCounterExamples state order }
     ensures steps { (world next : World) → StepCounterExamples world next }
     ensures runs { (world next : World) → RunCounterExamples world next }
-    ensures served { (first : Option State) (final : Held) → ServedCounterExamples first final }
+    ensures served { (image : Image) (final : Held) → ServedCounterExamples image final }
 {}
 
 /// Logs, keys and regions.

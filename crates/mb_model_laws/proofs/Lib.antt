@@ -4,3 +4,4 @@ pub mod ReplyLemmas
 pub mod WorkloadLemmas
 pub mod TrustLemmas
 pub mod SectorLemmas
+pub mod LoadLemmas

@@ -5,3 +5,4 @@ pub mod MeaningLaws
 pub mod SectorLaws
 pub mod ChainLaws
 pub mod TrustLaws
+pub mod LoadLaws

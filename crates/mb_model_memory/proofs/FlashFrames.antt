@@ -16,7 +16,8 @@ use Rattle.mb_model.specs.Flash.{sector, code_slot, HoldsHeader, HoldsCode, Hold
 use Rattle.mb_model.proofs.Places.{length-part}
 use Rattle.mb_model_lemmas.specs.SegmentLaws.{IsSmallHeader}
 use Rattle.mb_model_lemmas.proofs.HeldSegments.{small_held}
-use Rattle.mb_model_memory.specs.FlashInForce.{slot_in, AgreeForArea, DiffersOnlyIn, IsUnused}
+use Rattle.mb_model.specs.Spared.{IsUnused}
+use Rattle.mb_model_memory.specs.FlashInForce.{slot_in, AgreeForArea, DiffersOnlyIn}
 use Rattle.mb_model_memory.specs.FlashLaws.{AgreeingFlashesHoldTheSame, AgreementKeepsTheLog, FlashesAgreeWithThemselves, AgreementGoesOn, AgreementGoesBack, UncountedSectorsAreFree, OtherHeadersAreFree, UnnamedSlotsAreFree}
 
 -- ---- parts apart from what was written

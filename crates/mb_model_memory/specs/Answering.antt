@@ -1,6 +1,6 @@
 -- How an event with a given outcome is answered, and what a power loss leaves of it. Is an answer given only once its
 -- outcome is stored?
-use Rattle.std.specs.Prelude.{◌≡◌, ◌⊎◌, Bool, true, false, Result, Ok, Err, IsTrue}
+use Rattle.std.specs.Prelude.{◌≡◌, ◌⊎◌, false, Result, Ok, Err, IsTrue}
 use Rattle.mb_model.specs.declared.reply.Reply.{Reply}
 use Rattle.mb_model.specs.declared.reply.Reply.TheVariants as reply
 use Rattle.mb_model.specs.declared.state.State.{State}
@@ -25,11 +25,6 @@ pub record IsCutShort (state : State) (outcome : Outcome) (after : Memory) : Typ
 abbrev pub ComesTo : {S E : Type 0} → State → Outcome → Memory → Memory → Result (S × Reply) E → Type 0
 ComesTo state outcome before after (Ok told) = IsAnswered outcome told.1 before after
 ComesTo state outcome before after (Err stop) = IsCutShort state outcome after
-
--- the answer is one to an event that writes, or says that power failed
-abbrev pub may_have_written : Reply → Bool
-may_have_written reply.Stopped = true
-may_have_written other = may_be_cut other
 
 -- if the answer is none of those to events that write, nothing was written
 abbrev pub TellsOfWrites : {S E : Type 0} → Result (S × Reply) E → Memory → Memory → Meter → Meter → Type 0

@@ -1,15 +1,13 @@
--- Which bytes of a flash in segments count for a header area, and which sectors hold nothing. What may be written
--- elsewhere, while codes and entries stay?
+-- Which bytes of a flash in segments count for a header area. What may be written elsewhere, while codes and entries
+-- stay?
 use Rattle.std.specs.Prelude.{◌≡◌, ◌≢◌, ℕ, ◌+◌, ◌*◌, ◌<◌, ◌≤◌, ◌⊎◌, ◌==◌, if◌then◌else◌}
 use Rattle.std.specs.Prelude.{List, length, take, slice_index}
-use Rattle.mb_model.specs.declared.limits.TheConstants.{SECTOR_LENGTH, SECTOR_COUNT}
-use Rattle.mb_model.specs.declared.stored.Root.{Root}
+use Rattle.mb_model.specs.declared.limits.TheConstants.{SECTOR_LENGTH}
 use Rattle.mb_model.specs.declared.stored.Slot.{Slot}
 use Rattle.mb_model.specs.declared.stored.Header.{Header}
-use Rattle.mb_model.specs.Board.{Memory}
-use Rattle.mb_model.specs.Meaning.{RootIn}
 use Rattle.mb_model.specs.Sectors.{header_sector, log_sector}
 use Rattle.mb_model.specs.Flash.{sector, code_slot, HoldsHeader}
+use Rattle.mb_model.specs.Spared.{AgreeInUnused}
 
 -- the slot that a header names for a layer from 1 to 3
 abbrev pub slot_in : Header → ℕ → Slot
@@ -22,14 +20,6 @@ pub record AgreeInSlots (flash other : List ℕ) (header : Header) : Type 0 wher
   pub slots : (layer : ℕ) → 1 ≤ layer → layer ≤ 3 → (slot_in header layer).which ≢ 0
       → code_slot other layer (slot_in header layer).which ≡ code_slot flash layer (slot_in header layer).which
 
--- a sector that holds nothing: it stands between the code slots and the log, or after the log
-abbrev pub IsUnused : ℕ → Type 0
-IsUnused n = ((50 ≤ n) × (n < 64)) ⊎ ((192 ≤ n) × (n < SECTOR_COUNT))
-
--- two flashes have the same bytes in the sectors that hold nothing
-abbrev pub AgreeInUnused : List ℕ → List ℕ → Type 0
-AgreeInUnused flash other = (n : ℕ) → IsUnused n → sector other n ≡ sector flash n
-
 -- Two flashes have the same bytes wherever these count for a header area: in the area itself, in the slots that its
 -- header names, and in the sectors of the log below its count. They also have the same bytes in the sectors that hold
 -- nothing, to which no write goes.
@@ -39,17 +29,6 @@ pub record AgreeForArea (flash other : List ℕ) (area : ℕ) : Type 0 where
   pub log : (header : Header) → HoldsHeader flash area header → (position : ℕ) → position < header.signed
       → sector other (log_sector position) ≡ sector flash (log_sector position)
   pub unused : AgreeInUnused flash other
-
--- The signed log stays: each log sector below the count of the header that the root names holds the same bytes.
-pub record KeepsSignedLog (before after : Memory) : Type 0 where
-  pub kept : (root : Root) (header : Header) → RootIn before.bbram root → HoldsHeader before.flash root.area header
-      → (position : ℕ) → position < header.signed
-      → sector after.flash (log_sector position) ≡ sector before.flash (log_sector position)
-
--- The signed log stays, and so do the sectors that hold nothing.
-pub record SparesSectors (before after : Memory) : Type 0 where
-  pub log : KeepsSignedLog before after
-  pub unused : AgreeInUnused before.flash after.flash
 
 -- ---- what does not count
 

@@ -20,7 +20,8 @@ use Rattle.mb_model.specs.Sectors.{header_sector, code_sector, log_sector}
 use Rattle.mb_model.specs.Flash.{HoldsHeader, HoldsLog, AreBytesOf, HoldsPublic}
 use Rattle.mb_model.specs.StoredLog.{AreCounted}
 use Rattle.mb_model_lemmas.specs.SegmentLaws.{IsOnlyHeader, SpellsLog}
-use Rattle.mb_model_memory.specs.FlashInForce.{slot_in, AgreeForArea, KeepsSignedLog, IsUncounted, IsFreeSlot}
+use Rattle.mb_model.specs.Spared.{KeepsSignedLog}
+use Rattle.mb_model_memory.specs.FlashInForce.{slot_in, AgreeForArea, IsUncounted, IsFreeSlot}
 use Rattle.mb_model_memory.specs.FlashInForce.{DiffersOnlyIn, IsSectorWritten}
 use Rattle.mb_model_memory.specs.NextHeaders.{code_brought, HasNewCode, IsCodeWritten}
 use Rattle.mb_model_memory.specs.NextHeaders.{texts_of_entries, header_after, header_settled}

@@ -3,6 +3,7 @@ use Rattle.std.proofs.Common.{◌≡◌, ◌≢◌, ℕ, List, [], ◌∷◌, co
 use Rattle.std.proofs.lemmas.List.{take-map, take_min}
 use Rattle.std.specs.Prelude.{IfOk}
 use Rattle.mb_format.specs.Format.{IsBytes, Spells}
+use Rattle.mb_model.specs.Board.{not_used}
 use Rattle.mb_model.specs.declared.key.PublicKey.{PublicKey}
 use Rattle.mb_model.specs.declared.entry.Chain.{Chain}
 use Rattle.mb_model.specs.declared.entry.Entry.{Entry}
@@ -45,22 +46,22 @@ pub entries_written : (out : List ℕ) (chain : Chain) (bytes text : List ℕ) (
     → CarriesOut (write_entries out chain) before result now
 unfolding writes write_entries
 entries_written out chain bytes text before now result allowed is_bytes is_text carried = λ final.
-    finds (λ spelled. Spells chain_format spelled chain) _ at_first [] final before now bytes result (record { allowed = allowed; whole = is_bytes })
+    finds (λ spelled. Spells chain_format spelled chain) _ at_first not_used final before now bytes result (record { allowed = allowed; whole = is_bytes })
     ((subst (λ t. CarriesOutAfter (writes (record { role = role.Out; name = out; bytes = bytes } ∷ []) (print t)) before result now) is_text carried) at_first final)
 
 pub entries_lack : (out : List ℕ) (chain : Chain) (before : Outside) → CarriesOut (write_entries out chain) before (Err end.NoMemory) before
 unfolding write_entries
-entries_lack out chain before = λ final. memory_unfound (λ spelled. Spells chain_format spelled chain) _ at_first [] final before refl refl
+entries_lack out chain before = λ final. memory_unfound (λ spelled. Spells chain_format spelled chain) _ at_first not_used final before refl refl
 
 -- ---- the chain of a device
 
 pub log_carried_out : (names : ChainNames) (state : State) (before now : Outside) (result : Result (Unit {0}) End) → IsValidState state
     → CarriesOut (write_entries names.out (bare_chain state.log)) before result now → CarriesOut (chain_of names (Some state)) before result now
 log_carried_out names state before now result valid carried = λ final.
-    finds (IsChainOf state) (write_entries names.out) at_first [] final before now (bare_chain state.log) result (chain_is_of state valid) (carried final)
+    finds (IsChainOf state) (write_entries names.out) at_first not_used final before now (bare_chain state.log) result (chain_is_of state valid) (carried final)
 
 pub dead_has_none : (names : ChainNames) (before : Outside) (why : End) → RefusesWith (codes "zeroised") why → CarriesOut (chain_of names None) before (Err why) before
-dead_has_none names before why refuses = λ final. refuse_here (codes "zeroised") why at_first [] final before refuses refl
+dead_has_none names before why refuses = λ final. refuse_here (codes "zeroised") why at_first not_used final before refuses refl
 
 -- ---- a statement that is attached
 
@@ -73,18 +74,18 @@ pub statement_attached : (names : AttachNames) (chain : Chain) (statement : Stat
     → CarriesOut (write_entries names.out (stated_chain chain.entries statement)) before result now → CarriesOut (attach_statement names chain statement) before result now
 unfolding attach_statement
 statement_attached names chain statement before now result none carried = λ final.
-    goes_second _ _ _ at_first [] final before now result (λ some. some none) (carried final)
+    goes_second _ _ _ at_first not_used final before now result (λ some. some none) (carried final)
 
 pub has_statement : (names : AttachNames) (chain : Chain) (statement : Statement) (before : Outside) (why : End) → chain.statement ≢ None → RefusesWith (codes "has statement") why
     → CarriesOut (attach_statement names chain statement) before (Err why) before
 unfolding attach_statement
 has_statement names chain statement before why some refuses = λ final.
-    goes_first _ _ _ at_first [] final before before _ some (refuse_here (codes "has statement") why at_first [] final before refuses refl)
+    goes_first _ _ _ at_first not_used final before before _ some (refuse_here (codes "has statement") why at_first not_used final before refuses refl)
 
 -- ---- a chain that is judged
 
 reason_told : (reason : ChainRefusal) (why : End) (before : Outside) → RefusesWith (chain_refusal_line reason) why → CarriesOut (refuse (chain_refusal_line reason)) before (Err why) before
-reason_told reason why before refuses = λ final. refuse_here (chain_refusal_line reason) why at_first [] final before refuses refl
+reason_told reason why before refuses = λ final. refuse_here (chain_refusal_line reason) why at_first not_used final before refuses refl
 
 -- what holds of a reason for which a chain may be refused
 abbrev pub IfReason : Option ChainRefusal → (ChainRefusal → Type 0) → Type 0
@@ -99,58 +100,58 @@ report_told n report text before now result is carried = λ final.
     (subst (λ t. CarriesOutAfter (print t) before result now) is carried) at_first final
 
 pub report_lacks : (n : ℕ) (report : Report) (before : Outside) → CarriesOut (tell_verdict n (chain_acceptance report)) before (Err end.NoMemory) before
-report_lacks n report before = λ final. memory_unprinted _ at_first [] final before refl refl
+report_lacks n report before = λ final. memory_unprinted _ at_first not_used final before refl refl
 
 pub chain_accepted : (names : VerifyNames) (maker : PublicKey) (bytes : List ℕ) (report : Report) (before now : Outside) (result : Result (Unit {0}) End) → Accepts maker bytes names.key report
     → CarriesOut (tell_verdict names.key (chain_acceptance report)) before result now → CarriesOut (verify_chain names maker bytes) before result now
 chain_accepted names maker bytes report before now result accepts carried = λ final.
-    finds (IsVerdict maker bytes names.key) (tell_verdict names.key) at_first [] final before now (chain_acceptance report) result accepts (carried final)
+    finds (IsVerdict maker bytes names.key) (tell_verdict names.key) at_first not_used final before now (chain_acceptance report) result accepts (carried final)
 
 pub chain_refused : (names : VerifyNames) (maker : PublicKey) (bytes : List ℕ) (found : Option ChainRefusal) (why : End) (before : Outside) → IfReason found (IsRefused maker bytes names.key)
     → TellsRefusal found why → CarriesOut (verify_chain names maker bytes) before (Err why) before
 chain_refused names maker bytes (Some reason) why before refused tells = λ final.
-    finds (IsVerdict maker bytes names.key) (tell_verdict names.key) at_first [] final before before (chain_rejection reason) _ (refused reason refl) (reason_told reason why before tells final)
+    finds (IsVerdict maker bytes names.key) (tell_verdict names.key) at_first not_used final before before (chain_rejection reason) _ (refused reason refl) (reason_told reason why before tells final)
 chain_refused names maker bytes None why before refused tells =
     subst (λ w. CarriesOut (verify_chain names maker bytes) before (Err w) before) (sym tells) (λ final.
-    memory_unfound (IsVerdict maker bytes names.key) (tell_verdict names.key) at_first [] final before refl refl)
+    memory_unfound (IsVerdict maker bytes names.key) (tell_verdict names.key) at_first not_used final before refl refl)
 
 -- ---- audit
 
 pub dead_not_audited : (names : AuditNames) (maker : PublicKey) (bytes : List ℕ) (before : Outside) (why : End) → RefusesWith (codes "zeroised") why
     → CarriesOut (audit_chain names None maker bytes) before (Err why) before
-dead_not_audited names maker bytes before why refuses = λ final. refuse_here (codes "zeroised") why at_first [] final before refuses refl
+dead_not_audited names maker bytes before why refuses = λ final. refuse_here (codes "zeroised") why at_first not_used final before refuses refl
 
 pub audit_accepted : (names : AuditNames) (state : State) (maker : PublicKey) (bytes : List ℕ) (report : Report) (before now : Outside) (result : Result (Unit {0}) End)
     → IsBytes bytes → IsValidState state → Accepts maker bytes names.key report
     → CarriesOut (compare state names.key (chain_acceptance report)) before result now → CarriesOut (audit_chain names (Some state) maker bytes) before result now
 audit_accepted names state maker bytes report before now result are valid accepts carried = λ final.
-    finds (IsAudited state maker bytes names.key) (compare state names.key) at_first [] final before now (chain_acceptance report) result
+    finds (IsAudited state maker bytes names.key) (compare state names.key) at_first not_used final before now (chain_acceptance report) result
     (audited state maker bytes names.key (chain_acceptance report) are valid accepts) (carried final)
 
 pub audit_refused : (names : AuditNames) (state : State) (maker : PublicKey) (bytes : List ℕ) (found : Option ChainRefusal) (why : End) (before : Outside)
     → IsBytes bytes → IsValidState state → IfReason found (IsRefused maker bytes names.key) → TellsRefusal found why
     → CarriesOut (audit_chain names (Some state) maker bytes) before (Err why) before
 audit_refused names state maker bytes (Some reason) why before are valid refused tells = λ final.
-    finds (IsAudited state maker bytes names.key) (compare state names.key) at_first [] final before before (chain_rejection reason) _
+    finds (IsAudited state maker bytes names.key) (compare state names.key) at_first not_used final before before (chain_rejection reason) _
     (audited state maker bytes names.key (chain_rejection reason) are valid (refused reason refl)) (reason_told reason why before tells final)
 audit_refused names state maker bytes None why before are valid refused tells =
     subst (λ w. CarriesOut (audit_chain names (Some state) maker bytes) before (Err w) before) (sym tells) (λ final.
-    memory_unfound (IsAudited state maker bytes names.key) (compare state names.key) at_first [] final before refl refl)
+    memory_unfound (IsAudited state maker bytes names.key) (compare state names.key) at_first not_used final before refl refl)
 
 -- the chain lists what the device held
 pub lists_agree : (state : State) (n : ℕ) (report : Report) (text : List ℕ) (before now : Outside) (result : Result (Unit {0}) End) → report.lives ≡ own_lives state report.entries n
     → text ≡ line_with_lf (codes "agrees") → CarriesOutAfter (writes [] (print text)) before result now → CarriesOut (compare state n (chain_acceptance report)) before result now
 unfolding writes
 lists_agree state n report text before now result same is carried = λ final.
-    goes_first _ _ _ at_first [] final before now result same ((subst (λ t. CarriesOutAfter (print t) before result now) is carried) at_first final)
+    goes_first _ _ _ at_first not_used final before now result same ((subst (λ t. CarriesOutAfter (print t) before result now) is carried) at_first final)
 
 pub lists_differ : (state : State) (n : ℕ) (report : Report) (before : Outside) (why : End) → report.lives ≢ own_lives state report.entries n → RefusesWith (codes "differs") why
     → CarriesOut (compare state n (chain_acceptance report)) before (Err why) before
 lists_differ state n report before why other refuses = λ final.
-    goes_second _ _ _ at_first [] final before before _ other (refuse_here (codes "differs") why at_first [] final before refuses refl)
+    goes_second _ _ _ at_first not_used final before before _ other (refuse_here (codes "differs") why at_first not_used final before refuses refl)
 
 pub lists_lack : (state : State) (n : ℕ) (report : Report) (before : Outside) → CarriesOut (compare state n (chain_acceptance report)) before (Err end.NoMemory) before
-lists_lack state n report before = λ final. memory_chosen _ _ _ at_first [] final before refl refl
+lists_lack state n report before = λ final. memory_chosen _ _ _ at_first not_used final before refl refl
 
 -- ---- the device's own list
 

@@ -1,5 +1,6 @@
 -- What carries out `factory`.
 use Rattle.std.proofs.Common.{◌≡◌, ℕ, List, [], ◌∷◌, codes, Result, Err, refl, sym, ◌∙◌, ap, subst}
+use Rattle.mb_model.specs.Board.{not_used}
 use Rattle.mb_model.specs.declared.key.PublicKey.{PublicKey}
 use Rattle.mb_model.specs.declared.tools.Keyfile.{Keyfile}
 use Rattle.mb_model.specs.declared.role.Role.TheVariants as role
@@ -38,7 +39,7 @@ device_written names noise before key image file bytes text outside now result i
 pub device_lacks : (names : FactoryNames) (noise : List ℕ) (before : Keyfile) (image : List ℕ) (outside : Outside)
     → CarriesOut (write_device names noise before image) outside (Err end.NoMemory) outside
 unfolding write_device
-device_lacks names noise before image outside = λ final. memory_here _ _ at_first [] final outside refl refl
+device_lacks names noise before image outside = λ final. memory_here _ _ at_first not_used final outside refl refl
 
 -- ---- by the maker's key
 
@@ -47,18 +48,18 @@ key_makes : (names : FactoryNames) (noise : List ℕ) (key : Keyfile) (owner : P
     → CarriesOut (make_device names noise key owner code) outside result now
 unfolding make_device
 key_makes names noise key owner code image outside now result left made carried = λ final.
-    goes_second _ _ _ at_first [] final outside now result left (finds _ (write_device names noise key) at_first [] final outside now image result made (carried final))
+    goes_second _ _ _ at_first not_used final outside now result left (finds _ (write_device names noise key) at_first not_used final outside now image result made (carried final))
 
 key_is_spent : (names : FactoryNames) (noise : List ℕ) (key : Keyfile) (owner : PublicKey) (code : List ℕ) (outside : Outside) (why : End) → key.next ≡ 32 → RefusesWith (codes "spent") why
     → CarriesOut (make_device names noise key owner code) outside (Err why) outside
 unfolding make_device
 key_is_spent names noise key owner code outside why spent refuses = λ final.
-    goes_first _ _ _ at_first [] final outside outside _ spent (refuse_here (codes "spent") why at_first [] final outside refuses refl)
+    goes_first _ _ _ at_first not_used final outside outside _ spent (refuse_here (codes "spent") why at_first not_used final outside refuses refl)
 
 key_lacks : (names : FactoryNames) (noise : List ℕ) (key : Keyfile) (owner : PublicKey) (code : List ℕ) (outside : Outside)
     → CarriesOut (make_device names noise key owner code) outside (Err end.NoMemory) outside
 unfolding make_device
-key_lacks names noise key owner code outside = λ final. memory_chosen _ _ _ at_first [] final outside refl refl
+key_lacks names noise key owner code outside = λ final. memory_chosen _ _ _ at_first not_used final outside refl refl
 
 -- ---- with code that was read
 
@@ -67,15 +68,15 @@ pub device_made : (names : FactoryNames) (noise : List ℕ) (key used : Keyfile)
     → ((old : Keyfile) → used ≡ keyfile_after_use old → CarriesOut (write_device names noise old image) mid result now)
     → CarriesOut (factory_with_owner names noise key owner) before result now
 device_made names noise key used owner code image before mid now result has is_used made left carried = λ final.
-    read_on (code_input names.code) (make_device names noise key owner) at_first [] final before mid now code result has
+    read_on (code_input names.code) (make_device names noise key owner) at_first not_used final before mid now code result has
     (key_makes names noise key owner code image mid now result left made (carried key is_used) final)
 
 -- the device was not made
 pub device_not_made : (names : FactoryNames) (noise : List ℕ) (key : Keyfile) (owner : PublicKey) (code : List ℕ) (before mid : Outside) (cause : SignEnd) (why : End) → HasInput (code_input names.code) before mid code
     → (cause ≡ sign.Spent → key.next ≡ 32) → (cause ≡ sign.NotCountersignable → ⊥) → TellsUnsigned cause why → CarriesOut (factory_with_owner names noise key owner) before (Err why) mid
 device_not_made names noise key owner code before mid sign.Spent why has spent never tells = λ final.
-    read_on (code_input names.code) (make_device names noise key owner) at_first [] final before mid mid code _ has (key_is_spent names noise key owner code mid why (spent refl) tells final)
+    read_on (code_input names.code) (make_device names noise key owner) at_first not_used final before mid mid code _ has (key_is_spent names noise key owner code mid why (spent refl) tells final)
 device_not_made names noise key owner code before mid sign.NotCountersignable why has spent never tells = absurd (never refl)
 device_not_made names noise key owner code before mid sign.NoMemory why has spent never tells = λ final.
-    subst (λ w. CarriesOutRest (factory_with_owner names noise key owner) at_first [] final before (Err w) mid) (sym tells) (
-    read_on (code_input names.code) (make_device names noise key owner) at_first [] final before mid mid code _ has (key_lacks names noise key owner code mid final))
+    subst (λ w. CarriesOutRest (factory_with_owner names noise key owner) at_first not_used final before (Err w) mid) (sym tells) (
+    read_on (code_input names.code) (make_device names noise key owner) at_first not_used final before mid mid code _ has (key_lacks names noise key owner code mid final))

@@ -1,6 +1,7 @@
 -- What carries out `migrate`.
 use Rattle.std.proofs.Common.{◌≡◌, ℕ, List, [], ◌∷◌, Option, None, Some, Result, refl, sym, subst}
 use Rattle.std.specs.Prelude.{IfSome}
+use Rattle.mb_model.specs.Board.{not_used}
 use Rattle.mb_model.specs.declared.role.Role.TheVariants as role
 use Rattle.mb_model.specs.Outside.{Outside, read_once}
 use Rattle.mb_model.specs.Faults.{Fault}
@@ -35,5 +36,5 @@ pub migrated_carried_out : (names : MigrateNames) (image written : List ℕ) (be
     → HasInput (old_image_input names.image) before mid image → CarriesOut (write_migrated_image names written) mid result now → CarriesOut (migrate names) before result now
 unfolding migrate
 migrated_carried_out names image written before mid now result is read carried = λ final.
-    read_on (old_image_input names.image) (write_migrated_image names) at_first [] final before mid now image result read
+    read_on (old_image_input names.image) (write_migrated_image names) at_first not_used final before mid now image result read
     ((subst (λ i. CarriesOut (write_migrated_image names i) mid result now) is carried) final)

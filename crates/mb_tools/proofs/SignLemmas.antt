@@ -1,5 +1,6 @@
 -- What carries out `sign` and `countersign`.
 use Rattle.std.proofs.Common.{◌≡◌, ℕ, List, [], ◌∷◌, codes, Result, Ok, Err, IsErrOf, refl, ◌∙◌, ap, sym, subst}
+use Rattle.mb_model.specs.Board.{not_used}
 use Rattle.mb_model.specs.declared.order.Order.{Order}
 use Rattle.mb_model.specs.declared.tools.Keyfile.{Keyfile}
 use Rattle.mb_model.specs.declared.role.Role.TheVariants as role
@@ -38,38 +39,38 @@ index_used key_name out_name before key order index file line text outside now r
 -- an allocation for the lines failed
 pub index_lacks : (key_name out_name : List ℕ) (before : Keyfile) (order : Order) (outside : Outside) → CarriesOut (use_index key_name out_name before order) outside (Err end.NoMemory) outside
 unfolding use_index
-index_lacks key_name out_name before order outside = λ final. memory_here _ _ at_first [] final outside refl refl
+index_lacks key_name out_name before order outside = λ final. memory_here _ _ at_first not_used final outside refl refl
 
 -- ---- by a key
 
 pub key_signs : (key_name out_name : List ℕ) (key : Keyfile) (order : Order) (outside now : Outside) (result : Result (Unit {0}) End) → (key.next ≡ 32 → ⊥)
     → CarriesOut (use_index key_name out_name key order) outside result now → CarriesOut (sign_by key_name out_name key order) outside result now
 unfolding sign_by
-key_signs key_name out_name key order outside now result left carried = λ final. goes_second _ _ _ at_first [] final outside now result left (carried final)
+key_signs key_name out_name key order outside now result left carried = λ final. goes_second _ _ _ at_first not_used final outside now result left (carried final)
 
 pub key_is_spent : (key_name out_name : List ℕ) (key : Keyfile) (order : Order) (outside : Outside) (why : End) → key.next ≡ 32 → RefusesWith (codes "spent") why
     → CarriesOut (sign_by key_name out_name key order) outside (Err why) outside
 unfolding sign_by
 key_is_spent key_name out_name key order outside why spent refuses = λ final.
-    goes_first _ _ _ at_first [] final outside outside _ spent (refuse_here (codes "spent") why at_first [] final outside refuses refl)
+    goes_first _ _ _ at_first not_used final outside outside _ spent (refuse_here (codes "spent") why at_first not_used final outside refuses refl)
 
 pub key_lacks : (key_name out_name : List ℕ) (key : Keyfile) (order : Order) (outside : Outside) → CarriesOut (sign_by key_name out_name key order) outside (Err end.NoMemory) outside
 unfolding sign_by
-key_lacks key_name out_name key order outside = λ final. memory_chosen _ _ _ at_first [] final outside refl refl
+key_lacks key_name out_name key order outside = λ final. memory_chosen _ _ _ at_first not_used final outside refl refl
 
 -- ---- of an order that can or cannot take a countersignature
 
 pub order_takes : (names : CountersignNames) (key : Keyfile) (order : Order) (outside now : Outside) (result : Result (Unit {0}) End) → ((IsCountersignable order names.layer → ⊥) → ⊥)
     → CarriesOut (sign_by names.key names.out key (countersigned_order key names.layer order)) outside result now → CarriesOut (countersign_by names key order) outside result now
-order_takes names key order outside now result can carried = λ final. goes_second _ _ _ at_first [] final outside now result can (carried final)
+order_takes names key order outside now result can carried = λ final. goes_second _ _ _ at_first not_used final outside now result can (carried final)
 
 pub order_cannot : (names : CountersignNames) (key : Keyfile) (order : Order) (outside : Outside) (why : End) → (IsCountersignable order names.layer → ⊥) → RefusesWith (codes "not countersignable") why
     → CarriesOut (countersign_by names key order) outside (Err why) outside
 order_cannot names key order outside why never refuses = λ final.
-    goes_first _ _ _ at_first [] final outside outside _ never (refuse_here (codes "not countersignable") why at_first [] final outside refuses refl)
+    goes_first _ _ _ at_first not_used final outside outside _ never (refuse_here (codes "not countersignable") why at_first not_used final outside refuses refl)
 
 pub order_lacks : (names : CountersignNames) (key : Keyfile) (order : Order) (outside : Outside) → CarriesOut (countersign_by names key order) outside (Err end.NoMemory) outside
-order_lacks names key order outside = λ final. memory_chosen _ _ _ at_first [] final outside refl refl
+order_lacks names key order outside = λ final. memory_chosen _ _ _ at_first not_used final outside refl refl
 
 -- ---- a key file
 
@@ -84,7 +85,7 @@ pub draft_signed : (names : SignNames) (key used : Keyfile) (drafted signed : Or
     → ((old : Keyfile) → used ≡ keyfile_after_use old → index ≡ old.next → CarriesOut (use_index names.key names.out old signed) mid result now)
     → CarriesOut (sign_draft names key) before result now
 draft_signed names key used drafted signed index before mid now result has is_index is_used is_signed left carried = λ final.
-    read_on (draft_input names.draft) (λ order. sign_by names.key names.out key (signed_order key order)) at_first [] final before mid now drafted result has
+    read_on (draft_input names.draft) (λ order. sign_by names.key names.out key (signed_order key order)) at_first not_used final before mid now drafted result has
     (key_signs names.key names.out key (signed_order key drafted) mid now result left
     (subst (λ o. CarriesOut (use_index names.key names.out key o) mid result now) is_signed (carried key is_used is_index)) final)
 
@@ -94,7 +95,7 @@ pub order_countersigned : (names : CountersignNames) (key used : Keyfile) (found
     → ((old : Keyfile) → used ≡ keyfile_after_use old → index ≡ old.next → CarriesOut (use_index names.key names.out old signed) mid result now)
     → CarriesOut (countersign_order names key) before result now
 order_countersigned names key used found signed index before mid now result has is_index is_used is_signed can left carried = λ final.
-    read_on (order_input names.order) (countersign_by names key) at_first [] final before mid now found result has
+    read_on (order_input names.order) (countersign_by names key) at_first not_used final before mid now found result has
     (order_takes names key found mid now result can
     (key_signs names.key names.out key (countersigned_order key names.layer found) mid now result left
     (subst (λ o. CarriesOut (use_index names.key names.out key o) mid result now) is_signed (carried key is_used is_index))) final)
@@ -103,23 +104,23 @@ order_countersigned names key used found signed index before mid now result has 
 pub draft_not_signed : (names : SignNames) (key : Keyfile) (drafted : Order) (before mid : Outside) (cause : SignEnd) (why : End) → HasInput (draft_input names.draft) before mid drafted
     → (cause ≡ sign.Spent → key.next ≡ 32) → (cause ≡ sign.NotCountersignable → ⊥) → TellsUnsigned cause why → CarriesOut (sign_draft names key) before (Err why) mid
 draft_not_signed names key drafted before mid sign.Spent why has spent never tells = λ final.
-    read_on (draft_input names.draft) (λ order. sign_by names.key names.out key (signed_order key order)) at_first [] final before mid mid drafted _ has
+    read_on (draft_input names.draft) (λ order. sign_by names.key names.out key (signed_order key order)) at_first not_used final before mid mid drafted _ has
     (key_is_spent names.key names.out key (signed_order key drafted) mid why (spent refl) tells final)
 draft_not_signed names key drafted before mid sign.NotCountersignable why has spent never tells = absurd (never refl)
 draft_not_signed names key drafted before mid sign.NoMemory why has spent never tells = λ final.
-    subst (λ w. CarriesOutRest (sign_draft names key) at_first [] final before (Err w) mid) (sym tells) (
-    read_on (draft_input names.draft) (λ order. sign_by names.key names.out key (signed_order key order)) at_first [] final before mid mid drafted _ has
+    subst (λ w. CarriesOutRest (sign_draft names key) at_first not_used final before (Err w) mid) (sym tells) (
+    read_on (draft_input names.draft) (λ order. sign_by names.key names.out key (signed_order key order)) at_first not_used final before mid mid drafted _ has
     (key_lacks names.key names.out key (signed_order key drafted) mid final))
 
 pub order_not_countersigned : (names : CountersignNames) (key : Keyfile) (found : Order) (before mid : Outside) (cause : SignEnd) (why : End) → HasInput (order_input names.order) before mid found
     → (cause ≡ sign.Spent → IsCountersignable found names.layer × (key.next ≡ 32)) → (cause ≡ sign.NotCountersignable → IsCountersignable found names.layer → ⊥)
     → TellsUnsigned cause why → CarriesOut (countersign_order names key) before (Err why) mid
 order_not_countersigned names key found before mid sign.Spent why has spent never tells = λ final.
-    read_on (order_input names.order) (countersign_by names key) at_first [] final before mid mid found _ has
+    read_on (order_input names.order) (countersign_by names key) at_first not_used final before mid mid found _ has
     (order_takes names key found mid mid _ (λ never. never (spent refl).0)
     (key_is_spent names.key names.out key (countersigned_order key names.layer found) mid why (spent refl).1 tells) final)
 order_not_countersigned names key found before mid sign.NotCountersignable why has spent never tells = λ final.
-    read_on (order_input names.order) (countersign_by names key) at_first [] final before mid mid found _ has (order_cannot names key found mid why (never refl) tells final)
+    read_on (order_input names.order) (countersign_by names key) at_first not_used final before mid mid found _ has (order_cannot names key found mid why (never refl) tells final)
 order_not_countersigned names key found before mid sign.NoMemory why has spent never tells = λ final.
-    subst (λ w. CarriesOutRest (countersign_order names key) at_first [] final before (Err w) mid) (sym tells) (
-    read_on (order_input names.order) (countersign_by names key) at_first [] final before mid mid found _ has (order_lacks names key found mid final))
+    subst (λ w. CarriesOutRest (countersign_order names key) at_first not_used final before (Err w) mid) (sym tells) (
+    read_on (order_input names.order) (countersign_by names key) at_first not_used final before mid mid found _ has (order_lacks names key found mid final))

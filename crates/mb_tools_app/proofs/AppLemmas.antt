@@ -1,6 +1,7 @@
 -- What carries out `app`.
 use Rattle.std.proofs.Common.{◌≡◌, ℕ, ◌≤◌, ◌==◌, if◌then◌else◌, length, List, [], codes, Bool, true, false, true≢false, Option, Some, None, Result, Err, refl, sym, ◌∙◌, subst, inr, arith}
 use Rattle.std.specs.Prelude.{IsTrue, IsSome}
+use Rattle.mb_model.specs.Board.{not_used}
 use Rattle.mb_model.specs.declared.key.PublicKey.{PublicKey}
 use Rattle.mb_model.specs.declared.layer.CodeName.{CodeName}
 use Rattle.mb_model.specs.declared.layer.Trusts.{Trusts}
@@ -70,24 +71,24 @@ stored_is_short codes layer code allowed is = by (layer == 2) is
 
 pub dead_runs_nothing : (names : AppNames) (input : List ℕ) (before : Outside) (why : End) → RefusesWith (codes "zeroised") why
     → CarriesOut (run_stored_code names None input) before (Err why) before
-dead_runs_nothing names input before why refuses = λ final. refuse_here (codes "zeroised") why at_first [] final before refuses refl
+dead_runs_nothing names input before why refuses = λ final. refuse_here (codes "zeroised") why at_first not_used final before refuses refl
 
 pub layer_may_not_run : (names : AppNames) (state : State) (input : List ℕ) (before : Outside) (why : End) → (Runnable state.layers names.layer → ⊥)
     → RefusesWith (codes "refused 4 layer") why → CarriesOut (run_stored_code names (Some state) input) before (Err why) before
 layer_may_not_run names state input before why not refuses = λ final.
-    goes_second (Runnable state.layers names.layer) _ _ at_first [] final before before _ not (refuse_here (codes "refused 4 layer") why at_first [] final before refuses refl)
+    goes_second (Runnable state.layers names.layer) _ _ at_first not_used final before before _ not (refuse_here (codes "refused 4 layer") why at_first not_used final before refuses refl)
 
 pub layer_runs : (names : AppNames) (state : State) (input : List ℕ) (ending : AppEnd) (before now : Outside) (result : Result (Unit {0}) End) → Runnable state.layers names.layer
     → RunsStoredCode state names.layer input names.steps ending → CarriesOut (tell_end ending) before result now → CarriesOut (run_stored_code names (Some state) input) before result now
 layer_runs names state input ending before now result runs is carried = λ final.
-    goes_first (Runnable state.layers names.layer) _ _ at_first [] final before now result runs
-    (finds (RunsStoredCode state names.layer input names.steps) tell_end at_first [] final before now ending result is (carried final))
+    goes_first (Runnable state.layers names.layer) _ _ at_first not_used final before now result runs
+    (finds (RunsStoredCode state names.layer input names.steps) tell_end at_first not_used final before now ending result is (carried final))
 
 pub run_lacks : (names : AppNames) (state : State) (input : List ℕ) (before : Outside) → Runnable state.layers names.layer
     → CarriesOut (run_stored_code names (Some state) input) before (Err end.NoMemory) before
 run_lacks names state input before runs = λ final.
-    goes_first (Runnable state.layers names.layer) _ _ at_first [] final before before _ runs
-    (memory_unfound (RunsStoredCode state names.layer input names.steps) tell_end at_first [] final before refl refl)
+    goes_first (Runnable state.layers names.layer) _ _ at_first not_used final before before _ runs
+    (memory_unfound (RunsStoredCode state names.layer input names.steps) tell_end at_first not_used final before refl refl)
 
 -- ---- what is told
 
@@ -98,16 +99,16 @@ line_printed line text before now result is carried = λ final.
     (subst (λ t. CarriesOutAfter (print t) before result now) is carried) at_first final
 
 pub line_lacks : (line : List ℕ) (before : Outside) → CarriesOut (print (line_with_lf line)) before (Err end.NoMemory) before
-line_lacks line before = λ final. memory_unprinted (line_with_lf line) at_first [] final before refl refl
+line_lacks line before = λ final. memory_unprinted (line_with_lf line) at_first not_used final before refl refl
 
 pub line_refused : (line long : List ℕ) (before : Outside) → long ≡ line → CarriesOut (refuse line) before (Err (end.RefusedAtLength long)) before
 line_refused line long before is = λ final.
-    refuse_here line (end.RefusedAtLength long) at_first [] final before (record { line_is = is; status_is = refl }) refl
+    refuse_here line (end.RefusedAtLength long) at_first not_used final before (record { line_is = is; status_is = refl }) refl
 
 pub refusal_lacks : (line : List ℕ) (before : Outside) → CarriesOut (refuse line) before (Err end.NoMemory) before
 unfolding CarriesOutRest CommandEnds
 refusal_lacks line before = λ final after says.
-    inr (record { first = refl; stops = record { says = says; answered = refl; status_is = refl } })
+    inr (record { first = refl; stops = record { says = says; used = refl; status_is = refl } })
 
 pub end_lacks : (ending : AppEnd) (before : Outside) → CarriesOut (tell_end ending) before (Err end.NoMemory) before
 end_lacks (app.Halted steps output) before = line_lacks (app_line (app.Halted steps output)) before

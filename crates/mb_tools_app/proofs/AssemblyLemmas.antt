@@ -4,6 +4,7 @@ use Rattle.std.proofs.lemmas.List.{length-map}
 use Rattle.std.proofs.lemmas.List.Elements.{All-head, All-tail}
 use Rattle.std.proofs.lemmas.List.Concat.{flat_map-cons}
 use Rattle.std.proofs.lemmas.List.Sums.{sum_by-cons, sum_by-append}
+use Rattle.mb_model.specs.Board.{not_used}
 use Rattle.mb_model.specs.declared.role.Role.TheVariants as role
 use Rattle.mb_model.specs.Texts.{line_with_lf}
 use Rattle.mb_model.specs.Lines.{IsLine, text_of}
@@ -32,7 +33,7 @@ counted out bytes word count text before now result is carried = λ final.
     (subst (λ t. CarriesOutAfter (writes (out_of out bytes ∷ []) (print t)) before result now) is carried) at_first final
 
 pub counted_lacks : (out bytes word : List ℕ) (count : ℕ) (before : Outside) → CarriesOut (write_counted out bytes word count) before (Err end.NoMemory) before
-counted_lacks out bytes word count before = λ final. memory_here (out_of out bytes) _ at_first [] final before refl refl
+counted_lacks out bytes word count before = λ final. memory_here (out_of out bytes) _ at_first not_used final before refl refl
 
 -- ---- the lines of a text
 

@@ -58,4 +58,4 @@ app_device names state = read (app_input names.input) (run_stored_code names sta
 
 -- the device's image and the input are read, and the end of the run is reported
 unfoldable pub app : AppNames → Command
-app names = read (image_input names.image) (app_device names)
+app names = read (image_input names.image) (λ image. app_device names image.state)

@@ -8,6 +8,7 @@ use Rattle.mb_model.specs.declared.event.Answered.{Answered}
 use Rattle.mb_model.specs.declared.reply.Reply.TheVariants as reply
 use Rattle.mb_model.specs.declared.state.State.{State}
 use Rattle.mb_model.specs.Board.{Held}
+use Rattle.mb_model.specs.Inputs.{Image}
 use Rattle.mb_model_lemmas.proofs.LineLemmas.{cons_same}
 use Rattle.mb_tools_device.specs.MachineRuns.{MachineComesTo}
 use Rattle.mb_tools_device.specs.CutCommand.{CutRun, IsCutRun, IsUncutScript, LastIsStopped, IsCutServed}
@@ -36,8 +37,8 @@ another_reply before last boot off other is =
 stays : (first second : Option State) → first ≢ second → MachineComesTo first [] second → ⊥
 stays first second apart comes = apart (sym (ap (λ w. w.state) comes.run) ∙ comes.state)
 
-none_served : (state : Option State) (count : ℕ) (run : CutRun) (final : Held) → IsCutServed state count run [] final → ⊥
-none_served state count run final is = omega (arith, ap length is.served.all, length-append run.first (event.Cut count run.tear ∷ run.last ∷ event.Boot ∷ event.Off ∷ []))
+none_served : (image : Image) (count : ℕ) (run : CutRun) (final : Held) → IsCutServed image count run [] final → ⊥
+none_served image count run final is = omega (arith, ap length is.served.all, length-append run.first (event.Cut count run.tear ∷ run.last ∷ event.Boot ∷ event.Off ∷ []))
 
 pub no_such_cuts : CutCounterExamples
 no_such_cuts = record {

@@ -1,10 +1,9 @@
 -- What carries out `cutat`.
 use Rattle.std.proofs.Common.{◌≡◌, ℕ, List, Option, false, Result, Err, refl, sym, subst, ◌∙◌}
 use Rattle.std.specs.Prelude.{codes}
-use Rattle.mb_model.specs.declared.event.Answered.{Answered}
 use Rattle.mb_model.specs.declared.state.State.{State}
 use Rattle.mb_model.specs.Outside.{Outside}
-use Rattle.mb_model.specs.Board.{Held}
+use Rattle.mb_model.specs.Board.{Held, Used}
 use Rattle.mb_model.specs.Commands.{Past, either_command, print, lack}
 use Rattle.mb_model.specs.Meaning.{StandsFor, IsWellFormed}
 use Rattle.mb_model.specs.Texts.{line_with_lf}
@@ -30,46 +29,46 @@ one_state held image left state other formed shows =
 pub shows_it : (held : Held) (image : List ℕ) (left : IsImageLeft held image) (state : Option State) → IsWellFormed image state → ShowsState held state
 shows_it held image left state formed = subst (ShowsState held) (sym (one_state held image left state left.state formed left.shows)) left.shows
 
-pub told_same : (held final : Held) (answered : List Answered) (image last : List ℕ) (one other : Option State) (before now : Outside) (result : Result (Unit {0}) End) → IsImageLeft held image → IsImageLeft final last
+pub told_same : (held final : Held) (used : Used) (image last : List ℕ) (one other : Option State) (before now : Outside) (result : Result (Unit {0}) End) → IsImageLeft held image → IsImageLeft final last
     → IsWellFormed image one → IsWellFormed last other → one ≡ other → CarriesOutAfter (print (line_with_lf (codes "old"))) before result now
-    → CarriesOutRest (tell_state held final) (record { answered = answered; wrote = false }) answered final before result now
-told_same held final answered image last one other before now result left is_last first second same carried =
-    let past : Past = record { answered = answered; wrote = false } in
-    goes_first (ShowSame held final) (print (line_with_lf (codes "old"))) (print (line_with_lf (codes "new"))) past answered final before now result
+    → CarriesOutRest (tell_state held final) (record { used = used; wrote = false }) used final before result now
+told_same held final used image last one other before now result left is_last first second same carried =
+    let past : Past = record { used = used; wrote = false } in
+    goes_first (ShowSame held final) (print (line_with_lf (codes "old"))) (print (line_with_lf (codes "new"))) past used final before now result
     (record { state = other; first = subst (ShowsState held) same (shows_it held image left one first); second = shows_it final last is_last other second })
     (carried past final)
 
-pub told_other : (held final : Held) (answered : List Answered) (image last : List ℕ) (one other : Option State) (before now : Outside) (result : Result (Unit {0}) End) → IsImageLeft held image → IsImageLeft final last
+pub told_other : (held final : Held) (used : Used) (image last : List ℕ) (one other : Option State) (before now : Outside) (result : Result (Unit {0}) End) → IsImageLeft held image → IsImageLeft final last
     → IsWellFormed image one → IsWellFormed last other → (one ≡ other → ⊥) → CarriesOutAfter (print (line_with_lf (codes "new"))) before result now
-    → CarriesOutRest (tell_state held final) (record { answered = answered; wrote = false }) answered final before result now
-told_other held final answered image last one other before now result left is_last first second apart carried =
-    let past : Past = record { answered = answered; wrote = false } in
-    goes_second (ShowSame held final) (print (line_with_lf (codes "old"))) (print (line_with_lf (codes "new"))) past answered final before now result
+    → CarriesOutRest (tell_state held final) (record { used = used; wrote = false }) used final before result now
+told_other held final used image last one other before now result left is_last first second apart carried =
+    let past : Past = record { used = used; wrote = false } in
+    goes_second (ShowSame held final) (print (line_with_lf (codes "old"))) (print (line_with_lf (codes "new"))) past used final before now result
     (λ same. apart (one_state held image left one same.state first same.first ∙ sym (one_state final last is_last other same.state second same.second)))
     (carried past final)
 
 -- ---- what is told
 
-abbrev pub served_past : List Answered → Past
-served_past list = record { answered = list; wrote = false }
+abbrev pub served_past : Used → Past
+served_past used = record { used = used; wrote = false }
 
-pub state_untold : (held final : Held) (list : List Answered) (before : Outside) → CarriesOutRest (tell_state held final) (served_past list) list final before (Err end.NoMemory) before
-state_untold held final list before =
-    memory_chosen (ShowSame held final) (print (line_with_lf (codes "old"))) (print (line_with_lf (codes "new"))) (served_past list) list final before refl refl
+pub state_untold : (held final : Held) (used : Used) (before : Outside) → CarriesOutRest (tell_state held final) (served_past used) used final before (Err end.NoMemory) before
+state_untold held final used before =
+    memory_chosen (ShowSame held final) (print (line_with_lf (codes "old"))) (print (line_with_lf (codes "new"))) (served_past used) used final before refl refl
 
-pub cut_lacks : (held final : Held) (list : List Answered) (before : Outside) → AnyLacksMemory list → CarriesOutRest (tell_cut held list final) (served_past list) list final before (Err end.NoMemory) before
-cut_lacks held final list before lacks =
-    goes_first (AnyLacksMemory list) lack (either_command (LastIsStopped list) (tell_state held final) (print (line_with_lf (codes "unstopped")))) (served_past list) list final before before (Err end.NoMemory) lacks
-    (lack_here (served_past list) list final before refl)
+pub cut_lacks : (held final : Held) (used : Used) (before : Outside) → AnyLacksMemory used.answered → CarriesOutRest (tell_cut held used.answered final) (served_past used) used final before (Err end.NoMemory) before
+cut_lacks held final used before lacks =
+    goes_first (AnyLacksMemory used.answered) lack (either_command (LastIsStopped used.answered) (tell_state held final) (print (line_with_lf (codes "unstopped")))) (served_past used) used final before before (Err end.NoMemory) lacks
+    (lack_here (served_past used) used final before refl)
 
-pub cut_unstopped : (held final : Held) (list : List Answered) (before now : Outside) (result : Result (Unit {0}) End) → (AnyLacksMemory list → ⊥) → (LastIsStopped list → ⊥)
-    → CarriesOutAfter (print (line_with_lf (codes "unstopped"))) before result now → CarriesOutRest (tell_cut held list final) (served_past list) list final before result now
-cut_unstopped held final list before now result whole unstopped carried =
-    goes_second (AnyLacksMemory list) lack (either_command (LastIsStopped list) (tell_state held final) (print (line_with_lf (codes "unstopped")))) (served_past list) list final before now result whole
-    (goes_second (LastIsStopped list) (tell_state held final) (print (line_with_lf (codes "unstopped"))) (served_past list) list final before now result unstopped (carried (served_past list) final))
+pub cut_unstopped : (held final : Held) (used : Used) (before now : Outside) (result : Result (Unit {0}) End) → (AnyLacksMemory used.answered → ⊥) → (LastIsStopped used.answered → ⊥)
+    → CarriesOutAfter (print (line_with_lf (codes "unstopped"))) before result now → CarriesOutRest (tell_cut held used.answered final) (served_past used) used final before result now
+cut_unstopped held final used before now result whole unstopped carried =
+    goes_second (AnyLacksMemory used.answered) lack (either_command (LastIsStopped used.answered) (tell_state held final) (print (line_with_lf (codes "unstopped")))) (served_past used) used final before now result whole
+    (goes_second (LastIsStopped used.answered) (tell_state held final) (print (line_with_lf (codes "unstopped"))) (served_past used) used final before now result unstopped (carried (served_past used) final))
 
-pub cut_stopped : (held final : Held) (list : List Answered) (before now : Outside) (result : Result (Unit {0}) End) → (AnyLacksMemory list → ⊥) → LastIsStopped list
-    → CarriesOutRest (tell_state held final) (served_past list) list final before result now → CarriesOutRest (tell_cut held list final) (served_past list) list final before result now
-cut_stopped held final list before now result whole stopped carried =
-    goes_second (AnyLacksMemory list) lack (either_command (LastIsStopped list) (tell_state held final) (print (line_with_lf (codes "unstopped")))) (served_past list) list final before now result whole
-    (goes_first (LastIsStopped list) (tell_state held final) (print (line_with_lf (codes "unstopped"))) (served_past list) list final before now result stopped carried)
+pub cut_stopped : (held final : Held) (used : Used) (before now : Outside) (result : Result (Unit {0}) End) → (AnyLacksMemory used.answered → ⊥) → LastIsStopped used.answered
+    → CarriesOutRest (tell_state held final) (served_past used) used final before result now → CarriesOutRest (tell_cut held used.answered final) (served_past used) used final before result now
+cut_stopped held final used before now result whole stopped carried =
+    goes_second (AnyLacksMemory used.answered) lack (either_command (LastIsStopped used.answered) (tell_state held final) (print (line_with_lf (codes "unstopped")))) (served_past used) used final before now result whole
+    (goes_first (LastIsStopped used.answered) (tell_state held final) (print (line_with_lf (codes "unstopped"))) (served_past used) used final before now result stopped carried)

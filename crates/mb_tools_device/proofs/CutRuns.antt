@@ -9,6 +9,7 @@ use Rattle.mb_model.specs.declared.event.Answered.{Answered}
 use Rattle.mb_model.specs.declared.state.State.{State}
 use Rattle.mb_model.specs.Board.{Held, IsLoaded, image_of}
 use Rattle.mb_model.specs.Machine.{opening_world}
+use Rattle.mb_model.specs.Inputs.{Image}
 use Rattle.mb_model.specs.RunCommand.{IsServed}
 use Rattle.mb_model.specs.Script.{with_before, drawn_event, drawn_events, Drawn}
 use Rattle.mb_model_lemmas.proofs.DrawLemmas.{drawn-length}
@@ -71,29 +72,29 @@ all_plain (a ∷ rest) (e ∷ events) same uncut found =
     All-cons IsPlain a rest (record { uncut = ap is_cut parts.0 ∙ All-head IsUncut e events uncut; found = All-head IsFound a rest found })
     (all_plain rest events parts.1 (All-tail IsUncut e events uncut) (All-tail IsFound a rest found))
 
-pub is_rehearsed : (state : Option State) (count : ℕ) (cut : CutRun) (list : List Answered) (held : Held) → CanBeCut count cut → IsServed state cut.first list held → IsRehearsed state cut list held
-is_rehearsed state count cut list held can served = record {
+pub is_rehearsed : (image : Image) (count : ℕ) (cut : CutRun) (list : List Answered) (held : Held) → CanBeCut count cut → IsServed image cut.first list held → IsRehearsed image cut list held
+is_rehearsed image count cut list held can served = record {
   served = served;
   whole = λ found.
-      let run = run_is_machine (opening_world state) list served.last refl (all_plain list cut.first served.all can.uncut (all_found list found)) served.run in (
+      let run = run_is_machine (opening_world image.state) list served.last refl (all_plain list cut.first served.all can.uncut (all_found list found)) served.run in (
         served.last.state,
         record { world = served.last; shown = served.shown; is = refl },
-        record { last = served.last; run = subst (λ events. MachineRun (opening_world state) events served.last) served.all run; state = refl },
+        record { last = served.last; run = subst (λ events. MachineRun (opening_world image.state) events served.last) served.all run; state = refl },
       );
 }
 
-pub is_cut_served : (state : Option State) (count : ℕ) (cut : CutRun) (list : List Answered) (final : Held) → CanBeCut count cut → IsServed state (cut_events count cut) list final
-    → IsCutServed state count cut list final
-is_cut_served state count cut list final can served = record {
+pub is_cut_served : (image : Image) (count : ℕ) (cut : CutRun) (list : List Answered) (final : Held) → CanBeCut count cut → IsServed image (cut_events count cut) list final
+    → IsCutServed image count cut list final
+is_cut_served image count cut list final can served = record {
   served = served;
   counts = λ found stopped.
-      let short = cut_short (opening_world state) cut.first count cut.tear cut.last list served.last refl can.uncut can.last served.all (all_found list found) served.run in
+      let short = cut_short (opening_world image.state) cut.first count cut.tear cut.last list served.last refl can.uncut can.last served.all (all_found list found) served.run in
       let same = third_same short.front stopped.before short.that short.boot short.off stopped.last stopped.boot stopped.off (sym short.split ∙ stopped.split) in
       let counted = short.counts (ap (λ (a : Answered). a.reply) same ∙ stopped.stopped) in (
         short.mid.state,
         counted.1.state,
         record { last = short.mid; run = short.run; state = refl },
-        record { last = counted.1; run = one_more (opening_world state) short.mid counted.1 cut.first cut.last counted.0 short.run counted.2; state = refl },
+        record { last = counted.1; run = one_more (opening_world image.state) short.mid counted.1 cut.first cut.last counted.0 short.run counted.2; state = refl },
         elim counted.3 [
           | inl before ↦ inl (record { world = served.last; shown = served.shown; is = before })
           | inr after ↦ inr (record { world = served.last; shown = served.shown; is = after })
@@ -102,8 +103,8 @@ is_cut_served state count cut list final can served = record {
 }
 
 -- the image that a board holds once it has served events
-pub served_left : (state : Option State) (events : List Event) (list : List Answered) (final : Held) (image : List ℕ) → IsServed state events list final → IsLoaded final.memory → image ≡ image_of final.memory → IsImageLeft final image
-served_left state events list final image served loaded is = record {
+pub served_left : (image : Image) (events : List Event) (list : List Answered) (final : Held) (left : List ℕ) → IsServed image events list final → IsLoaded final.memory → left ≡ image_of final.memory → IsImageLeft final left
+served_left image events list final left served loaded is = record {
   state = served.last.state;
   shows = record { world = served.last; shown = served.shown; is = refl };
   bytes = served.bytes;

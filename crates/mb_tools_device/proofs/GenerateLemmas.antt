@@ -1,9 +1,8 @@
 -- What carries out `generate`.
-use Rattle.std.proofs.Common.{◌≡◌, ℕ, ◌*◌, ◌<◌, ◌≤◌, List, length, Some, Result, Err, refl, sym, subst, arith}
+use Rattle.std.proofs.Common.{◌≡◌, ℕ, ◌*◌, ◌<◌, ◌≤◌, List, length, false, Some, Result, Err, refl, sym, ap, subst, ◌∙◌, arith}
 use Rattle.sha2.specs.Sha256.{sha256}
 use Rattle.std.specs.Prelude.{Any}
 use Rattle.mb_model.specs.declared.event.Event.{Event}
-use Rattle.mb_model.specs.declared.event.Answered.{Answered}
 use Rattle.mb_model.specs.declared.reply.Reply.TheVariants as reply
 use Rattle.mb_model.specs.declared.state.State.{State}
 use Rattle.mb_model.specs.declared.tools.Workload.{Workload}
@@ -16,10 +15,10 @@ use Rattle.mb_model.specs.Lines.{ReadsLines, TextFailsAtLine, text_of}
 use Rattle.mb_model.specs.Script.{IsScript, IsShortNoise, commands_in}
 use Rattle.mb_model.specs.Listing.{summary}
 use Rattle.mb_model.specs.Outside.{Outside}
-use Rattle.mb_model.specs.Board.{Held, image_of}
-use Rattle.mb_model.specs.Commands.{Past, serve, print, lack, at_first}
+use Rattle.mb_model.specs.Board.{Held, Used, image_of, not_used, loaded_once_more, having_answered}
+use Rattle.mb_model.specs.Commands.{Command, Past, serve, print, lack, at_first}
 use Rattle.mb_model.specs.RunCommand.{IsServed}
-use Rattle.mb_model.specs.GenerateCommand.{GenerateNames, Prepared, IsPrepared, ShowsLog, summarise, serve_workload, generate}
+use Rattle.mb_model.specs.GenerateCommand.{GenerateNames, Prepared, IsPrepared, ShowsLog, prepared_image, summarise, serve_workload, generate}
 use Rattle.mb_model_lemmas.proofs.EventLemmas.{IsScript-same}
 use Rattle.mb_model_lemmas.proofs.LineLemmas.{HasLines-same, FailsAtLine-none}
 use Rattle.mb_model_lemmas.proofs.FactoryLemmas.{factory_is_well_formed}
@@ -28,7 +27,7 @@ use Rattle.mb_console.specs.declared.end.End.TheVariants as end
 use Rattle.mb_console.specs.Ending.{CarriesOutAfter, CarriesOutRest}
 use Rattle.mb_console.specs.Outputs.{writes, WritesAll, StopsWriting}
 use Rattle.mb_tools_device.specs.Generated.{HasEvents, workload_outputs}
-use Rattle.mb_console.proofs.CommandLemmas.{goes_first, goes_second, finds, serve_goes, memory_unfound, lack_here}
+use Rattle.mb_console.proofs.CommandLemmas.{goes_first, goes_second, finds, load_goes, serve_goes, memory_unfound, lack_here}
 use Rattle.mb_console.proofs.OutputLemmas.{all_written, stops_carried}
 
 -- ---- the script is read, and its noise is enough
@@ -68,51 +67,58 @@ is_prepared number rounds files events made has =
     record { generated = made; image = new_image number rounds files made; undrawn = has.undrawn; script = has.script; noise = has.noise }
 
 -- an allocation fails before its files are written
-pub none_made : (names : GenerateNames) (answered : List Answered) (final : Held) (before : Outside) → answered ≡ at_first.answered
-    → CarriesOutRest (generate names) at_first answered final before (Err end.NoMemory) before
+pub none_made : (names : GenerateNames) (used : Used) (final : Held) (before : Outside) → used ≡ at_first.used
+    → CarriesOutRest (generate names) at_first used final before (Err end.NoMemory) before
 unfolding generate
-none_made names answered final before none =
-    memory_unfound (IsPrepared names.number names.rounds) (serve_workload names) at_first answered final before refl none
+none_made names used final before none =
+    memory_unfound (IsPrepared names.number names.rounds) (serve_workload names) at_first used final before refl none
 
 -- ---- its files are written, and it is served
 
 -- a file is not written
-pub files_not_written : (names : GenerateNames) (files : Workload) (events : List Event) (answered : List Answered) (final : Held) (before now : Outside) (why : End)
-    → IsWorkload names.number names.rounds files → HasEvents files events → answered ≡ at_first.answered
-    → StopsWriting (workload_outputs names files) before why now → CarriesOutRest (generate names) at_first answered final before (Err why) now
+pub files_not_written : (names : GenerateNames) (files : Workload) (events : List Event) (used : Used) (final : Held) (before now : Outside) (why : End)
+    → IsWorkload names.number names.rounds files → HasEvents files events → used ≡ loaded_once_more files.image not_used
+    → StopsWriting (workload_outputs names files) before why now → CarriesOutRest (generate names) at_first used final before (Err why) now
 unfolding generate writes
-files_not_written names files events answered final before now why made has none stops =
+files_not_written names files events used final before now why made has once stops =
     let what = prepared names.number names.rounds files events made in
-    finds (IsPrepared names.number names.rounds) (serve_workload names) at_first answered final before now what (Err why) (is_prepared names.number names.rounds files events made has)
-    (subst (λ (a : List Answered). CarriesOutRest (serve_workload names what) at_first a final before (Err why) now) (sym none)
-    (stops_carried (workload_outputs names files) (serve (IsServed what.state what.events) summarise) before now why stops at_first final))
+    let rest : Command = serve (IsServed (prepared_image what) what.events) summarise in
+    let past : Past = record { used = loaded_once_more files.image not_used; wrote = false } in
+    finds (IsPrepared names.number names.rounds) (serve_workload names) at_first used final before now what (Err why) (is_prepared names.number names.rounds files events made has)
+    (load_goes files.image (writes (workload_outputs names files) rest) at_first used final before now (Err why)
+    (subst (λ (u : Used). CarriesOutRest (writes (workload_outputs names files) rest) past u final before (Err why) now) (sym once)
+    (stops_carried (workload_outputs names files) rest before now why stops past final)))
 
 -- they are
-pub workload_served : (names : GenerateNames) (files : Workload) (events : List Event) (answered : List Answered) (final : Held) (before mid now : Outside) (result : Result (Unit {0}) End)
+pub workload_served : (names : GenerateNames) (files : Workload) (events : List Event) (used : Used) (final : Held) (before mid now : Outside) (result : Result (Unit {0}) End)
     (made : IsWorkload names.number names.rounds files) → HasEvents files events
-    → WritesAll (workload_outputs names files) before mid → IsServed (Some (new_state names.number names.rounds files made)) events answered final
-    → ((past : Past) → past.answered ≡ answered → CarriesOutRest (summarise answered final) past answered final mid result now)
-    → CarriesOutRest (generate names) at_first answered final before result now
+    → WritesAll (workload_outputs names files) before mid → used ≡ having_answered used.answered (loaded_once_more files.image not_used)
+    → IsServed (record { bytes = files.image; state = Some (new_state names.number names.rounds files made) }) events used.answered final
+    → ((past : Past) → past.used ≡ used → CarriesOutRest (summarise used.answered final) past used final mid result now)
+    → CarriesOutRest (generate names) at_first used final before result now
 unfolding generate writes
-workload_served names files events answered final before mid now result made has written served carried =
+workload_served names files events used final before mid now result made has written once served carried =
     let what = prepared names.number names.rounds files events made in
-    finds (IsPrepared names.number names.rounds) (serve_workload names) at_first answered final before now what result (is_prepared names.number names.rounds files events made has)
-    (all_written (workload_outputs names files) (serve (IsServed what.state what.events) summarise) at_first answered final before mid now result written
-    (λ later same. serve_goes (IsServed what.state what.events) summarise later answered final mid now result served (carried (record later { answered = answered }) refl)))
+    let rest : Command = serve (IsServed (prepared_image what) what.events) summarise in
+    let past : Past = record { used = loaded_once_more files.image not_used; wrote = false } in
+    finds (IsPrepared names.number names.rounds) (serve_workload names) at_first used final before now what result (is_prepared names.number names.rounds files events made has)
+    (load_goes files.image (writes (workload_outputs names files) rest) at_first used final before now result
+    (all_written (workload_outputs names files) rest past used final before mid now result written
+    (λ later same. serve_goes (IsServed (prepared_image what) what.events) summarise later used final mid now result (once ∙ ap (λ (u : Used). having_answered used.answered u) (sym same)) served (carried (record later { used = used }) refl))))
 
 -- ---- the summary
 
-pub summary_lacks : (answered : List Answered) (final : Held) (past : Past) (before : Outside) → Any (λ a. a.reply ≡ reply.NoMemory) answered → past.answered ≡ answered
-    → CarriesOutRest (summarise answered final) past answered final before (Err end.NoMemory) before
-summary_lacks answered final past before some same =
-    goes_first _ lack _ past answered final before before (Err end.NoMemory) some (lack_here past answered final before (sym same))
+pub summary_lacks : (used : Used) (final : Held) (past : Past) (before : Outside) → Any (λ a. a.reply ≡ reply.NoMemory) used.answered → past.used ≡ used
+    → CarriesOutRest (summarise used.answered final) past used final before (Err end.NoMemory) before
+summary_lacks used final past before some same =
+    goes_first _ lack _ past used final before before (Err end.NoMemory) some (lack_here past used final before (sym same))
 
-pub summary_told : (answered : List Answered) (final : Held) (entries : ℕ) (text : List ℕ) (past : Past) (before now : Outside) (result : Result (Unit {0}) End)
-    → (Any (λ a. a.reply ≡ reply.NoMemory) answered → ⊥) → ShowsLog final entries → text ≡ text_of (summary answered entries (sha256 (image_of final.memory)))
-    → CarriesOutAfter (print text) before result now → past.answered ≡ answered → CarriesOutRest (summarise answered final) past answered final before result now
-summary_told answered final entries text past before now result none shows is carried same =
-    let told : CarriesOutRest (print text) past answered final before result now =
-    subst (λ (a : List Answered). CarriesOutRest (print text) past a final before result now) same (carried past final) in
-    goes_second _ lack _ past answered final before now result none
-    (finds (ShowsLog final) (λ n. print (text_of (summary answered n (sha256 (image_of final.memory))))) past answered final before now entries result shows
-    (subst (λ (t : List ℕ). CarriesOutRest (print t) past answered final before result now) is told))
+pub summary_told : (used : Used) (final : Held) (entries : ℕ) (text : List ℕ) (past : Past) (before now : Outside) (result : Result (Unit {0}) End)
+    → (Any (λ a. a.reply ≡ reply.NoMemory) used.answered → ⊥) → ShowsLog final entries → text ≡ text_of (summary used.answered entries (sha256 (image_of final.memory)))
+    → CarriesOutAfter (print text) before result now → past.used ≡ used → CarriesOutRest (summarise used.answered final) past used final before result now
+summary_told used final entries text past before now result none shows is carried same =
+    let told : CarriesOutRest (print text) past used final before result now =
+    subst (λ (u : Used). CarriesOutRest (print text) past u final before result now) same (carried past final) in
+    goes_second _ lack _ past used final before now result none
+    (finds (ShowsLog final) (λ n. print (text_of (summary used.answered n (sha256 (image_of final.memory))))) past used final before now entries result shows
+    (subst (λ (t : List ℕ). CarriesOutRest (print t) past used final before result now) is told))

@@ -1,6 +1,6 @@
 -- What carries out `run`.
-use Rattle.std.proofs.Common.{◌≡◌, ℕ, Bool, false, List, [], ◌∷◌, length, map, ◌++◌, Option, Result, sym, ◌∙◌, ap, subst, arith}
-use Rattle.std.specs.Prelude.{All}
+use Rattle.std.proofs.Common.{◌≡◌, ℕ, ◌+◌, ◌≤◌, Bool, true, false, List, [], ◌∷◌, length, map, ◌++◌, Option, Some, Result, refl, sym, ◌∙◌, ap, subst, arith}
+use Rattle.std.specs.Prelude.{All, nat_lt, if◌then◌else◌}
 use Rattle.std.proofs.lemmas.List.Elements.{All-nil, All-cons, All-head, All-tail}
 use Rattle.mb_model.specs.declared.event.Event.{Event}
 use Rattle.mb_model.specs.declared.event.Answered.{Answered}
@@ -10,12 +10,14 @@ use Rattle.mb_model.specs.Outside.{Outside}
 use Rattle.mb_model.specs.Machine.{opening_world, off}
 use Rattle.mb_model.specs.Meaning.{StandsFor, IsWellFormed}
 use Rattle.mb_model.specs.Script.{IsScriptEvent}
-use Rattle.mb_model.specs.Board.{Memory, Ledger, Meter, Held, IsLoaded, image_of, phase_at, held_at_load, ledger_at_load}
+use Rattle.mb_model.specs.Board.{Memory, Ledger, Meter, Held, Used, IsLoaded, image_of, phase_at, held_at_load, ledger_at_load, counted_load, use_of, not_used, loaded_once_more, having_answered}
 use Rattle.mb_model.specs.Acknowledged.{Shows}
+use Rattle.mb_model.specs.Clean.{Clean}
 use Rattle.mb_model.specs.Replies.{replies_text}
 use Rattle.mb_model.specs.RunCommand.{RunNames, IsServed, write_image, serve_events}
-use Rattle.mb_model.specs.Commands.{print, at_first}
-use Rattle.mb_board.specs.Calls.{held_by}
+use Rattle.mb_model.specs.Inputs.{Image}
+use Rattle.mb_model.specs.Commands.{print, serve, at_first}
+use Rattle.mb_board.specs.Calls.{Seen, IsBetweenEvents, held_by}
 use Rattle.mb_device.specs.Served.{IsServedFrom}
 use Rattle.mb_model_lemmas.proofs.FaultLemmas.{image_parts}
 use Rattle.mb_model_lemmas.proofs.LineLemmas.{cons_same}
@@ -25,7 +27,7 @@ use Rattle.mb_model_runs.proofs.StatementLemmas.{statements_stay_accepted}
 use Rattle.mb_console.specs.declared.end.End.{End}
 use Rattle.mb_console.specs.Ending.{CarriesOutAfter, CarriesOutRest}
 use Rattle.mb_console.specs.Outputs.{writes}
-use Rattle.mb_console.proofs.CommandLemmas.{serve_goes}
+use Rattle.mb_console.proofs.CommandLemmas.{load_goes, serve_goes}
 use Rattle.mb_tools.proofs.ImageLemmas.{image_stored}
 
 -- ---- the board after the load
@@ -46,21 +48,37 @@ dark_held : (memory : Memory) (power : Bool) (level : ℕ) (meter : Meter) → p
 dark_held memory power level meter dark none = ap (λ (b : Bool). let h : Held = record { memory = memory; phase = phase_at b level; armed = meter.armed } in h) dark
     ∙ ap (λ (b : Bool). let h : Held = record { memory = memory; phase = off; armed = b } in h) none
 
--- so it holds what it would have held at an answer
-pub loaded_holds : (memory : Memory) (events : List Event) (ledger : Ledger) (power : Bool) (level : ℕ) (meter : Meter) → ledger ≡ ledger_at_load memory events → power ≡ false → meter.armed ≡ false
-    → ledger.standing ≡ held_by memory power level meter
-loaded_holds memory events ledger power level meter is dark none =
-    ap (λ (l : Ledger). l.standing) is ∙ sym (dark_held memory power level meter dark none)
+-- so it holds what it would have held at an answer, and no power loss has stopped a call since
+pub loaded_between : {loads : ℕ} (old board : Seen) (events : List Event) → board.ledger ≡ ledger_at_load loads old.meter.stops board.memory events → board.power ≡ false
+    → board.meter ≡ record old.meter { armed = false; writes = 0 } → IsBetweenEvents board
+loaded_between old board events is dark metered = record {
+  none_out = ap (λ (l : Ledger). l.out) is;
+  standing = ap (λ (l : Ledger). l.standing) is ∙ sym (dark_held board.memory board.power board.level board.meter dark (ap (λ (m : Meter). m.armed) metered));
+  stops = ap (λ (l : Ledger). l.stops) is ∙ sym (ap (λ (m : Meter). m.stops) metered);
+}
 
--- a board whose image could not be loaded holds what it held
-pub unloaded_holds : (memory memory_new : Memory) (ledger ledger_new : Ledger) (power power_new : Bool) (level level_new : ℕ) (meter meter_new : Meter) → memory_new ≡ memory → ledger_new ≡ ledger
-    → meter_new ≡ meter → power ≡ false → power_new ≡ false → ledger.standing ≡ held_by memory power level meter → ledger_new.standing ≡ held_by memory_new power_new level_new meter_new
-unloaded_holds memory memory_new ledger ledger_new power power_new level level_new meter meter_new same_memory same_ledger same_meter dark dark_new holds =
-    let part : Memory → Meter → Held = λ m n. record { memory = m; phase = off; armed = n.armed } in
-    ap (λ (l : Ledger). l.standing) same_ledger ∙ holds
-    ∙ ap (λ (b : Bool). let h : Held = record { memory = memory; phase = phase_at b level; armed = meter.armed } in h) dark
-    ∙ ap (λ (m : Memory). part m meter) (sym same_memory) ∙ ap (λ (n : Meter). part memory_new n) (sym same_meter)
-    ∙ ap (λ (b : Bool). let h : Held = record { memory = memory_new; phase = phase_at b level_new; armed = meter_new.armed } in h) (sym dark_new)
+-- the count of loads is never 0 after a load
+counted_some : (loads : ℕ) → 1 ≤ counted_load loads
+counted_some loads = by (nat_lt loads 1000) refl
+  where
+    by : (less : Bool) → nat_lt loads 1000 ≡ less → 1 ≤ (if less then loads + 1 else loads)
+    by true is = omega arith
+    by false is = grind (arith, is)
+
+pub loaded_once : {stops loads : ℕ} (memory : Memory) (events : List Event) (ledger : Ledger) → ledger ≡ ledger_at_load (counted_load loads) stops memory events → 1 ≤ ledger.loads
+loaded_once {loads = loads} memory events ledger is = subst (λ (n : ℕ). 1 ≤ n) (sym (ap (λ (l : Ledger). l.loads) is)) (counted_some loads)
+
+-- answers leave the count of loads
+pub served_once : (before after : Ledger) → 1 ≤ before.loads → use_of after ≡ having_answered after.answered (use_of before) → 1 ≤ after.loads
+served_once before after once used = subst (λ (n : ℕ). 1 ≤ n) (sym (ap (λ (u : Used). u.loads) used)) once
+
+-- how a board was used that was just loaded
+pub loaded_use : {stops : ℕ} (image : List ℕ) (past : Used) (memory : Memory) (events : List Event) (old ledger : Ledger) → use_of old ≡ past → ledger ≡ ledger_at_load (counted_load old.loads) stops memory events → image_of memory ≡ image
+    → use_of ledger ≡ loaded_once_more image past
+loaded_use image past memory events old ledger was is bytes =
+    ap (λ (l : Ledger). use_of l) is
+    ∙ ap (λ (i : List ℕ). let u : Used = record { loads = counted_load old.loads; image = i; answered = [] } in u) bytes
+    ∙ ap (λ (u : Used). loaded_once_more image u) was
 
 -- ---- the events
 
@@ -75,12 +93,14 @@ all_scripted (this ∷ rest) (event ∷ events) same scripts =
 
 -- The events were served from the world that opens with an image's state, and the board holds what it held at the last
 -- answer.
-pub served_whole : (image : List ℕ) (state : Option State) (events : List Event) (memory : Memory) (before after : Ledger) (held : Held) → IsWellFormed image state → All IsScriptEvent events
-    → before ≡ ledger_at_load memory events → after.standing ≡ held → IsServedFrom (opening_world state) before after held → IsServed state events after.answered after.standing
-served_whole image state events memory before after held formed scripts is standing from =
+pub served_whole : {loads stops : ℕ} (image : List ℕ) (state : Option State) (events : List Event) (memory : Memory) (before after : Ledger) (held : Held) → IsWellFormed image state → All IsScriptEvent events
+    → before ≡ ledger_at_load loads stops memory events → IsLoaded memory → image_of memory ≡ image → after.standing ≡ held → IsServedFrom (opening_world state) before after held
+    → IsServed (record { bytes = image; state = state }) events after.answered after.standing
+served_whole image state events memory before after held formed scripts is sized loaded standing from =
+    let whole : Image = record { bytes = image; state = state } in
     let grown : after.answered ≡ from.more = from.grown ∙ ap (λ l. l.answered ++ from.more) is in
     let all : map (λ a. a.event) from.more ≡ events = from.all ∙ ap (λ l. l.waiting) is in
-    subst (λ a. IsServed state events a after.standing) (sym grown) (subst (λ h. IsServed state events from.more h) (sym standing) (record {
+    subst (λ a. IsServed whole events a after.standing) (sym grown) (subst (λ h. IsServed whole events from.more h) (sym standing) (record {
       all = all;
       last = from.last;
       run = from.run;
@@ -90,23 +110,32 @@ served_whole image state events memory before after held formed scripts is stand
       kept = kept_rightly from.last.state from.valid;
       sound = run_is_sound (opening_world state) from.more from.last from.run formed.valid;
       accepted = statements_stay_accepted (opening_world state) from.more from.last from.run (all_scripted from.more events all scripts) formed.valid (image_stored image state formed);
+      untouched = λ all. ap image_of (from.untouched all ∙ ap (λ (l : Ledger). l.standing.memory) is) ∙ loaded;
+      quiet = λ clean all. (
+          let at : before.standing.memory ≡ memory = ap (λ (l : Ledger). l.standing.memory) is in
+          let parts = image_parts image clean.memory.flash clean.memory.bbram memory.flash memory.bbram (sym clean.same, clean.sized) (sym loaded, sized) in
+          let held : Clean before.standing.memory.bbram (Some clean.state) =
+          subst (λ (m : Memory). Clean m.bbram (Some clean.state)) (sym at) (subst (λ (b : List ℕ). Clean b (Some clean.state)) parts.1 clean.clean) in
+          ap image_of (from.quiet clean.state held all ∙ at) ∙ loaded);
     }))
 
-pub events_served : (names : RunNames) (state : Option State) (events : List Event) (answered : List Answered) (final : Held) (before now : Outside) (result : Result (Unit {0}) End)
-    → IsServed state events answered final → CarriesOutRest (write_image names answered final) (record { answered = answered; wrote = false }) answered final before result now
-    → CarriesOutRest (serve_events names state events) at_first answered final before result now
-events_served names state events answered final before now result served carried =
-    serve_goes (IsServed state events) (write_image names) at_first answered final before now result served carried
+pub events_served : (names : RunNames) (image : Image) (events : List Event) (used : Used) (final : Held) (before now : Outside) (result : Result (Unit {0}) End)
+    → used ≡ having_answered used.answered (loaded_once_more image.bytes not_used) → IsServed image events used.answered final
+    → CarriesOutRest (write_image names used.answered final) (record { used = used; wrote = false }) used final before result now
+    → CarriesOutRest (serve_events names image events) at_first used final before result now
+events_served names image events used final before now result same served carried =
+    load_goes image.bytes (serve (IsServed image events) (write_image names)) at_first used final before now result
+    (serve_goes (IsServed image events) (write_image names) (record at_first { used = loaded_once_more image.bytes not_used }) used final before now result same served carried)
 
 -- ---- the image and the replies
 
 -- they were written
-pub image_written : (names : RunNames) (answered : List Answered) (final : Held) (bytes text : List ℕ) (before now : Outside) (result : Result (Unit {0}) End)
-    → bytes ≡ image_of final.memory → text ≡ replies_text answered
+pub image_written : (names : RunNames) (used : Used) (final : Held) (bytes text : List ℕ) (before now : Outside) (result : Result (Unit {0}) End)
+    → bytes ≡ image_of final.memory → text ≡ replies_text used.answered
     → CarriesOutAfter (writes (record { role = role.Image; name = names.image; bytes = bytes } ∷ []) (print text)) before result now
-    → CarriesOutRest (write_image names answered final) (record { answered = answered; wrote = false }) answered final before result now
+    → CarriesOutRest (write_image names used.answered final) (record { used = used; wrote = false }) used final before result now
 unfolding writes
-image_written names answered final bytes text before now result is_image is_text carried =
-    (subst (λ b. CarriesOutAfter (writes (record { role = role.Image; name = names.image; bytes = b } ∷ []) (print (replies_text answered))) before result now) is_image
+image_written names used final bytes text before now result is_image is_text carried =
+    (subst (λ b. CarriesOutAfter (writes (record { role = role.Image; name = names.image; bytes = b } ∷ []) (print (replies_text used.answered))) before result now) is_image
     (subst (λ t. CarriesOutAfter (writes (record { role = role.Image; name = names.image; bytes = bytes } ∷ []) (print t)) before result now) is_text carried))
-    (record { answered = answered; wrote = false }) final
+    (record { used = used; wrote = false }) final

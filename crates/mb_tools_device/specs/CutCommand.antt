@@ -16,8 +16,8 @@ use Rattle.mb_model.specs.Script.{IsScript, tear_of}
 use Rattle.mb_model.specs.Machine.{World}
 use Rattle.mb_model.specs.Board.{Held}
 use Rattle.mb_model.specs.Acknowledged.{Shows}
-use Rattle.mb_model.specs.Inputs.{image_input, draws_input}
-use Rattle.mb_model.specs.Commands.{Input, Command, read, find, either_command, rehearse, serve, print, lack}
+use Rattle.mb_model.specs.Inputs.{Image, image_input, draws_input}
+use Rattle.mb_model.specs.Commands.{Input, Command, read, find, either_command, load, rehearse, serve, print, lack}
 use Rattle.mb_model.specs.RunCommand.{IsServed}
 use Rattle.mb_tools_device.specs.MachineRuns.{MachineComesTo, is_cut}
 
@@ -97,23 +97,23 @@ pub record ShowsState (held : Held) (state : Option State) : Type 0 where
   pub is : world.state ≡ state
 
 -- The first run was served. Unless an allocation failed, it leaves the state to which the machine comes.
-pub record IsRehearsed (state : Option State) (cut : CutRun) (answered : List Answered) (held : Held) : Type 0 where
-  pub served : IsServed state cut.first answered held
+pub record IsRehearsed (image : Image) (cut : CutRun) (answered : List Answered) (held : Held) : Type 0 where
+  pub served : IsServed image cut.first answered held
   pub whole : (AnyLacksMemory answered → ⊥)
-      → (old : Option State) × ShowsState held old × MachineComesTo state cut.first old
+      → (old : Option State) × ShowsState held old × MachineComesTo image.state cut.first old
 
 -- The second run was served. If no allocation failed and power failed in the script's last event, it leaves the state
 -- to which the machine comes before that event, or after it.
 pub record IsCutServed
-    (state : Option State)
+    (image : Image)
     (count : ℕ)
     (cut : CutRun)
     (answered : List Answered)
     (final : Held) : Type 0 where
-  pub served : IsServed state (cut_events count cut) answered final
+  pub served : IsServed image (cut_events count cut) answered final
   pub counts : (AnyLacksMemory answered → ⊥) → LastIsStopped answered
-      → (old : Option State) × (new : Option State) × MachineComesTo state cut.first old
-      × MachineComesTo state (cut.first ++ cut.last ∷ []) new × (ShowsState final old ⊎ ShowsState final new)
+      → (old : Option State) × (new : Option State) × MachineComesTo image.state cut.first old
+      × MachineComesTo image.state (cut.first ++ cut.last ∷ []) new × (ShowsState final old ⊎ ShowsState final new)
 
 -- both runs leave one state
 pub record ShowSame (held final : Held) : Type 0 where
@@ -134,24 +134,25 @@ tell_cut held answered final =
     either_command (AnyLacksMemory answered) lack
     (either_command (LastIsStopped answered) (tell_state held final) (print (line_with_lf (codes "unstopped"))))
 
--- once the first run was served, the second is, from the same image
-abbrev pub serve_cut : CutNames → Option State → CutRun → List Answered → Held → Command
-serve_cut names state cut answered held =
-    either_command (AnyLacksMemory answered) lack (serve (IsCutServed state names.count cut) (tell_cut held))
+-- once the first run was served, the image is loaded anew, and the second run is served
+abbrev pub serve_cut : CutNames → Image → CutRun → List Answered → Held → Command
+serve_cut names image cut answered held =
+    either_command (AnyLacksMemory answered) lack
+    (load image.bytes (serve (IsCutServed image names.count cut) (tell_cut held)))
 
-abbrev pub serve_first : CutNames → Option State → CutRun → Command
-serve_first names state cut = rehearse (IsRehearsed state cut) (serve_cut names state cut)
+abbrev pub serve_first : CutNames → Image → CutRun → Command
+serve_first names image cut = load image.bytes (rehearse (IsRehearsed image cut) (serve_cut names image cut))
 
-abbrev pub serve_twice : CutNames → Option State → List Event → Command
-serve_twice names state events = find (IsCutRun names.fill events) (serve_first names state)
+abbrev pub serve_twice : CutNames → Image → List Event → Command
+serve_twice names image events = find (IsCutRun names.fill events) (serve_first names image)
 
-abbrev pub read_cut_noise : CutNames → Option State → List Event → Command
-read_cut_noise names state events = read (draws_input events names.noise) (serve_twice names state)
+abbrev pub read_cut_noise : CutNames → Image → List Event → Command
+read_cut_noise names image events = read (draws_input events names.noise) (serve_twice names image)
 
-abbrev pub read_uncut_script : CutNames → Option State → Command
-read_uncut_script names state = read (uncut_script_input names.script) (read_cut_noise names state)
+abbrev pub read_uncut_script : CutNames → Image → Command
+read_uncut_script names image = read (uncut_script_input names.script) (read_cut_noise names image)
 
--- Image, script and noise are read, and the events are served twice: those before the last, and then all of them with
--- a power loss in the last. No file is written.
+-- Image, script and noise are read, the image is loaded twice, and the events are served twice: those before the last,
+-- and then all of them with a power loss in the last. No file is written.
 unfoldable pub cutat : CutNames → Command
 cutat names = read (image_input names.image) (read_uncut_script names)

@@ -7,6 +7,7 @@ use Rattle.mb_model.specs.declared.event.Answered.{Answered}
 use Rattle.mb_model.specs.declared.reply.Reply.TheVariants as reply
 use Rattle.mb_model.specs.declared.state.State.{State}
 use Rattle.mb_model.specs.Board.{Held}
+use Rattle.mb_model.specs.Inputs.{Image}
 use Rattle.mb_tools_device.specs.MachineRuns.{MachineComesTo}
 use Rattle.mb_tools_device.specs.CutCommand.{CutRun, IsCutRun, IsUncutScript, LastIsStopped, IsCutServed}
 
@@ -26,5 +27,5 @@ pub record CutCounterExamples : Type 0 where
   -- over no events the machine comes to no other state than the first
   pub moved : (first second : Option State) → first ≢ second → MachineComesTo first [] second → ⊥
   -- nothing was answered in the second run
-  pub unserved : (state : Option State) (count : ℕ) (run : CutRun) (final : Held)
-      → IsCutServed state count run [] final → ⊥
+  pub unserved : (image : Image) (count : ℕ) (run : CutRun) (final : Held)
+      → IsCutServed image count run [] final → ⊥

@@ -8,3 +8,4 @@ pub mod CutCommand
 pub mod Refusing
 pub mod TwoRuns
 pub mod CutCounterExamples
+pub mod CutOutcomes

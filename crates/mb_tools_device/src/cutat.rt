@@ -1,11 +1,10 @@
 //! The command `cutat`.
 
 ghost use Rattle.std.specs.Prelude.{◌≡◌, ◌≤◌, ℕ, List, length, All, None, Option, false, map};
-ghost use Rattle.mb_model.specs.declared.event.Answered.{Answered as Gave};
 ghost use Rattle.mb_model.specs.declared.limits.TheConstants.{CUT_LIMIT, EVENT_LIMIT, IMAGE_LENGTH};
 ghost use Rattle.mb_model.specs.declared.state.State.{State as Stands};
-ghost use Rattle.mb_model.specs.Board.{Held, IsLoaded, image_of};
-ghost use Rattle.mb_model.specs.Commands.{serve};
+ghost use Rattle.mb_model.specs.Board.{Held, Used, IsLoaded, image_of, use_of};
+ghost use Rattle.mb_model.specs.Commands.{load, serve};
 ghost use Rattle.mb_model.specs.Meaning.{IsWellFormed};
 ghost use Rattle.mb_model.specs.Script.{IsScriptEvent};
 ghost use Rattle.mb_script.specs.Reading.{IsFill};
@@ -13,7 +12,7 @@ ghost use Rattle.mb_console.specs.Words.{given_argument};
 ghost use Rattle.mb_console.specs.Ending.{CarriesOutRest};
 ghost use Rattle.mb_tools_device.specs.CutCommand.{AreUncut, CutRun, IsCutServed, cut_events, cutat, read_uncut_script, read_cut_noise, serve_twice, serve_first, tell_cut, tell_state};
 ghost use Rattle.mb_tools_device.specs.Boards.{IsFresh, CarriesOutOn};
-ghost use Rattle.mb_tools_device.specs.Holding.{HoldsAnswered, HoldsShut, EndsHolding};
+ghost use Rattle.mb_tools_device.specs.Holding.{HoldsShut, EndsServed, EndsHolding, IsDone, LacksMemory};
 ghost use Rattle.mb_tools_device.specs.Names.{cut_files, cut_given};
 ghost use Rattle.mb_tools_device.specs.TwoRuns.{AreRuns, CanBeCut, IsImageLeft};
 
@@ -72,7 +71,7 @@ pub fn cutat<H: Host, B: Board, L: Ledger>(
     requires fresh { IsFresh (B.seen board.old) }
     ensures carried { CarriesOutOn (cutat (cut_files names.now)) (B.seen board.new) (H.outside host.old)
         result (H.outside host.new) }
-    ensures stays { HoldsAnswered (B.seen board.old) → EndsHolding result (B.seen board.new) }
+    ensures stays { EndsHolding (IsDone result) (LacksMemory result) (B.seen board.old) (B.seen board.new) }
 {
     let image = read_image(alloc, host, names.image, hashes)?;
     cut_image(alloc, names, image.bytes, host, board, hashes)
@@ -92,9 +91,9 @@ fn cut_image<H: Host, B: Board, L: Ledger>(
     requires fresh { IsFresh (B.seen board.old) }
     requires image { (state : Option Stands) × IsWellFormed image.items state }
     ensures carried { (state : Option Stands) → IsWellFormed image.items state
-        → CarriesOutOn (read_uncut_script (cut_files names.now) state) (B.seen board.new) (H.outside host.old)
+        → CarriesOutOn (read_uncut_script (cut_files names.now) (record { bytes = image.items; state = state })) (B.seen board.new) (H.outside host.old)
         result (H.outside host.new) }
-    ensures stays { HoldsAnswered (B.seen board.old) → EndsHolding result (B.seen board.new) }
+    ensures stays { EndsHolding (IsDone result) (LacksMemory result) (B.seen board.old) (B.seen board.new) }
 {
     let events = read_as(alloc, host, Role::Script, names.script, UncutScriptForm)?;
     cut_script(alloc, names, image, events, host, board, hashes)
@@ -117,9 +116,9 @@ fn cut_script<H: Host, B: Board, L: Ledger>(
     requires uncut { AreUncut events }
     requires events { All IsScriptEvent events }
     ensures carried { (state : Option Stands) → IsWellFormed image.items state
-        → CarriesOutOn (read_cut_noise (cut_files names.now) state events) (B.seen board.new) (H.outside host.old)
+        → CarriesOutOn (read_cut_noise (cut_files names.now) (record { bytes = image.items; state = state }) events) (B.seen board.new) (H.outside host.old)
         result (H.outside host.new) }
-    ensures stays { HoldsAnswered (B.seen board.old) → EndsHolding result (B.seen board.new) }
+    ensures stays { EndsHolding (IsDone result) (LacksMemory result) (B.seen board.old) (B.seen board.new) }
 {
     let drawn = read_draws(alloc, host, names.noise, events)?;
     cut_drawn(alloc, names, image, drawn, host, board, hashes)
@@ -142,9 +141,9 @@ fn cut_drawn<H: Host, B: Board, L: Ledger>(
     requires uncut { AreUncut events }
     requires events { All IsScriptEvent events }
     ensures carried { (state : Option Stands) → IsWellFormed image.items state
-        → CarriesOutOn (serve_twice (cut_files names.now) state events) (B.seen board.new) (H.outside host.old)
+        → CarriesOutOn (serve_twice (cut_files names.now) (record { bytes = image.items; state = state }) events) (B.seen board.new) (H.outside host.old)
         result (H.outside host.new) }
-    ensures stays { HoldsAnswered (B.seen board.old) → EndsHolding result (B.seen board.new) }
+    ensures stays { EndsHolding (IsDone result) (LacksMemory result) (B.seen board.old) (B.seen board.new) }
 {
     let Ok(runs) = two_runs(alloc, events, names.count, names.fill) else {
         return Err(End::NoMemory);
@@ -170,9 +169,9 @@ fn serve_first<H: Host, B: Board, L: Ledger>(
     requires second_events { All IsScriptEvent runs.second }
     ensures carried { (state : Option Stands) (cut : CutRun) → IsWellFormed image.items state
         → AreRuns names.now.count runs.first runs.second cut
-        → CarriesOutOn (serve_first (cut_files names.now) state cut) (B.seen board.new) (H.outside host.old)
+        → CarriesOutOn (serve_first (cut_files names.now) (record { bytes = image.items; state = state }) cut) (B.seen board.new) (H.outside host.old)
         result (H.outside host.new) }
-    ensures stays { HoldsAnswered (B.seen board.old) → EndsHolding result (B.seen board.new) }
+    ensures stays { EndsHolding (IsDone result) (LacksMemory result) (B.seen board.old) (B.seen board.new) }
 {
     let Ok(mut before) = Vec::from_slice(alloc, &image) else {
         return Err(End::NoMemory);
@@ -209,10 +208,10 @@ fn serve_cut<H: Host, B: Board, L: Ledger>(
     requires events { All IsScriptEvent events }
     ensures carried { (state : Option Stands) (cut : CutRun) (held : Held) → IsWellFormed image.items state
         → events ≡ cut_events names.now.count cut → CanBeCut names.now.count cut → IsImageLeft held before.now
-        → CarriesOutRest (serve (IsCutServed state names.now.count cut) (tell_cut held))
-        (record { answered = (B.seen board.old).ledger.answered; wrote = false }) (B.seen board.new).ledger.answered
+        → CarriesOutRest (load image.items (serve (IsCutServed (record { bytes = image.items; state = state }) names.now.count cut) (tell_cut held)))
+        (record { used = use_of (B.seen board.old).ledger; wrote = false }) (use_of (B.seen board.new).ledger)
         (B.seen board.new).ledger.standing (H.outside host.old) result (H.outside host.new) }
-    ensures stays { HoldsShut (B.seen board.old) → EndsHolding result (B.seen board.new) }
+    ensures stays { HoldsShut (B.seen board.old) → EndsServed (IsDone result) (LacksMemory result) (B.seen board.new) }
 {
     match board.load(alloc, &image, events) {
         Ok(()) => {}
@@ -238,7 +237,7 @@ fn tell_cut<H: Host, B: Board, L: Ledger>(
     ensures { (held : Held) → IsImageLeft held before.now
         → ((last : List ℕ) → last ≡ image_of (B.seen board.now).memory → IsImageLeft (B.seen board.now).ledger.standing last)
         → CarriesOutRest (tell_cut held (B.seen board.now).ledger.answered (B.seen board.now).ledger.standing)
-        (record { answered = (B.seen board.now).ledger.answered; wrote = false }) (B.seen board.now).ledger.answered
+        (record { used = use_of (B.seen board.now).ledger; wrote = false }) (use_of (B.seen board.now).ledger)
         (B.seen board.now).ledger.standing (H.outside host.old) result (H.outside host.new) }
 {
     let answered = board.answered();
@@ -261,8 +260,8 @@ fn tell_state<H: Host, L: Ledger>(
     host: &mut H,
     hashes: &mut HashCount<L>,
 ) -> Result<(), End>
-    ensures { (held final : Held) (answered : List Gave) → IsImageLeft held before.now → IsImageLeft final after.now
-        → CarriesOutRest (tell_state held final) (record { answered = answered; wrote = false }) answered final
+    ensures { (held final : Held) (used : Used) → IsImageLeft held before.now → IsImageLeft final after.now
+        → CarriesOutRest (tell_state held final) (record { used = used; wrote = false }) used final
         (H.outside host.old) result (H.outside host.new) }
 {
     let Ok(before) = stand_for(alloc, before, hashes) else {

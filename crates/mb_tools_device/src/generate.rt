@@ -2,7 +2,7 @@
 
 ghost use Rattle.std.specs.Prelude.{◌≡◌, ◌≤◌, length, All, IfOk, IfErr, OnOk, map};
 ghost use Rattle.mb_model.specs.declared.limits.TheConstants.{EVENT_LIMIT, IMAGE_LENGTH};
-ghost use Rattle.mb_model.specs.Board.{IsLoaded};
+ghost use Rattle.mb_model.specs.Board.{IsLoaded, use_of};
 ghost use Rattle.mb_model.specs.Machine.{World};
 ghost use Rattle.mb_model.specs.Acknowledged.{Shows};
 ghost use Rattle.mb_model.specs.Script.{IsScriptEvent};
@@ -15,7 +15,7 @@ ghost use Rattle.mb_tools_device.specs.Names.{generate_files, generate_given};
 ghost use Rattle.mb_console.specs.Words.{given_argument};
 ghost use Rattle.mb_console.specs.Ending.{CarriesOutRest};
 ghost use Rattle.mb_tools_device.specs.Boards.{IsFresh, CarriesOutOn};
-ghost use Rattle.mb_tools_device.specs.Holding.{HoldsAnswered};
+ghost use Rattle.mb_tools_device.specs.Holding.{EndsHolding, IsDone};
 ghost use Rattle.mb_console.specs.Outputs.{WritesAll, StopsWriting};
 ghost use Rattle.mb_tools_device.specs.Generated.{HasEvents, workload_outputs};
 
@@ -71,7 +71,7 @@ pub fn generate<H: Host, B: Board, L: Ledger>(
     requires fresh { IsFresh (B.seen board.old) }
     ensures carried { CarriesOutOn (generate (generate_files names.now)) (B.seen board.new) (H.outside host.old)
         result (H.outside host.new) }
-    ensures stays { HoldsAnswered (B.seen board.old) → HoldsAnswered (B.seen board.new) }
+    ensures stays { EndsHolding (IsDone result) ⊥ (B.seen board.old) (B.seen board.new) }
 {
     let Ok(files) = workload(alloc, names.number, names.rounds, hashes) else {
         return Err(End::NoMemory);
@@ -117,7 +117,7 @@ fn load_workload<H: Host, B: Board, L: Ledger>(
     requires fresh { IsFresh (B.seen board.old) }
     ensures carried { CarriesOutOn (generate (generate_files names.now)) (B.seen board.new) (H.outside host.old)
         result (H.outside host.new) }
-    ensures stays { HoldsAnswered (B.seen board.old) → HoldsAnswered (B.seen board.new) }
+    ensures stays { EndsHolding (IsDone result) ⊥ (B.seen board.old) (B.seen board.new) }
 {
     match board.load(alloc, files.image.as_slice(), events) {
         Ok(()) => {}
@@ -165,9 +165,9 @@ fn summarise<H: Host, B: Board>(mut image: Vec<u8>, host: &mut H, board: &B) -> 
     requires answered { (B.seen board.now).ledger.standing.memory ≡ (B.seen board.now).memory }
     requires room { length image.items ≡ IMAGE_LENGTH }
     requires shown { (last : World) × Shows (B.seen board.now).ledger.standing last }
-    ensures { (past : Past) → past.answered ≡ (B.seen board.now).ledger.answered
+    ensures { (past : Past) → past.used ≡ use_of (B.seen board.now).ledger
         → CarriesOutRest (summarise (B.seen board.now).ledger.answered (B.seen board.now).ledger.standing)
-        past (B.seen board.now).ledger.answered (B.seen board.now).ledger.standing
+        past (use_of (B.seen board.now).ledger) (B.seen board.now).ledger.standing
         (H.outside host.old) result (H.outside host.new) }
 {
     let answered = board.answered();

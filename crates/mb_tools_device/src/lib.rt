@@ -15,5 +15,7 @@ mod summary;
 mod twice;
 
 pub use counter_examples::cut_counter_examples;
-pub use laws::{plain_runs_are_the_machines, uncut_scripts_are_clear};
+pub use laws::{
+    cuts_count_wholly_or_not_at_all, plain_runs_are_the_machines, uncut_scripts_are_clear,
+};
 pub use mb_generate::ROUND_LIMIT;

@@ -3,7 +3,7 @@
 ghost use Rattle.std.specs.Prelude.{◌≡◌, ◌≤◌, length, All, Option, false, map};
 ghost use Rattle.mb_model.specs.declared.limits.TheConstants.{EVENT_LIMIT, IMAGE_LENGTH};
 ghost use Rattle.mb_model.specs.declared.state.State.{State};
-ghost use Rattle.mb_model.specs.Board.{IsLoaded};
+ghost use Rattle.mb_model.specs.Board.{IsLoaded, use_of};
 ghost use Rattle.mb_model.specs.Meaning.{IsWellFormed};
 ghost use Rattle.mb_model.specs.RunCommand.{run, read_script, read_noise, serve_events, write_image};
 ghost use Rattle.mb_model.specs.Script.{IsScriptEvent};
@@ -11,7 +11,7 @@ ghost use Rattle.mb_tools_device.specs.Names.{run_files, run_given};
 ghost use Rattle.mb_console.specs.Words.{given_argument};
 ghost use Rattle.mb_console.specs.Ending.{CarriesOutRest};
 ghost use Rattle.mb_tools_device.specs.Boards.{IsFresh, CarriesOutOn};
-ghost use Rattle.mb_tools_device.specs.Holding.{HoldsAnswered};
+ghost use Rattle.mb_tools_device.specs.Holding.{EndsHolding, IsDone};
 
 use crate::replies::write_replies;
 use crate::scripts::{ScriptForm, read_draws};
@@ -57,7 +57,7 @@ pub fn run<H: Host, B: Board, L: Ledger>(
     requires fresh { IsFresh (B.seen board.old) }
     ensures carried { CarriesOutOn (run (run_files names.now)) (B.seen board.new) (H.outside host.old)
         result (H.outside host.new) }
-    ensures stays { HoldsAnswered (B.seen board.old) → HoldsAnswered (B.seen board.new) }
+    ensures stays { EndsHolding (IsDone result) ⊥ (B.seen board.old) (B.seen board.new) }
 {
     let image = read_image(alloc, host, names.image, hashes)?;
     run_image(alloc, names, image.bytes, host, board, hashes)
@@ -75,9 +75,9 @@ fn run_image<H: Host, B: Board, L: Ledger>(
     requires fresh { IsFresh (B.seen board.old) }
     requires image { (state : Option State) × IsWellFormed image.items state }
     ensures carried { (state : Option State) → IsWellFormed image.items state
-        → CarriesOutOn (read_script (run_files names.now) state) (B.seen board.new) (H.outside host.old)
+        → CarriesOutOn (read_script (run_files names.now) (record { bytes = image.items; state = state })) (B.seen board.new) (H.outside host.old)
         result (H.outside host.new) }
-    ensures stays { HoldsAnswered (B.seen board.old) → HoldsAnswered (B.seen board.new) }
+    ensures stays { EndsHolding (IsDone result) ⊥ (B.seen board.old) (B.seen board.new) }
 {
     let events = read_as(alloc, host, Role::Script, names.script, ScriptForm)?;
     run_events(alloc, names, image, events, host, board, hashes)
@@ -98,9 +98,9 @@ fn run_events<H: Host, B: Board, L: Ledger>(
     requires count { length events ≤ EVENT_LIMIT }
     requires events { All IsScriptEvent events }
     ensures carried { (state : Option State) → IsWellFormed image.items state
-        → CarriesOutOn (read_noise (run_files names.now) state events) (B.seen board.new) (H.outside host.old)
+        → CarriesOutOn (read_noise (run_files names.now) (record { bytes = image.items; state = state }) events) (B.seen board.new) (H.outside host.old)
         result (H.outside host.new) }
-    ensures stays { HoldsAnswered (B.seen board.old) → HoldsAnswered (B.seen board.new) }
+    ensures stays { EndsHolding (IsDone result) ⊥ (B.seen board.old) (B.seen board.new) }
 {
     let drawn = read_draws(alloc, host, names.noise, events)?;
     run_drawn(alloc, names, image, drawn, host, board, hashes)
@@ -121,9 +121,9 @@ fn run_drawn<H: Host, B: Board, L: Ledger>(
     requires count { length events ≤ EVENT_LIMIT }
     requires events { All IsScriptEvent events }
     ensures carried { (state : Option State) → IsWellFormed image.items state
-        → CarriesOutOn (serve_events (run_files names.now) state events) (B.seen board.new) (H.outside host.old)
+        → CarriesOutOn (serve_events (run_files names.now) (record { bytes = image.items; state = state }) events) (B.seen board.new) (H.outside host.old)
         result (H.outside host.new) }
-    ensures stays { HoldsAnswered (B.seen board.old) → HoldsAnswered (B.seen board.new) }
+    ensures stays { EndsHolding (IsDone result) ⊥ (B.seen board.old) (B.seen board.new) }
 {
     match board.load(alloc, &image, events) {
         Ok(()) => {}
@@ -146,7 +146,7 @@ fn write_image<H: Host, B: Board>(
     requires room { length image.items ≡ IMAGE_LENGTH }
     ensures { CarriesOutRest
         (write_image (run_files names.now) (B.seen board.now).ledger.answered (B.seen board.now).ledger.standing)
-        (record { answered = (B.seen board.now).ledger.answered; wrote = false }) (B.seen board.now).ledger.answered (B.seen board.now).ledger.standing
+        (record { used = use_of (B.seen board.now).ledger; wrote = false }) (use_of (B.seen board.now).ledger) (B.seen board.now).ledger.standing
         (H.outside host.old) result (H.outside host.new) }
 {
     let Ok(replies) = write_replies(alloc, board.answered()) else {

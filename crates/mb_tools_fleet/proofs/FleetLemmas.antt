@@ -1,5 +1,6 @@
 -- What carries out `fleet`, and that it is never refused.
 use Rattle.std.proofs.Common.{◌≡◌, ◌≢◌, ℕ, List, [], ◌∷◌, true, Option, Result, Err, refl, sym, ◌∙◌, subst, inl, inr}
+use Rattle.mb_model.specs.Board.{not_used}
 use Rattle.mb_model.specs.declared.key.PublicKey.{PublicKey}
 use Rattle.mb_model.specs.declared.role.Role.TheVariants as role
 use Rattle.mb_model.specs.Outside.{Outside, read_once}
@@ -30,7 +31,7 @@ register_kept name rows bytes text before now result is carried = λ final.
     (subst (λ b. CarriesOutAfter (writes (record { role = role.Register; name = name; bytes = b } ∷ []) (print text)) before result now) is carried) at_first final
 
 pub register_lacks : (name : List ℕ) (rows : List Row) (text : List ℕ) (before : Outside) → CarriesOut (keep_register name (all_served text rows)) before (Err end.NoMemory) before
-register_lacks name rows text before = λ final. memory_here _ _ at_first [] final before refl refl
+register_lacks name rows text before = λ final. memory_here _ _ at_first not_used final before refl refl
 
 -- ---- items are answered
 
@@ -38,15 +39,15 @@ pub items_answered : (names : FleetNames) (maker : PublicKey) (rows : List Row) 
     (result : Result (Unit {0}) End) → AreServed maker rows listed text after → CarriesOut (keep_register names.register (all_served text after)) before result now
     → CarriesOut (answer_items names maker rows listed) before result now
 items_answered names maker rows listed text after before now result served carried = λ final.
-    finds (ServingComesTo maker rows listed) (keep_register names.register) at_first [] final before now (all_served text after) result served (carried final)
+    finds (ServingComesTo maker rows listed) (keep_register names.register) at_first not_used final before now (all_served text after) result served (carried final)
 
 pub items_unanswered : (names : FleetNames) (maker : PublicKey) (rows : List Row) (listed : List Item) (after : List Row) (why : ServeEnd) (before : Outside)
     → ServesItems maker rows listed (Err why) after → CarriesOut (answer_items names maker rows listed) before (Err end.NoMemory) before
 items_unanswered names maker rows listed after serving.TooLong before long = λ final.
-    finds (ServingComesTo maker rows listed) (keep_register names.register) at_first [] final before before text_too_long (Err end.NoMemory) long
-    (lack_here at_first [] final before refl)
+    finds (ServingComesTo maker rows listed) (keep_register names.register) at_first not_used final before before text_too_long (Err end.NoMemory) long
+    (lack_here at_first not_used final before refl)
 items_unanswered names maker rows listed after serving.NoMemory before free = λ final.
-    memory_unfound (ServingComesTo maker rows listed) (keep_register names.register) at_first [] final before refl refl
+    memory_unfound (ServingComesTo maker rows listed) (keep_register names.register) at_first not_used final before refl refl
 
 -- ---- no refusal
 

@@ -1,6 +1,7 @@
 -- What carries out `endorse`.
 use Rattle.std.proofs.Common.{◌≡◌, ℕ, ◌^◌, List, [], ◌∷◌, ◌++◌, codes, Result, Err, refl, sym, ◌∙◌, ap, subst, arith}
 use Rattle.std.specs.Global.{Vec}
+use Rattle.mb_model.specs.Board.{not_used}
 use Rattle.mb_model.specs.declared.key.PublicKey.{PublicKey}
 use Rattle.mb_model.specs.declared.role.Role.TheVariants as role
 use Rattle.mb_model.specs.Outside.{Outside}
@@ -40,7 +41,7 @@ endorsement_written names maker after root index file signature text before now 
 -- an allocation for the line failed
 pub endorsement_lacks : (names : EndorseNames) (maker : Maker) (root : PublicKey) (before : Outside) → CarriesOut (use_number names maker root) before (Err end.NoMemory) before
 unfolding use_number
-endorsement_lacks names maker root before = λ final. memory_here _ _ at_first [] final before refl refl
+endorsement_lacks names maker root before = λ final. memory_here _ _ at_first not_used final before refl refl
 
 -- what was appended to no bytes is the signature of the root key
 pub signed_root : (maker after : Maker) (root : PublicKey) (body : List ℕ) (old new : Vec ℕ) → body ≡ key_bytes root → old.items ≡ []
@@ -56,17 +57,17 @@ pub root_endorsed : (names : EndorseNames) (maker after : Maker) (root : PublicK
     → CarriesOut (endorse_by names maker) before result now
 unfolding endorse_root
 root_endorsed names maker after root signature before mid now result has signs carried = λ final.
-    read_on (root_input names.root) (endorse_root names maker) at_first [] final before mid now root result has
-    (goes_second _ _ _ at_first [] final mid now result (λ spent. omega (arith, spent, signs.left)) (carried final))
+    read_on (root_input names.root) (endorse_root names maker) at_first not_used final before mid now root result has
+    (goes_second _ _ _ at_first not_used final mid now result (λ spent. omega (arith, spent, signs.left)) (carried final))
 
 -- the root key was read, and the maker did not sign it
 pub root_not_endorsed : (names : EndorseNames) (maker : Maker) (root : PublicKey) (before mid : Outside) (why_not : HssEnd) (why : End) → HasInput (root_input names.root) before mid root
     → (why_not ≡ cause.Spent → maker.next ≡ 32 ^ maker.levels) → TellsUnendorsed why_not why → CarriesOut (endorse_by names maker) before (Err why) mid
 unfolding endorse_root
 root_not_endorsed names maker root before mid cause.Spent why has spent tells = λ final.
-    read_on (root_input names.root) (endorse_root names maker) at_first [] final before mid mid root _ has
-    (goes_first _ _ _ at_first [] final mid mid _ (spent refl) (refuse_here (codes "spent") why at_first [] final mid tells refl))
+    read_on (root_input names.root) (endorse_root names maker) at_first not_used final before mid mid root _ has
+    (goes_first _ _ _ at_first not_used final mid mid _ (spent refl) (refuse_here (codes "spent") why at_first not_used final mid tells refl))
 root_not_endorsed names maker root before mid cause.NoMemory why has spent tells = λ final.
-    subst (λ w. CarriesOutRest (endorse_by names maker) at_first [] final before (Err w) mid) (sym tells)
-    (read_on (root_input names.root) (endorse_root names maker) at_first [] final before mid mid root _ has
-    (memory_chosen _ _ _ at_first [] final mid refl refl))
+    subst (λ w. CarriesOutRest (endorse_by names maker) at_first not_used final before (Err w) mid) (sym tells)
+    (read_on (root_input names.root) (endorse_root names maker) at_first not_used final before mid mid root _ has
+    (memory_chosen _ _ _ at_first not_used final mid refl refl))

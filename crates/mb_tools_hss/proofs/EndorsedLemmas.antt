@@ -1,5 +1,6 @@
 -- What carries out `endorsed`.
 use Rattle.std.proofs.Common.{ℕ, List, [], codes, Result, Err, refl}
+use Rattle.mb_model.specs.Board.{not_used}
 use Rattle.mb_model.specs.declared.key.PublicKey.{PublicKey}
 use Rattle.mb_model.specs.Texts.{line_with_lf}
 use Rattle.mb_model.specs.Outside.{Outside}
@@ -19,7 +20,7 @@ pub endorsement_accepted : (key : HssKey) (root : PublicKey) (endorsement : List
     → CarriesOut (judge_endorsement key root endorsement) before result now
 unfolding writes judge_endorsement
 endorsement_accepted key root endorsement before now result verifies carried = λ final.
-    goes_first _ _ _ at_first [] final before now result verifies (carried at_first final)
+    goes_first _ _ _ at_first not_used final before now result verifies (carried at_first final)
 
 -- it does not
 pub endorsement_refused : (key : HssKey) (root : PublicKey) (endorsement : List ℕ) (before : Outside) (why : End)
@@ -27,4 +28,4 @@ pub endorsement_refused : (key : HssKey) (root : PublicKey) (endorsement : List 
     → CarriesOut (judge_endorsement key root endorsement) before (Err why) before
 unfolding judge_endorsement
 endorsement_refused key root endorsement before why never refuses = λ final.
-    goes_second _ _ _ at_first [] final before before _ never (refuse_here (codes "refused 28") why at_first [] final before refuses refl)
+    goes_second _ _ _ at_first not_used final before before _ never (refuse_here (codes "refused 28") why at_first not_used final before refuses refl)

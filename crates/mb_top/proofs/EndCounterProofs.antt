@@ -1,11 +1,13 @@
 -- The counterexamples of ends, refuted.
 use Rattle.std.proofs.Common.{◌≡◌, ◌≢◌, ℕ, ◌≤◌, Bool, true, nat_lt, List, [], ◌∷◌, length, refl, arith}
+use Rattle.mb_model.specs.Board.{not_used}
 use Rattle.mb_model.specs.Commands.{Ended}
 use Rattle.mb_console.specs.declared.words.Kind.{Kind}
 use Rattle.mb_console.specs.Words.{Argument, Row, AreWordsFor, IsCalled, IsCall}
 use Rattle.mb_console.proofs.WordLemmas.{all_rows, row_of_call}
 use Rattle.mb_top.specs.declared.table.Command.{Command}
-use Rattle.mb_top.specs.Top.{commands, Ends, no_command, did}
+use Rattle.mb_top.specs.CommandTable.{commands}
+use Rattle.mb_top.specs.Top.{Ends, no_command, did}
 use Rattle.mb_top.specs.EndCounterExamples.{EndCounterExamples}
 
 -- whether at least two words come after the name
@@ -39,9 +41,9 @@ no_other_status : (words : List (List ℕ)) (e : Ended) → length words ≤ 2 �
 no_other_status words e few other (no_command none stops) = other stops.status_is
 no_other_status words e few other (did called given is ends) = omega (arith, few, three_words words called given is)
 
-nothing_answered : (words : List (List ℕ)) (e : Ended) → length words ≤ 2 → e.answered ≢ [] → Ends words e → ⊥
-nothing_answered words e few some (no_command none stops) = some stops.answered
-nothing_answered words e few some (did called given is ends) = omega (arith, few, three_words words called given is)
+not_used_so : (words : List (List ℕ)) (e : Ended) → length words ≤ 2 → e.used ≢ not_used → Ends words e → ⊥
+not_used_so words e few some (no_command none stops) = some stops.used
+not_used_so words e few some (did called given is ends) = omega (arith, few, three_words words called given is)
 
 pub no_other_ends : (words : List (List ℕ)) (e : Ended) → EndCounterExamples words e
-no_other_ends words e = record { status = no_other_status words e; answered = nothing_answered words e }
+no_other_ends words e = record { status = no_other_status words e; used = not_used_so words e }

@@ -1,6 +1,6 @@
 -- From a command to what the words say that call it.
 use Rattle.std.proofs.Common.{◌≡◌, ℕ, ◌≤◌, true, false, Bool, List, [], Option, Some, Result, Ok, Err, refl, sym, ap, subst}
-use Rattle.mb_model.specs.declared.event.Answered.{Answered}
+use Rattle.mb_model.specs.Board.{Used, not_used}
 use Rattle.mb_model.specs.Outside.{Outside}
 use Rattle.mb_model.specs.Board.{Held}
 use Rattle.mb_model.specs.Commands.{Ended, CommandEnds, HasInputsFor, IsFaultless, at_first}
@@ -12,20 +12,21 @@ use Rattle.mb_console.proofs.Completing.{Completes, command_completes}
 use Rattle.mb_console.proofs.WordLemmas.{has_distinct_names, one_call, number_of_call, hex_of_call}
 use Rattle.mb_top.specs.declared.table.Command.{Command}
 use Rattle.mb_top.specs.declared.table.Command.TheVariants as command
-use Rattle.mb_top.specs.Top.{commands, command_of, Ends, no_command, did, CarriesOutWords}
+use Rattle.mb_top.specs.CommandTable.{commands}
+use Rattle.mb_top.specs.Top.{command_of, Ends, no_command, did, CarriesOutWords}
 
 -- ---- by the words
 
-pub call_carried_out : (words : List (List ℕ)) (called : Command) (given : List Argument) (answered : List Answered) (final : Held) (before now : Outside) (result : Result (Unit {0}) End)
-    → IsCall commands words called given → CarriesOutRest (command_of called given) at_first answered final before result now → CarriesOutWords words answered final before result now
+pub call_carried_out : (words : List (List ℕ)) (called : Command) (given : List Argument) (used : Used) (final : Held) (before now : Outside) (result : Result (Unit {0}) End)
+    → IsCall commands words called given → CarriesOutRest (command_of called given) at_first used final before result now → CarriesOutWords words used final before result now
 unfolding CarriesOutRest
-call_carried_out words called given answered final before now (Ok u) is ends = did called given is ends
-call_carried_out words called given answered final before now (Err why) is carried = λ after says. did called given is (carried after says)
+call_carried_out words called given used final before now (Ok u) is ends = did called given is ends
+call_carried_out words called given used final before now (Err why) is carried = λ after says. did called given is (carried after says)
 
 -- a command that leaves the board alone
-pub alone : (called : Command) (given : List Argument) (answered : List Answered) (final : Held) (before now : Outside) (result : Result (Unit {0}) End)
-    → answered ≡ [] → CarriesOut (command_of called given) before result now → CarriesOutRest (command_of called given) at_first answered final before result now
-alone called given answered final before now result none carried =
+pub alone : (called : Command) (given : List Argument) (used : Used) (final : Held) (before now : Outside) (result : Result (Unit {0}) End)
+    → used ≡ not_used → CarriesOut (command_of called given) before result now → CarriesOutRest (command_of called given) at_first used final before result now
+alone called given used final before now result none carried =
     subst (λ a. CarriesOutRest (command_of called given) at_first a final before result now) (sym none) (carried final)
 
 -- ---- where all is well

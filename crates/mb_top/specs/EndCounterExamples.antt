@@ -1,5 +1,6 @@
 -- Ends that the program does not have; the checker refutes each line. Can the program end in any way?
-use Rattle.std.specs.Prelude.{◌≢◌, ◌≤◌, ℕ, List, [], length}
+use Rattle.std.specs.Prelude.{◌≢◌, ◌≤◌, ℕ, List, length}
+use Rattle.mb_model.specs.Board.{not_used}
 use Rattle.mb_model.specs.Commands.{Ended}
 use Rattle.mb_top.specs.Top.{Ends}
 
@@ -7,5 +8,5 @@ use Rattle.mb_top.specs.Top.{Ends}
 pub record EndCounterExamples (words : List (List ℕ)) (e : Ended) : Type 0 where
   -- the program ends with another status than 2
   pub status : length words ≤ 2 → e.status ≢ 2 → Ends words e → ⊥
-  -- the program has answered an event
-  pub answered : length words ≤ 2 → e.answered ≢ [] → Ends words e → ⊥
+  -- the program has loaded the board, or answered an event
+  pub used : length words ≤ 2 → e.used ≢ not_used → Ends words e → ⊥

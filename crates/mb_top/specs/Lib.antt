@@ -1,3 +1,4 @@
+pub mod CommandTable
 pub mod Top
 pub mod Usage
 pub mod Program

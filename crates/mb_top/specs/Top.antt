@@ -1,6 +1,6 @@
 -- What the program does, by its words: which command they call, and how it ends.
-use Rattle.std.specs.Prelude.{◌≡◌, ◌⊎◌, List, ℕ, map, codes, Result, Err}
-use Rattle.mb_model.specs.declared.event.Answered.{Answered}
+use Rattle.std.specs.Prelude.{◌≡◌, ◌⊎◌, List, ℕ, codes, Result}
+use Rattle.mb_model.specs.Board.{Used}
 use Rattle.mb_model.specs.Outside.{Outside}
 use Rattle.mb_model.specs.Board.{Held}
 use Rattle.mb_model.specs.Commands.{Command as Does, Ended, Stops, CommandEnds, at_first}
@@ -15,9 +15,8 @@ use Rattle.mb_model.specs.ChainCommands.{chain, attach}
 use Rattle.mb_model.specs.GenerateCommand.{generate}
 use Rattle.mb_board.specs.Calls.{Seen}
 use Rattle.mb_console.specs.declared.end.End.{End}
-use Rattle.mb_console.specs.declared.end.End.TheVariants as end
 use Rattle.mb_console.specs.Ending.{ended_at, EndsOncePrinted}
-use Rattle.mb_console.specs.Words.{Row, Argument, IsCall}
+use Rattle.mb_console.specs.Words.{Argument, IsCall}
 use Rattle.mb_tools.specs.Names.{keygen_given, sign_given, countersign_given, factory_given, migrate_given}
 use Rattle.mb_tools.specs.Names.{verify_given, audit_given, chain_given, attach_given}
 use Rattle.mb_tools_hss.specs.HssKeygen.{hsskeygen}
@@ -33,14 +32,10 @@ use Rattle.mb_tools_fleet.specs.FleetCommand.{fleet}
 use Rattle.mb_tools_fleet.specs.FleetWords.{fleet_given}
 use Rattle.mb_tools_device.specs.CutCommand.{cutat}
 use Rattle.mb_tools_device.specs.Names.{run_given, cut_given, generate_given}
-use Rattle.mb_tools_device.specs.Holding.{HoldsAnswered, HoldsShut}
-use Rattle.mb_top.specs.declared.table.TheConstants.{COMMANDS}
+use Rattle.mb_tools_device.specs.Holding.{EndsHolding, IsDone, LacksMemory}
+use Rattle.mb_top.specs.CommandTable.{commands}
 use Rattle.mb_top.specs.declared.table.Command.{Command}
 use Rattle.mb_top.specs.declared.table.Command.TheVariants as command
-
--- the commands with their names and the kinds of the words after each
-unfoldable pub commands : List (Row Command)
-commands = map (λ row. (row.0, row.1.now, map (λ word. word.1) row.2.now)) COMMANDS
 
 -- what a command does with these arguments, which are in the order of its words
 abbrev pub command_of : Command → List Argument → Does
@@ -78,9 +73,9 @@ pub data Ends (words : List (List ℕ)) (e : Ended) : Type 0 where
 
 -- what the words call is carried out, up to the line of its status
 abbrev pub CarriesOutWords :
-    List (List ℕ) → List Answered → Held → Outside → Result (Unit {0}) End → Outside → Type 0
-CarriesOutWords words answered final before result now =
-    EndsOncePrinted (λ after status. Ends words (ended_at before answered final after status)) result now
+    List (List ℕ) → Used → Held → Outside → Result (Unit {0}) End → Outside → Type 0
+CarriesOutWords words used final before result now =
+    EndsOncePrinted (λ after status. Ends words (ended_at before used final after status)) result now
 
 -- ---- what the board holds
 
@@ -88,17 +83,18 @@ CarriesOutWords words answered final before result now =
 abbrev pub CallsCutat : List (List ℕ) → Type 0
 CallsCutat words = (given : List Argument) × IsCall commands words command.Cutat given
 
--- After a command, a board holds what it held at its last answer. Or an allocation of `cutat` failed between its two
--- runs, and power was turned off.
-abbrev pub HoldsAfter : Command → Result (Unit {0}) End → Seen → Type 0
-HoldsAfter called result seen =
-    HoldsAnswered seen ⊎ ((called ≡ command.Cutat) × (result ≡ Err end.NoMemory) × HoldsShut seen)
+-- What a board holds after a command: it was left alone, or it holds what it held at its last answer. Or an allocation
+-- of `cutat` failed between its two runs, and power was turned off.
+abbrev pub HoldsAfter : Command → Result (Unit {0}) End → Seen → Seen → Type 0
+HoldsAfter called result before after =
+    EndsHolding (IsDone result) ((called ≡ command.Cutat) × LacksMemory result) before after
 
 -- what a board holds once the words have been carried out, up to the line of the status
-abbrev pub HoldsAfterWords : List (List ℕ) → Result (Unit {0}) End → Seen → Type 0
-HoldsAfterWords words result seen =
-    HoldsAnswered seen ⊎ (CallsCutat words × (result ≡ Err end.NoMemory) × HoldsShut seen)
+abbrev pub HoldsAfterWords : List (List ℕ) → Result (Unit {0}) End → Seen → Seen → Type 0
+HoldsAfterWords words result before after =
+    EndsHolding (IsDone result) (CallsCutat words × LacksMemory result) before after
 
 -- what a board holds when the words have ended with this exit status
-abbrev pub HoldsAtStatus : List (List ℕ) → ℕ → Seen → Type 0
-HoldsAtStatus words status seen = HoldsAnswered seen ⊎ (CallsCutat words × (status ≡ 6) × HoldsShut seen)
+abbrev pub HoldsAtStatus : List (List ℕ) → ℕ → Seen → Seen → Type 0
+HoldsAtStatus words status before after =
+    EndsHolding (status ≡ 0) (CallsCutat words × (status ≡ 6)) before after

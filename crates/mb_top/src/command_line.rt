@@ -2,10 +2,10 @@
 
 ghost use Rattle.std.specs.Prelude.{◌≡◌, ◌↔◌, ◌∷◌, [], map, IfOk, IfErr, IsTrue, None, false, string_bytes};
 ghost use Rattle.mb_model.specs.Board.{Held};
+ghost use Rattle.mb_model.specs.Board.{not_used, use_of};
 ghost use Rattle.mb_model.specs.Commands.{PrintEnds, Stops, at_first};
 ghost use Rattle.mb_console.specs.Ending.{ended_at, end_line, end_status};
 ghost use Rattle.mb_top.specs.Program.{ProgramEnds, end_without};
-ghost use Rattle.mb_tools_device.specs.Holding.{HoldsAnswered};
 ghost use Rattle.mb_top.specs.Top.{HoldsAtStatus};
 ghost use Rattle.mb_top.specs.Usage.{usage};
 
@@ -56,15 +56,14 @@ pub fn program<H: Host, B: Board>(
     requires off { (B.seen board.old).power ≡ false }
     requires none_out { (B.seen board.old).ledger.out ≡ None }
     requires none_waiting { (B.seen board.old).ledger.waiting ≡ [] }
-    requires none_answered { (B.seen board.old).ledger.answered ≡ [] }
+    requires never_used { use_of (B.seen board.old).ledger ≡ not_used }
     ensures words { IfOk words (λ words. ProgramEnds usage VERSION.now (map string_bytes words.items)
-        (ended_at (H.outside host.old) (B.seen board.new).ledger.answered (B.seen board.new).ledger.standing
+        (ended_at (H.outside host.old) (use_of (B.seen board.new).ledger) (B.seen board.new).ledger.standing
         (H.outside host.new) result)) }
     ensures none { IfErr words (λ why. Stops (end_line (end_without why)) (end_status (end_without why)) at_first
-        (ended_at (H.outside host.old) (B.seen board.new).ledger.answered (B.seen board.new).ledger.standing
+        (ended_at (H.outside host.old) (use_of (B.seen board.new).ledger) (B.seen board.new).ledger.standing
         (H.outside host.new) result)) }
-    ensures stays { HoldsAnswered (B.seen board.old)
-        → IfOk words (λ words. HoldsAtStatus (map string_bytes words.items) result (B.seen board.new)) }
+    ensures stays { IfOk words (λ words. HoldsAtStatus (map string_bytes words.items) result (B.seen board.old) (B.seen board.new)) }
     ensures idle { IfErr words (λ why. B.seen board.new ≡ B.seen board.old) }
 {
     match words {
@@ -79,11 +78,11 @@ fn answer<H: Host, B: Board>(alloc: Global, words: &[String], host: &mut H, boar
     requires off { (B.seen board.old).power ≡ false }
     requires none_out { (B.seen board.old).ledger.out ≡ None }
     requires none_waiting { (B.seen board.old).ledger.waiting ≡ [] }
-    requires none_answered { (B.seen board.old).ledger.answered ≡ [] }
+    requires never_used { use_of (B.seen board.old).ledger ≡ not_used }
     ensures carried { ProgramEnds usage VERSION.now (map string_bytes words.now)
-        (ended_at (H.outside host.old) (B.seen board.new).ledger.answered (B.seen board.new).ledger.standing
+        (ended_at (H.outside host.old) (use_of (B.seen board.new).ledger) (B.seen board.new).ledger.standing
         (H.outside host.new) result) }
-    ensures stays { HoldsAnswered (B.seen board.old) → HoldsAtStatus (map string_bytes words.now) result (B.seen board.new) }
+    ensures stays { HoldsAtStatus (map string_bytes words.now) result (B.seen board.old) (B.seen board.new) }
 {
     if is_one_word(words, "--help") {
         tell(host, usage().as_slice())
@@ -117,7 +116,7 @@ fn is_one_word(words: &[String], wanted: &str) -> bool
 
 /// Prints a text, and answers the exit status.
 fn tell<H: Host>(host: &mut H, text: &[u8]) -> u8
-    ensures { (final : Held) → PrintEnds text.now at_first (ended_at (H.outside host.old) [] final (H.outside host.new) result) }
+    ensures { (final : Held) → PrintEnds text.now at_first (ended_at (H.outside host.old) not_used final (H.outside host.new) result) }
 {
     match host.print(text) {
         Ok(()) => 0,

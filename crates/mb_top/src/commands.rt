@@ -1,11 +1,12 @@
 //! The commands by their words.
 
 ghost use Rattle.std.specs.Prelude.{◌≡◌, ◌<◌, ◌⊎◌, ℕ, MatchOption, List, Option, [], map, None, Some, false, string_bytes};
+ghost use Rattle.mb_model.specs.Board.{not_used, use_of};
 ghost use Rattle.mb_model.specs.Commands.{HasInputsFor, ComesToRefusal, IsFaultless};
 ghost use Rattle.mb_console.specs.Words.{Argument, IsCall, given_argument};
-ghost use Rattle.mb_top.specs.Top.{commands, command_of, Ends, HoldsAfter, HoldsAfterWords, HoldsAtStatus, CarriesOutWords};
+ghost use Rattle.mb_top.specs.CommandTable.{commands};
+ghost use Rattle.mb_top.specs.Top.{command_of, Ends, HoldsAfter, HoldsAfterWords, HoldsAtStatus, CarriesOutWords};
 ghost use Rattle.mb_tools_device.specs.Boards.{IsFresh, CarriesOutOn};
-ghost use Rattle.mb_tools_device.specs.Holding.{HoldsAnswered};
 
 use crate::table::{COMMANDS, Call, Command, call_in};
 use mb_board::Board;
@@ -43,9 +44,9 @@ fn command<H: Host, B: Board>(
     board: &mut B,
 ) -> Result<(), End>
     requires fresh { IsFresh (B.seen board.old) }
-    ensures carried { CarriesOutWords (map string_bytes words.now) (B.seen board.new).ledger.answered (B.seen board.new).ledger.standing
+    ensures carried { CarriesOutWords (map string_bytes words.now) (use_of (B.seen board.new).ledger) (B.seen board.new).ledger.standing
         (H.outside host.old) result (H.outside host.new) }
-    ensures stays { HoldsAnswered (B.seen board.old) → HoldsAfterWords (map string_bytes words.now) result (B.seen board.new) }
+    ensures stays { HoldsAfterWords (map string_bytes words.now) result (B.seen board.old) (B.seen board.new) }
 {
     counted_command::<H, B, Brand>(alloc, words, host, board, Blank::new(1))
 }
@@ -62,9 +63,9 @@ fn counted_command<H: Host, B: Board, L: Ledger>(
     requires parts { blank.parts ≡ L.parts }
     requires some { 0 < blank.parts }
     requires fresh { IsFresh (B.seen board.old) }
-    ensures carried { CarriesOutWords (map string_bytes words.now) (B.seen board.new).ledger.answered (B.seen board.new).ledger.standing
+    ensures carried { CarriesOutWords (map string_bytes words.now) (use_of (B.seen board.new).ledger) (B.seen board.new).ledger.standing
         (H.outside host.old) result (H.outside host.new) }
-    ensures stays { HoldsAnswered (B.seen board.old) → HoldsAfterWords (map string_bytes words.now) result (B.seen board.new) }
+    ensures stays { HoldsAfterWords (map string_bytes words.now) result (B.seen board.old) (B.seen board.new) }
 {
     let mut hashes = HashCount::<L>::begin(alloc, blank);
     match called(words) {
@@ -94,7 +95,7 @@ fn carry_out<H: Host, B: Board, L: Ledger>(
     requires fresh { IsFresh (B.seen board.old) }
     ensures carried { CarriesOutOn (command_of call.now.command (map given_argument call.now.arguments.items))
         (B.seen board.new) (H.outside host.old) result (H.outside host.new) }
-    ensures stays { HoldsAnswered (B.seen board.old) → HoldsAfter call.now.command result (B.seen board.new) }
+    ensures stays { HoldsAfter call.now.command result (B.seen board.old) (B.seen board.new) }
 {
     let given = &call.arguments;
     match call.command {
@@ -126,11 +127,11 @@ pub fn top<H: Host, B: Board>(alloc: Global, words: &[String], host: &mut H, boa
     requires off { (B.seen board.old).power ≡ false }
     requires none_out { (B.seen board.old).ledger.out ≡ None }
     requires none_waiting { (B.seen board.old).ledger.waiting ≡ [] }
-    requires none_answered { (B.seen board.old).ledger.answered ≡ [] }
+    requires never_used { use_of (B.seen board.old).ledger ≡ not_used }
     ensures ends { Ends (map string_bytes words.now) (record {
       before = H.outside host.old;
       after = H.outside host.new;
-      answered = (B.seen board.new).ledger.answered;
+      used = use_of (B.seen board.new).ledger;
       final = (B.seen board.new).ledger.standing;
       status = result;
     }) }
@@ -138,7 +139,7 @@ pub fn top<H: Host, B: Board>(alloc: Global, words: &[String], host: &mut H, boa
         → (files : List ℕ → Option (List ℕ)) → (H.outside host.old).files ≡ Some files → HasInputsFor (command_of called given) files
         → IsFaultless (H.outside host.old) (H.outside host.new)
         → (result ≡ 0) ⊎ (result ≡ 6) ⊎ ((result ≡ 7) × ComesToRefusal (command_of called given) files) }
-    ensures stays { HoldsAnswered (B.seen board.old) → HoldsAtStatus (map string_bytes words.now) result (B.seen board.new) }
+    ensures stays { HoldsAtStatus (map string_bytes words.now) result (B.seen board.old) (B.seen board.new) }
 {
     match command(alloc, words, host, board) {
         Ok(()) => 0,

@@ -27,8 +27,8 @@ fn loaded_board(alloc: Global, image: &[u8], event: Event) -> Result<SimBoard, N
     requires image { length image.now ≡ 1077248 }
     requires event { IsScriptEvent event }
     ensures { IfOk result (λ board. (board.power ≡ false) × IsLoaded board.memory
-        × (image_of board.memory ≡ image.now) × (board.ledger ≡ ledger_at_load board.memory (event ∷ []))
-        × (is_armed board.fuse.cut ≡ false)) }
+        × (image_of board.memory ≡ image.now) × (board.ledger ≡ ledger_at_load 1 0 board.memory (event ∷ []))
+        × (is_armed board.fuse.cut ≡ false) × (board.fuse.stops ≡ 0)) }
 {
     let mut events = Events::new(alloc);
     events.push(event)?;
@@ -213,8 +213,9 @@ fn answer_off(board: &mut SimBoard) -> bool
     requires off { board.old.power ≡ false }
     requires loaded { IsLoaded board.old.memory }
     requires unarmed { is_armed board.old.fuse.cut ≡ false }
+    requires unstopped { board.old.fuse.stops ≡ 0 }
     requires dead { IsBlank (image_of board.old.memory) }
-    requires waits { board.old.ledger ≡ ledger_at_load board.old.memory (Event.Off ∷ []) }
+    requires waits { board.old.ledger ≡ ledger_at_load 1 0 board.old.memory (Event.Off ∷ []) }
 {
     match board.take() {
         Some(event) => {

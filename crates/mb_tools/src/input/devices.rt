@@ -66,7 +66,8 @@ pub fn read_image<H: Host, L: Ledger>(
     ensures form { IfOk result (λ image. IsWellFormed image.bytes.items image.state) }
     ensures valid { IfOk result (λ image. Valid image.state) }
     ensures stored { IfOk result (λ image. Storable image.state) }
-    ensures read { IfOk result (λ image. HasInput (image_input name.now) (H.outside host.old) (H.outside host.new) image.state) }
+    ensures read { IfOk result (λ image. HasInput (image_input name.now) (H.outside host.old) (H.outside host.new)
+        (record { bytes = image.bytes.items; state = image.state })) }
     ensures err { IfErr result (StopsAt (image_input name.now) (H.outside host.old) (H.outside host.new)) }
 {
     let bytes = read_input(alloc, host, Role::Image, name)?;

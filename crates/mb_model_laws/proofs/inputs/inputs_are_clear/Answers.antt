@@ -18,7 +18,7 @@ returns c = record {
   code = λ name bytes value place are is faulty. omega (arith, is.0, faulty.0);
   draft = λ name bytes value place are is faulty. texts.drafts.never_both bytes value faulty.0 is faulty.2;
   order = λ name bytes value place are is faulty. texts.order_lines.never_both bytes value faulty.0 is faulty.2;
-  image = λ name bytes value place are is faulty. faults.well_formed_has_no_fault bytes value faulty.0 are is faulty.2;
+  image = λ name bytes value place are is faulty. faults.well_formed_has_no_fault bytes value.state faulty.0 are is.1 faulty.2;
   old_image = λ name bytes value place are is faulty. elim is.0 [
     | from_present state formed written ↦ faults.well_formed_has_no_fault bytes state faulty.0 are formed faulty.2.told
     | from_before none state formed written ↦ faulty.2.not_before state formed

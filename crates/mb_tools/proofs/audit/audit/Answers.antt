@@ -12,11 +12,11 @@ unfolding audit
 returns-in_err-image g c = λ final.
     let p = err_from_is_err_and c.from_residual.result c.from_residual.ensures.1 in
     let outside = g.H.Host.outside in
-    rw (p.1, p.2) (input_carried_out (image_input c.args.names.now.image.now) (audit_device (audit_files c.args.names.now)) at_first _ final (outside c.args.host.now) (outside c.read_image.new.host) c.in_err-image.field-0.0 refl refl c.in_err-image.ensures.err)
+    rw (p.1, p.2) (input_carried_out (image_input c.args.names.now.image.now) (λ image. audit_device (audit_files c.args.names.now) image.state) at_first _ final (outside c.args.host.now) (outside c.read_image.new.host) c.in_err-image.field-0.0 refl refl c.in_err-image.ensures.err)
 
 pub returns : goal.returns
 unfolding audit
 returns g c = λ final.
     let outside = g.H.Host.outside in
-    read_on (image_input c.args.names.now.image.now) (audit_device (audit_files c.args.names.now)) at_first _ final (outside c.args.host.now) (outside c.read_image.new.host) (outside c.audit_device.new.host) c.in_ok-image.image.state
+    read_on (image_input c.args.names.now.image.now) (λ image. audit_device (audit_files c.args.names.now) image.state) at_first _ final (outside c.args.host.now) (outside c.read_image.new.host) (outside c.audit_device.new.host) (record { bytes = c.in_ok-image.image.bytes.items; state = c.in_ok-image.image.state })
     c.audit_device.result c.in_ok-image.ensures.read (c.audit_device.ensures final)

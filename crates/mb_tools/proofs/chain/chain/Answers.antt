@@ -12,11 +12,11 @@ unfolding chain
 returns-in_err-image g c = λ final.
     let p = err_from_is_err_and c.from_residual.result c.from_residual.ensures.1 in
     let outside = g.H.Host.outside in
-    rw (p.1, p.2) (input_carried_out (image_input c.args.names.now.image.now) (chain_of (chain_files c.args.names.now)) at_first _ final (outside c.args.host.now) (outside c.read_image.new.host) c.in_err-image.field-0.0 refl refl c.in_err-image.ensures.err)
+    rw (p.1, p.2) (input_carried_out (image_input c.args.names.now.image.now) (λ image. chain_of (chain_files c.args.names.now) image.state) at_first _ final (outside c.args.host.now) (outside c.read_image.new.host) c.in_err-image.field-0.0 refl refl c.in_err-image.ensures.err)
 
 pub returns : goal.returns
 unfolding chain
 returns g c = λ final.
     let outside = g.H.Host.outside in
-    read_on (image_input c.args.names.now.image.now) (chain_of (chain_files c.args.names.now)) at_first _ final (outside c.args.host.now) (outside c.read_image.new.host) (outside c.chain_of.new.host) c.in_ok-image.image.state
+    read_on (image_input c.args.names.now.image.now) (λ image. chain_of (chain_files c.args.names.now) image.state) at_first _ final (outside c.args.host.now) (outside c.read_image.new.host) (outside c.chain_of.new.host) (record { bytes = c.in_ok-image.image.bytes.items; state = c.in_ok-image.image.state })
     c.chain_of.result c.in_ok-image.ensures.read (c.chain_of.ensures final)

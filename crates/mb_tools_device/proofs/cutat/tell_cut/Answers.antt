@@ -1,5 +1,6 @@
 use Rattle.std.proofs.Common.{◌≡◌, true, false, List, length, sym, ◌∙◌, ap, subst, arith, length-append}
 use Rattle.mb_model.specs.declared.event.Answered.{Answered}
+use Rattle.mb_model.specs.Board.{use_of}
 use Rattle.mb_tools_device.specs.CutCommand.{AnyLacksMemory, LastIsStopped}
 use Rattle.mb_tools_device.proofs.Buffers.{filled_whole}
 use Rattle.mb_tools_device.proofs.CutLemmas.{cut_lacks, cut_unstopped, cut_stopped}
@@ -8,14 +9,14 @@ use Rattle.mb_tools_device.proofs.cutat.tell_cut.Goals as goal
 pub returns-then-wants_memory : goal.returns-then-wants_memory
 returns-then-wants_memory g c = λ held left last.
     let ledger = (g.B.Board.seen c.args.board.now).ledger in
-    cut_lacks held ledger.standing ledger.answered (g.H.Host.outside c.args.host.now)
+    cut_lacks held ledger.standing (use_of ledger) (g.H.Host.outside c.args.host.now)
     (subst (λ (l : List Answered). AnyLacksMemory l) c.answered-answered.ensures (c.wants_memory.ensures.0 c.if-wants_memory.true))
 
 pub returns-then-not-last_is_stopped : goal.returns-then-not-last_is_stopped
 returns-then-not-last_is_stopped g c = λ held left last.
     let outside = g.H.Host.outside in
     let ledger = (g.B.Board.seen c.args.board.now).ledger in
-    cut_unstopped held ledger.standing ledger.answered (outside c.args.host.now) (outside c.print_text.new.host) c.print_text.result
+    cut_unstopped held ledger.standing (use_of ledger) (outside c.args.host.now) (outside c.print_text.new.host) c.print_text.result
     (λ lacks. let no : false ≡ true = sym c.if-wants_memory.false ∙ c.wants_memory.ensures.1 (subst (λ (l : List Answered). AnyLacksMemory l) (sym c.answered-answered.ensures) lacks) in cc)
     (λ stopped. let no : false ≡ true = sym c.if-not-last_is_stopped.true ∙ c.last_is_stopped.ensures.1 (subst LastIsStopped (sym c.answered-answered.ensures) stopped) in cc)
     c.print_text.ensures
@@ -29,7 +30,7 @@ returns g c = λ held left last.
     let sized : c.args.image.len ≡ length c.copy_image.new.out =
     omega (arith, c.requires.room, c.args.image.ok, ap length c.copy_image.ensures, length-append memory.flash memory.bbram, c.requires.loaded.flash, c.requires.loaded.bbram) in
     let filled = c.deref.ensures.value ∙ filled_whole c.args.image.len c.copy_image.new.out c.args.image.items sized ∙ c.copy_image.ensures in
-    cut_stopped held ledger.standing ledger.answered (outside c.args.host.now) (outside c.tell_state.new.host) c.tell_state.result
+    cut_stopped held ledger.standing (use_of ledger) (outside c.args.host.now) (outside c.tell_state.new.host) c.tell_state.result
     (λ lacks. let no : false ≡ true = sym c.if-wants_memory.false ∙ c.wants_memory.ensures.1 (subst (λ (l : List Answered). AnyLacksMemory l) (sym c.answered-answered.ensures) lacks) in cc)
     (subst LastIsStopped c.answered-answered.ensures (c.last_is_stopped.ensures.0 c.if-not-last_is_stopped.false))
-    (c.tell_state.ensures held ledger.standing ledger.answered left (last c.deref.result.now filled))
+    (c.tell_state.ensures held ledger.standing (use_of ledger) left (last c.deref.result.now filled))

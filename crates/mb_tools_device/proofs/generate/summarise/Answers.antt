@@ -4,7 +4,7 @@ use Rattle.mb_model.specs.declared.reply.Reply.TheVariants as reply
 use Rattle.sha2.specs.Sha256.{sha256}
 use Rattle.mb_model.specs.Lines.{text_of}
 use Rattle.mb_model.specs.Listing.{summary}
-use Rattle.mb_model.specs.Board.{Memory, image_of}
+use Rattle.mb_model.specs.Board.{Memory, image_of, use_of}
 use Rattle.mb_model.specs.Meaning.{StandsFor}
 use Rattle.mb_tools_device.proofs.Buffers.{filled_whole}
 use Rattle.mb_tools_device.proofs.GenerateLemmas.{summary_lacks, summary_told}
@@ -14,7 +14,7 @@ pub returns-then-wants_memory : goal.returns-then-wants_memory
 returns-then-wants_memory g c = λ past same.
     let board = c.args.board.now in
     let some = subst (λ l. Any (λ a. a.reply ≡ reply.NoMemory) l) c.answered-answered.ensures (c.if-wants_memory.ensures.0 refl) in
-    summary_lacks (g.B.Board.seen board).ledger.answered (g.B.Board.seen board).ledger.standing past
+    summary_lacks (use_of (g.B.Board.seen board).ledger) (g.B.Board.seen board).ledger.standing past
     (g.H.Host.outside c.args.host.now) some same
 
 pub returns : goal.returns
@@ -35,5 +35,5 @@ returns g c = λ past same.
     ∙ ap (λ h. text_of (summary answered c.log_length.result h)) (c.digest-hash.ensures ∙ ap sha256 (filled ∙ ap image_of (sym c.requires.answered))) in
     let none : Any (λ a. a.reply ≡ reply.NoMemory) answered → ⊥ =
     λ some. (let bad : false ≡ true = c.if-wants_memory.ensures.1 (subst (λ l. Any (λ a. a.reply ≡ reply.NoMemory) l) (sym c.answered-answered.ensures) some) in cc) in
-    summary_told answered final c.log_length.result c.as_slice.result.now past (g.H.Host.outside c.args.host.now) (g.H.Host.outside c.print_text.new.host) c.print_text.result
+    summary_told (use_of (g.B.Board.seen board).ledger) final c.log_length.result c.as_slice.result.now past (g.H.Host.outside c.args.host.now) (g.H.Host.outside c.print_text.new.host) c.print_text.result
     none (record { last = last; shown = shown; entries_is = counted }) told c.print_text.ensures same

@@ -1,4 +1,4 @@
-use Rattle.std.proofs.Common.{refl}
+use Rattle.std.proofs.Common.{refl, inl}
 use Rattle.std.proofs.lemmas.Result.{err_from_is_err_and}
 use Rattle.mb_model.specs.Commands.{at_first}
 use Rattle.mb_model.specs.RunCommand.{read_noise}
@@ -11,10 +11,13 @@ pub returns-in_err-events-clause-carried : goal.returns-in_err-events-clause-car
 returns-in_err-events-clause-carried g c = λ state held.
     let p = err_from_is_err_and c.from_residual.result c.from_residual.ensures.1 in
     let outside = g.H.Host.outside in
-    rw (p.1, p.2) (input_carried_out (script_input c.args.names.now.script.now) (read_noise (run_files c.args.names.now) state) at_first _ _ (outside c.args.host.now) (outside c.read_as.new.host) c.in_err-events.field-0.0 refl c.requires.fresh.none_answered c.in_err-events.ensures.err)
+    rw (p.1, p.2) (input_carried_out (script_input c.args.names.now.script.now) (read_noise (run_files c.args.names.now) (record { bytes = c.args.image.items; state = state })) at_first _ _ (outside c.args.host.now) (outside c.read_as.new.host) c.in_err-events.field-0.0 refl c.requires.fresh.never_used c.in_err-events.ensures.err)
 
 pub returns-clause-carried : goal.returns-clause-carried
 returns-clause-carried g c = λ state held.
     let outside = g.H.Host.outside in
-    read_on (script_input c.args.names.now.script.now) (read_noise (run_files c.args.names.now) state) at_first _ _ (outside c.args.host.now) (outside c.read_as.new.host) (outside c.run_events.new.host) c.in_ok-events.events
+    read_on (script_input c.args.names.now.script.now) (read_noise (run_files c.args.names.now) (record { bytes = c.args.image.items; state = state })) at_first _ _ (outside c.args.host.now) (outside c.read_as.new.host) (outside c.run_events.new.host) c.in_ok-events.events
     c.run_events.result c.in_ok-events.ensures.read (c.run_events.ensures.carried state held)
+
+pub returns-in_err-events-clause-stays : goal.returns-in_err-events-clause-stays
+returns-in_err-events-clause-stays g c = inl refl

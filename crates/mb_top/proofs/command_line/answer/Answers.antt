@@ -1,4 +1,5 @@
 use Rattle.std.proofs.Common.{map, string_bytes, [], refl, ◌∙◌, subst}
+use Rattle.mb_model.specs.Board.{not_used}
 use Rattle.mb_model.specs.Commands.{PrintEnds, at_first}
 use Rattle.mb_console.specs.Ending.{ended_at}
 use Rattle.mb_top.specs.Usage.{usage}
@@ -9,13 +10,13 @@ pub returns-then-is_one_word-clause-carried : goal.returns-then-is_one_word-clau
 returns-then-is_one_word-clause-carried g c =
     let outside = g.H.Host.outside in
     let final = (g.B.Board.seen c.args.board.now).ledger.standing in
-    help_carried_out usage _ (map string_bytes c.args.words.now) _ _ (outside c.args.host.now) (outside c.tell.new.host) c.tell.result (c.if-is_one_word.ensures.0 refl) c.requires.none_answered
-    (subst (λ text. PrintEnds text at_first (ended_at (outside c.args.host.now) [] final (outside c.tell.new.host) c.tell.result)) (c.as_slice.ensures.value ∙ c.usage.ensures) (c.tell.ensures final))
+    help_carried_out usage _ (map string_bytes c.args.words.now) _ _ (outside c.args.host.now) (outside c.tell.new.host) c.tell.result (c.if-is_one_word.ensures.0 refl) c.requires.never_used
+    (subst (λ text. PrintEnds text at_first (ended_at (outside c.args.host.now) not_used final (outside c.tell.new.host) c.tell.result)) (c.as_slice.ensures.value ∙ c.usage.ensures) (c.tell.ensures final))
 
 pub returns-then-is_one_word-2-clause-carried : goal.returns-then-is_one_word-2-clause-carried
 returns-then-is_one_word-2-clause-carried g c =
     let outside = g.H.Host.outside in
-    version_carried_out _ _ (map string_bytes c.args.words.now) _ _ (outside c.args.host.now) (outside c.tell-then-is_one_word-2.new.host) c.tell-then-is_one_word-2.result (c.if-is_one_word-2.ensures.0 refl) c.requires.none_answered
+    version_carried_out _ _ (map string_bytes c.args.words.now) _ _ (outside c.args.host.now) (outside c.tell-then-is_one_word-2.new.host) c.tell-then-is_one_word-2.result (c.if-is_one_word-2.ensures.0 refl) c.requires.never_used
     (c.tell-then-is_one_word-2.ensures _)
 
 pub returns-else-is_one_word-2-clause-carried : goal.returns-else-is_one_word-2-clause-carried

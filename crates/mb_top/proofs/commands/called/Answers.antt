@@ -1,4 +1,4 @@
-use Rattle.mb_top.specs.Top.{commands}
+use Rattle.mb_top.specs.CommandTable.{commands}
 use Rattle.mb_top.proofs.commands.called.Goals as goal
 
 pub returns : goal.returns

@@ -36,6 +36,8 @@ may_answer loaded memory standing power level armed given sized blank stood same
       valid = tt;
       clean = λ has_to_be. (sized.bbram, blank);
       kept = tt;
+      untouched = λ quiet. refl;
+      spared = record { log = record { kept = λ root header is held position below. refl }; unused = λ n is. refl };
     }
 
 first_is : (x y : Event) (xs ys : List Event) → x ∷ xs ≡ y ∷ ys → x ≡ y
