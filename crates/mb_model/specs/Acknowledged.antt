@@ -62,9 +62,9 @@ LeavesCleanMemory each = LeavesMemory each ⊎ (each.event ≡ Boot)
 
 -- A board that held `standing` at the answer before, and holds `now`, may answer the event with this reply: one step
 -- leads from the world before to the world now, whose state a device can have; each secret and key of that state was
--- kept rightly; and battery-backed memory is clean if it has to be. If the reply tells of no change, nothing was written
--- beyond what handing out the event does, and nothing at a boot of a clean memory. The sectors that hold a signed entry
--- of the log keep their bytes, and so do those that hold nothing.
+-- kept rightly; and battery-backed memory is clean if it has to be. If the reply tells of no change, nothing was
+-- written beyond what handing out the event does, and nothing at a boot of a clean memory. The sectors that hold a
+-- signed entry of the log keep their bytes, and so do those that hold nothing.
 pub record MayAnswer (standing now : Held) (event : Event) (reply : Reply) : Type 0 where
   pub before : World
   pub after : World

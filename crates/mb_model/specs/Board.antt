@@ -92,8 +92,8 @@ ledger_at_load loads stops memory events = record {
 
 -- ---- an answer and what was counted
 
--- how many calls power losses have stopped by an answer: one more if the answer is `stopped`, and else as many as by the
--- answer before
+-- how many calls power losses have stopped by an answer: one more if the answer is `stopped`, and else as many as by
+-- the answer before
 abbrev pub stops_by_answer : Reply → ℕ → ℕ
 stops_by_answer reply.Stopped stops = stops + 1
 stops_by_answer other stops = stops

@@ -1,4 +1,5 @@
--- The sectors of the flash that no event changes: those that hold a signed entry of the log, and those that hold nothing.
+-- Sectors of the flash that no event changes: those with a signed entry of the log, and those that hold nothing. Can
+-- an event overwrite what was signed?
 use Rattle.std.specs.Prelude.{◌≡◌, ℕ, ◌<◌, ◌≤◌, ◌⊎◌, List}
 use Rattle.mb_model.specs.declared.limits.TheConstants.{SECTOR_COUNT}
 use Rattle.mb_model.specs.declared.stored.Root.{Root}

@@ -18,7 +18,7 @@ use Rattle.mb_model.specs.Lines.{IsLine, IsBeginning, ends_early, ReadsLines, Te
 use Rattle.mb_model.specs.Script.{IsName, SaysEvent, is_skipped, IsScript, with_before, commands_in, drawn_events}
 use Rattle.mb_model.specs.Drafts.{SayAct, AreLoadLines, IsDraft}
 use Rattle.mb_model.specs.Listing.{summary}
-use Rattle.mb_model_examples.specs.TextExamples.{LineExamples, ScriptExamples, script_text, script_events, DrawExamples, ReplyExamples, DraftExamples, load, OrderLineExamples, ListingExamples}
+use Rattle.mb_model_examples.specs.TextExamples.{LineExamples, ScriptExamples, script_text, script_events, DrawExamples, ReplyExamples, DraftExamples, order_of_code, OrderLineExamples, ListingExamples}
 use Rattle.mb_model_lemmas.proofs.OrderLineLemmas as lemmas
 use Rattle.mb_model_lemmas.proofs.DraftLemmas.{surrender_draft}
 use Rattle.mb_model.specs.OrderLines.{IsOrderLine}
@@ -200,7 +200,7 @@ load_lines = record {
   spelled = refl;
 }
 
-load_draft : IsDraft (codes "order load 3" ∷ codes "version 258" ∷ codes "trust never" ∷ codes "code 616263" ∷ []) load
+load_draft : IsDraft (codes "order load 3" ∷ codes "version 258" ∷ codes "trust never" ∷ codes "code 616263" ∷ []) order_of_code
 unfolding digits
 load_draft = record {
   target_lines = [];
@@ -236,7 +236,7 @@ drafts = record {
   surrender = surrender_draft;
   load = load_draft;
   too_short = ends_early (record {
-    good = record { more = codes "code 616263" ∷ []; value = load; stands = load_draft };
+    good = record { more = codes "code 616263" ∷ []; value = order_of_code; stands = load_draft };
     unfinished = half_load;
     number = refl;
   });

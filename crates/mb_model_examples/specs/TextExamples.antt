@@ -75,8 +75,8 @@ pub record ReplyExamples : Type 0 where
 -- ---- drafts
 
 -- load the three bytes abc into layer 3
-abbrev pub load : Order
-load =
+abbrev pub order_of_code : Order
+order_of_code =
     record {
       layer = 3;
       targets = [];
@@ -88,7 +88,8 @@ load =
 -- what drafts mean, and where they fail
 pub record DraftExamples : Type 0 where
   pub surrender : IsDraft (codes "order surrender 2" ∷ codes "target length 7" ∷ []) surrender
-  pub load : IsDraft (codes "order load 3" ∷ codes "version 258" ∷ codes "trust never" ∷ codes "code 616263" ∷ []) load
+  pub load : IsDraft (codes "order load 3" ∷ codes "version 258" ∷ codes "trust never" ∷ codes "code 616263" ∷ [])
+      order_of_code
   -- a load without its code ends too early
   pub too_short : FailsAtLine IsDraft (codes "order load 3" ∷ codes "version 258" ∷ codes "trust never" ∷ []) 4
 

@@ -4,4 +4,3 @@ pub mod ReplyLemmas
 pub mod WorkloadLemmas
 pub mod TrustLemmas
 pub mod SectorLemmas
-pub mod LoadLemmas

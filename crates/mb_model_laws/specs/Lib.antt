@@ -5,4 +5,3 @@ pub mod MeaningLaws
 pub mod SectorLaws
 pub mod ChainLaws
 pub mod TrustLaws
-pub mod LoadLaws

@@ -8,7 +8,6 @@ mod alive;
 mod chains;
 mod inputs;
 mod laws;
-mod loads;
 mod meaning;
 mod reader;
 mod refusals;
@@ -33,7 +32,6 @@ pub use laws::{
     ruled_logs_are_bounded, ruled_logs_have_layers, runs_over_reliable, the_last_counts,
     unreliable_regions_are_empty,
 };
-pub use loads::loads_are_counted;
 pub use meaning::{
     clean_memories_stand_for_it, factory_images_are_well_formed, images_are_clear,
     old_images_are_clear, one_meaning, written_images_are_well_formed,

@@ -33,5 +33,5 @@ abbrev pub IsDone : Result (Unit {0}) End → Type 0
 IsDone result = result ≡ Ok tt
 
 -- an allocation failed
-abbrev pub LacksMemory : Result (Unit {0}) End → Type 0
-LacksMemory result = result ≡ Err end.NoMemory
+abbrev pub IsOutOfMemory : Result (Unit {0}) End → Type 0
+IsOutOfMemory result = result ≡ Err end.NoMemory

@@ -12,7 +12,7 @@ ghost use Rattle.mb_console.specs.Words.{given_argument};
 ghost use Rattle.mb_console.specs.Ending.{CarriesOutRest};
 ghost use Rattle.mb_tools_device.specs.CutCommand.{AreUncut, CutRun, IsCutServed, cut_events, cutat, read_uncut_script, read_cut_noise, serve_twice, serve_first, tell_cut, tell_state};
 ghost use Rattle.mb_tools_device.specs.Boards.{IsFresh, CarriesOutOn};
-ghost use Rattle.mb_tools_device.specs.Holding.{HoldsShut, EndsServed, EndsHolding, IsDone, LacksMemory};
+ghost use Rattle.mb_tools_device.specs.Holding.{HoldsShut, EndsServed, EndsHolding, IsDone, IsOutOfMemory};
 ghost use Rattle.mb_tools_device.specs.Names.{cut_files, cut_given};
 ghost use Rattle.mb_tools_device.specs.TwoRuns.{AreRuns, CanBeCut, IsImageLeft};
 
@@ -71,7 +71,7 @@ pub fn cutat<H: Host, B: Board, L: Ledger>(
     requires fresh { IsFresh (B.seen board.old) }
     ensures carried { CarriesOutOn (cutat (cut_files names.now)) (B.seen board.new) (H.outside host.old)
         result (H.outside host.new) }
-    ensures stays { EndsHolding (IsDone result) (LacksMemory result) (B.seen board.old) (B.seen board.new) }
+    ensures stays { EndsHolding (IsDone result) (IsOutOfMemory result) (B.seen board.old) (B.seen board.new) }
 {
     let image = read_image(alloc, host, names.image, hashes)?;
     cut_image(alloc, names, image.bytes, host, board, hashes)
@@ -93,7 +93,7 @@ fn cut_image<H: Host, B: Board, L: Ledger>(
     ensures carried { (state : Option Stands) → IsWellFormed image.items state
         → CarriesOutOn (read_uncut_script (cut_files names.now) (record { bytes = image.items; state = state })) (B.seen board.new) (H.outside host.old)
         result (H.outside host.new) }
-    ensures stays { EndsHolding (IsDone result) (LacksMemory result) (B.seen board.old) (B.seen board.new) }
+    ensures stays { EndsHolding (IsDone result) (IsOutOfMemory result) (B.seen board.old) (B.seen board.new) }
 {
     let events = read_as(alloc, host, Role::Script, names.script, UncutScriptForm)?;
     cut_script(alloc, names, image, events, host, board, hashes)
@@ -118,7 +118,7 @@ fn cut_script<H: Host, B: Board, L: Ledger>(
     ensures carried { (state : Option Stands) → IsWellFormed image.items state
         → CarriesOutOn (read_cut_noise (cut_files names.now) (record { bytes = image.items; state = state }) events) (B.seen board.new) (H.outside host.old)
         result (H.outside host.new) }
-    ensures stays { EndsHolding (IsDone result) (LacksMemory result) (B.seen board.old) (B.seen board.new) }
+    ensures stays { EndsHolding (IsDone result) (IsOutOfMemory result) (B.seen board.old) (B.seen board.new) }
 {
     let drawn = read_draws(alloc, host, names.noise, events)?;
     cut_drawn(alloc, names, image, drawn, host, board, hashes)
@@ -143,7 +143,7 @@ fn cut_drawn<H: Host, B: Board, L: Ledger>(
     ensures carried { (state : Option Stands) → IsWellFormed image.items state
         → CarriesOutOn (serve_twice (cut_files names.now) (record { bytes = image.items; state = state }) events) (B.seen board.new) (H.outside host.old)
         result (H.outside host.new) }
-    ensures stays { EndsHolding (IsDone result) (LacksMemory result) (B.seen board.old) (B.seen board.new) }
+    ensures stays { EndsHolding (IsDone result) (IsOutOfMemory result) (B.seen board.old) (B.seen board.new) }
 {
     let Ok(runs) = two_runs(alloc, events, names.count, names.fill) else {
         return Err(End::NoMemory);
@@ -171,7 +171,7 @@ fn serve_first<H: Host, B: Board, L: Ledger>(
         → AreRuns names.now.count runs.first runs.second cut
         → CarriesOutOn (serve_first (cut_files names.now) (record { bytes = image.items; state = state }) cut) (B.seen board.new) (H.outside host.old)
         result (H.outside host.new) }
-    ensures stays { EndsHolding (IsDone result) (LacksMemory result) (B.seen board.old) (B.seen board.new) }
+    ensures stays { EndsHolding (IsDone result) (IsOutOfMemory result) (B.seen board.old) (B.seen board.new) }
 {
     let Ok(mut before) = Vec::from_slice(alloc, &image) else {
         return Err(End::NoMemory);
@@ -211,7 +211,7 @@ fn serve_cut<H: Host, B: Board, L: Ledger>(
         → CarriesOutRest (load image.items (serve (IsCutServed (record { bytes = image.items; state = state }) names.now.count cut) (tell_cut held)))
         (record { used = use_of (B.seen board.old).ledger; wrote = false }) (use_of (B.seen board.new).ledger)
         (B.seen board.new).ledger.standing (H.outside host.old) result (H.outside host.new) }
-    ensures stays { HoldsShut (B.seen board.old) → EndsServed (IsDone result) (LacksMemory result) (B.seen board.new) }
+    ensures stays { HoldsShut (B.seen board.old) → EndsServed (IsDone result) (IsOutOfMemory result) (B.seen board.new) }
 {
     match board.load(alloc, &image, events) {
         Ok(()) => {}

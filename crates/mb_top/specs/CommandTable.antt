@@ -8,16 +8,16 @@ use Rattle.mb_top.specs.declared.table.Command.{Command}
 use Rattle.mb_top.specs.declared.table.Command.TheVariants as command
 
 -- the name of a file
-abbrev pub file : Kind
-file = kind.File
+abbrev pub a_file : Kind
+a_file = kind.File
 
 -- a number in decimal digits, from the first to the second
-abbrev pub number : ℕ → ℕ → Kind
-number least most = kind.Number least most
+abbrev pub a_number : ℕ → ℕ → Kind
+a_number least most = kind.Number least most
 
 -- 1 to 16 bytes in hexadecimal digits
-abbrev pub hex : Kind
-hex = kind.Hex
+abbrev pub a_fill : Kind
+a_fill = kind.Hex
 
 -- a command, its name, and the kinds of the words after the name
 abbrev pub row : Command → List ℕ → List Kind → Row Command
@@ -27,43 +27,43 @@ row called name kinds = (called, name, kinds)
 unfoldable pub commands : List (Row Command)
 commands =
     -- run IMAGE SCRIPT NOISE
-    row command.Run (codes "run") (file ∷ file ∷ file ∷ [])
+    row command.Run (codes "run") (a_file ∷ a_file ∷ a_file ∷ [])
     -- cutat IMAGE SCRIPT NOISE COUNT FILL
-    ∷ row command.Cutat (codes "cutat") (file ∷ file ∷ file ∷ number 1 100000 ∷ hex ∷ [])
+    ∷ row command.Cutat (codes "cutat") (a_file ∷ a_file ∷ a_file ∷ a_number 1 100000 ∷ a_fill ∷ [])
     -- verify ROOT CHAIN KEYNUMBER
-    ∷ row command.Verify (codes "verify") (file ∷ file ∷ number 0 4294967295 ∷ [])
+    ∷ row command.Verify (codes "verify") (a_file ∷ a_file ∷ a_number 0 4294967295 ∷ [])
     -- audit IMAGE ROOT CHAIN KEYNUMBER
-    ∷ row command.Audit (codes "audit") (file ∷ file ∷ file ∷ number 0 4294967295 ∷ [])
+    ∷ row command.Audit (codes "audit") (a_file ∷ a_file ∷ a_file ∷ a_number 0 4294967295 ∷ [])
     -- trust ROOT CHAIN KEYNUMBER POLICY
-    ∷ row command.Trust (codes "trust") (file ∷ file ∷ number 0 4294967295 ∷ file ∷ [])
+    ∷ row command.Trust (codes "trust") (a_file ∷ a_file ∷ a_number 0 4294967295 ∷ a_file ∷ [])
     -- chain IMAGE OUT
-    ∷ row command.Chain (codes "chain") (file ∷ file ∷ [])
+    ∷ row command.Chain (codes "chain") (a_file ∷ a_file ∷ [])
     -- attach CHAIN STATEMENT OUT
-    ∷ row command.Attach (codes "attach") (file ∷ file ∷ file ∷ [])
+    ∷ row command.Attach (codes "attach") (a_file ∷ a_file ∷ a_file ∷ [])
     -- fleet ROOT REGISTER ITEMS
-    ∷ row command.Fleet (codes "fleet") (file ∷ file ∷ file ∷ [])
+    ∷ row command.Fleet (codes "fleet") (a_file ∷ a_file ∷ a_file ∷ [])
     -- factory NOISE KEY OWNER CODE IMAGE
-    ∷ row command.Factory (codes "factory") (file ∷ file ∷ file ∷ file ∷ file ∷ [])
+    ∷ row command.Factory (codes "factory") (a_file ∷ a_file ∷ a_file ∷ a_file ∷ a_file ∷ [])
     -- keygen NOISE KEY PUBLIC
-    ∷ row command.Keygen (codes "keygen") (file ∷ file ∷ file ∷ [])
+    ∷ row command.Keygen (codes "keygen") (a_file ∷ a_file ∷ a_file ∷ [])
     -- sign KEY DRAFT OUT
-    ∷ row command.Sign (codes "sign") (file ∷ file ∷ file ∷ [])
+    ∷ row command.Sign (codes "sign") (a_file ∷ a_file ∷ a_file ∷ [])
     -- countersign KEY LAYER ORDER OUT
-    ∷ row command.Countersign (codes "countersign") (file ∷ number 2 3 ∷ file ∷ file ∷ [])
+    ∷ row command.Countersign (codes "countersign") (a_file ∷ a_number 2 3 ∷ a_file ∷ a_file ∷ [])
     -- hsskeygen NOISE LEVELS KEY PUBLIC
-    ∷ row command.Hsskeygen (codes "hsskeygen") (file ∷ number 1 8 ∷ file ∷ file ∷ [])
+    ∷ row command.Hsskeygen (codes "hsskeygen") (a_file ∷ a_number 1 8 ∷ a_file ∷ a_file ∷ [])
     -- endorse KEY ROOT OUT
-    ∷ row command.Endorse (codes "endorse") (file ∷ file ∷ file ∷ [])
+    ∷ row command.Endorse (codes "endorse") (a_file ∷ a_file ∷ a_file ∷ [])
     -- endorsed PUBLIC ROOT ENDORSEMENT
-    ∷ row command.Endorsed (codes "endorsed") (file ∷ file ∷ file ∷ [])
+    ∷ row command.Endorsed (codes "endorsed") (a_file ∷ a_file ∷ a_file ∷ [])
     -- migrate IMAGE OUT
-    ∷ row command.Migrate (codes "migrate") (file ∷ file ∷ [])
+    ∷ row command.Migrate (codes "migrate") (a_file ∷ a_file ∷ [])
     -- app IMAGE LAYER INPUT STEPS
-    ∷ row command.App (codes "app") (file ∷ number 2 3 ∷ file ∷ number 1 10000000 ∷ [])
+    ∷ row command.App (codes "app") (a_file ∷ a_number 2 3 ∷ a_file ∷ a_number 1 10000000 ∷ [])
     -- asm TEXT OUT
-    ∷ row command.Asm (codes "asm") (file ∷ file ∷ [])
+    ∷ row command.Asm (codes "asm") (a_file ∷ a_file ∷ [])
     -- disasm CODE OUT
-    ∷ row command.Disasm (codes "disasm") (file ∷ file ∷ [])
+    ∷ row command.Disasm (codes "disasm") (a_file ∷ a_file ∷ [])
     -- generate NUMBER ROUNDS IMAGE SCRIPT NOISE
-    ∷ row command.Generate (codes "generate") (number 0 4294967295 ∷ number 1 24 ∷ file ∷ file ∷ file ∷ [])
+    ∷ row command.Generate (codes "generate") (a_number 0 4294967295 ∷ a_number 1 24 ∷ a_file ∷ a_file ∷ a_file ∷ [])
     ∷ []

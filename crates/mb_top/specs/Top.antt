@@ -32,7 +32,7 @@ use Rattle.mb_tools_fleet.specs.FleetCommand.{fleet}
 use Rattle.mb_tools_fleet.specs.FleetWords.{fleet_given}
 use Rattle.mb_tools_device.specs.CutCommand.{cutat}
 use Rattle.mb_tools_device.specs.Names.{run_given, cut_given, generate_given}
-use Rattle.mb_tools_device.specs.Holding.{EndsHolding, IsDone, LacksMemory}
+use Rattle.mb_tools_device.specs.Holding.{EndsHolding, IsDone, IsOutOfMemory}
 use Rattle.mb_top.specs.CommandTable.{commands}
 use Rattle.mb_top.specs.declared.table.Command.{Command}
 use Rattle.mb_top.specs.declared.table.Command.TheVariants as command
@@ -87,12 +87,12 @@ CallsCutat words = (given : List Argument) × IsCall commands words command.Cuta
 -- of `cutat` failed between its two runs, and power was turned off.
 abbrev pub HoldsAfter : Command → Result (Unit {0}) End → Seen → Seen → Type 0
 HoldsAfter called result before after =
-    EndsHolding (IsDone result) ((called ≡ command.Cutat) × LacksMemory result) before after
+    EndsHolding (IsDone result) ((called ≡ command.Cutat) × IsOutOfMemory result) before after
 
 -- what a board holds once the words have been carried out, up to the line of the status
 abbrev pub HoldsAfterWords : List (List ℕ) → Result (Unit {0}) End → Seen → Seen → Type 0
 HoldsAfterWords words result before after =
-    EndsHolding (IsDone result) (CallsCutat words × LacksMemory result) before after
+    EndsHolding (IsDone result) (CallsCutat words × IsOutOfMemory result) before after
 
 -- what a board holds when the words have ended with this exit status
 abbrev pub HoldsAtStatus : List (List ℕ) → ℕ → Seen → Seen → Type 0

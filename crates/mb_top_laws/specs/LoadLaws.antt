@@ -1,0 +1,39 @@
+-- How often a command loads a board. Does a command that serves no device touch one?
+use Rattle.std.specs.Prelude.{◌≡◌, ◌≤◌, ◌⊎◌, Bool, true, false, List, codes}
+use Rattle.mb_model.specs.Board.{not_used}
+use Rattle.mb_model.specs.Commands.{Ended, Stops, CommandEnds, at_first}
+use Rattle.mb_console.specs.Words.{Argument}
+use Rattle.mb_top.specs.declared.table.Command.{Command}
+use Rattle.mb_top.specs.declared.table.Command.TheVariants as command
+use Rattle.mb_top.specs.Top.{command_of}
+
+-- whether a command serves a device
+abbrev pub serves : Command → Bool
+serves command.Run = true
+serves command.Cutat = true
+serves command.Generate = true
+serves _ = false
+
+-- a command with these arguments has ended so
+abbrev pub EndsCalled : Command → List Argument → Ended → Type 0
+EndsCalled called given e = CommandEnds (command_of called given) at_first e
+
+-- a command that serves no device has loaded no board, however it ends
+abbrev pub NothingIsLoaded : Ended → Type 0
+NothingIsLoaded e =
+    (called : Command) (given : List Argument) → serves called ≡ false → EndsCalled called given e → e.used ≡ not_used
+
+-- The board was never loaded, and the status is 3, 4, 5 or 6; or it was loaded this often, and the command is done, or
+-- an output failed, or memory was lacking.
+abbrev pub EndsAfterLoads : Type 0 → Ended → Type 0
+EndsAfterLoads Often e = ((e.used ≡ not_used) × (3 ≤ e.status)) ⊎ (Often × ((e.status ≡ 0) ⊎ (5 ≤ e.status)))
+
+-- `run` and `generate` load a board once, or end before they do
+pub record LoadsOnce (e : Ended) : Type 0 where
+  pub run : (given : List Argument) → EndsCalled command.Run given e → EndsAfterLoads (e.used.loads ≡ 1) e
+  pub generate : (given : List Argument) → EndsCalled command.Generate given e → EndsAfterLoads (e.used.loads ≡ 1) e
+
+-- `cutat` loads a board twice, or once and memory was lacking, or ends before it does
+pub record LoadsTwice (e : Ended) : Type 0 where
+  pub cutat : (given : List Argument) → EndsCalled command.Cutat given e
+      → EndsAfterLoads (((e.used.loads ≡ 1) × (e.status ≡ 6)) ⊎ (e.used.loads ≡ 2)) e

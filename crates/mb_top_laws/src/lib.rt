@@ -1,0 +1,8 @@
+//! Laws of the twenty commands together.
+//!
+//! This crate owns what holds of each row of the table of `mb_top`, by its definition alone. No command calls it.
+#![tactic(auto)]
+
+mod loads;
+
+pub use loads::loads_are_counted;
