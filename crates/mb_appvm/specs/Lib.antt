@@ -6,3 +6,4 @@ pub mod Assembly
 pub mod Reading
 pub mod Checking
 pub mod Listing
+pub mod NumberLaws

@@ -1,7 +1,8 @@
-//! Laws of the definitions, as the contracts of functions that do nothing.
+//! Laws of the definitions, and the numbers of the code, as the contracts of functions that do nothing.
 
 ghost use Rattle.mb_appvm.specs.Runs.{RunsEndOnce, RunsSeeNothingElse};
 ghost use Rattle.mb_appvm.specs.Listing.{AssembliesAreClear, ListingsAssemble};
+ghost use Rattle.mb_appvm.specs.NumberLaws.{ApplicationNumbersAre};
 
 /// A run ends in one way. The code's numbers are bytes.
 pub fn runs_end_once()
@@ -22,4 +23,9 @@ pub fn assemblies_are_clear()
 /// The text that is written of a code assembles to that code and to no other, and no line of it is wrong.
 pub fn listings_assemble()
     ensures { ListingsAssemble }
+{}
+
+/// The limits of the machine are these numbers.
+pub fn numbers_are()
+    ensures { ApplicationNumbersAre }
 {}

@@ -25,7 +25,9 @@ pub use assembling::{AsmEnd, assemble};
 pub use disassembling::{DisasmEnd, disassemble};
 pub use instruction::{Instruction, Name, Opcode, Operation, Plain};
 pub use keyword::{Jump, Keyword};
-pub use laws::{assemblies_are_clear, listings_assemble, runs_end_once, runs_see_nothing_else};
+pub use laws::{
+    assemblies_are_clear, listings_assemble, numbers_are, runs_end_once, runs_see_nothing_else,
+};
 pub use limits::{CALL_LIMIT, MEMORY_LENGTH, OUTPUT_LIMIT, STACK_LIMIT};
 pub use lines::Said;
 pub use running::{AppEnd, run_app};

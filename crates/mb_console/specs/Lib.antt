@@ -2,3 +2,4 @@ pub mod Words
 pub mod Ending
 pub mod Outputs
 pub mod Forms
+pub mod NumberLaws

@@ -7,11 +7,13 @@
 
 mod end;
 mod input;
+mod numbers;
 mod output;
 mod words;
 
 pub use end::{End, LINE_LIMIT, LongLine, ShortLine, refused, refused_by_number, stop};
 pub use input::{Form, Unread, read_as, read_input};
+pub use numbers::numbers_are;
 pub use output::{Output, finish, print_text, write_all};
 pub use words::{
     Argument, Arguments, Kind, WORD_LIMIT, Word, arguments_of, file, hex, is_word, number,

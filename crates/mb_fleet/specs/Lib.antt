@@ -11,3 +11,4 @@ pub mod Places
 pub mod Indexes
 pub mod Laws
 pub mod Examples
+pub mod NumberLaws

@@ -1,10 +1,12 @@
-//! Laws of the definitions, and the definitions at work, as the contracts of functions that do nothing.
+//! Laws of the definitions, the definitions at work, and the numbers of the code, as the contracts of functions that do
+//! nothing.
 
 ghost use Rattle.mb_format.specs.Format.{IsClearWhole};
 ghost use Rattle.mb_fleet.specs.RegisterFormat.{register_format};
 ghost use Rattle.mb_fleet.specs.Examples.{FleetBytesExamples, FleetBytesCounterExamples, ShownExamples};
 ghost use Rattle.mb_fleet.specs.Examples.{ShownCounterExamples, QuestionExamples, QuestionCounterExamples};
 ghost use Rattle.mb_fleet.specs.Laws.{FleetInputsAreClear, ItemsAreClear, RowsHaveOneAnswer, ChainsHaveOneAnswer};
+ghost use Rattle.mb_fleet.specs.NumberLaws.{RegisterNumbersAre};
 
 /// Bytes as a whole spell one register, or fail at one offset; never two of either, never both, always one.
 pub fn registers_are_clear()
@@ -59,4 +61,9 @@ pub fn question_examples()
 /// What a register of two small rows does not answer to questions.
 pub fn question_counter_examples()
     ensures { QuestionCounterExamples }
+{}
+
+/// The limits of a register and of its answers are these numbers.
+pub fn numbers_are()
+    ensures { RegisterNumbersAre }
 {}

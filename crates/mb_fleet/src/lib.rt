@@ -25,8 +25,9 @@ pub use fleet::Fleet;
 pub use item::{Item, read_items};
 pub use laws::{
     chains_have_one_answer, fleet_bytes_counter_examples, fleet_bytes_examples,
-    fleet_inputs_are_clear, items_are_clear, question_counter_examples, question_examples,
-    registers_are_clear, rows_have_one_answer, shown_counter_examples, shown_examples,
+    fleet_inputs_are_clear, items_are_clear, numbers_are, question_counter_examples,
+    question_examples, registers_are_clear, rows_have_one_answer, shown_counter_examples,
+    shown_examples,
 };
 pub use limits::{DEVICE_LIMIT, TEXT_LIMIT};
 pub use question::{CodeCount, Counts, Serials};

@@ -7,9 +7,11 @@
 mod draws;
 mod limits;
 mod make;
+mod numbers;
 mod officers;
 mod script;
 
 pub use limits::ROUND_LIMIT;
 pub use make::workload;
 pub use mb_model::Workload;
+pub use numbers::numbers_are;

@@ -6,3 +6,4 @@ pub mod MakerSignatures
 pub mod MakerFormat
 pub mod MakerLaws
 pub mod ExactFormats
+pub mod NumberLaws

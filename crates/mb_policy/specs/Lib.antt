@@ -5,3 +5,4 @@ pub mod Examples
 pub mod Meanings
 pub mod Reading
 pub mod Tables
+pub mod NumberLaws

@@ -1,6 +1,8 @@
-//! Laws of the definitions, and the definitions at work, as the contracts of functions that do nothing.
+//! Laws of the definitions, the definitions at work, and the numbers of the code, as the contracts of functions that do
+//! nothing.
 
 ghost use Rattle.mb_policy.specs.Laws.{PoliciesAreClear, JudgementsAreClear};
+ghost use Rattle.mb_policy.specs.NumberLaws.{PolicyNumbersAre};
 ghost use Rattle.mb_policy.specs.Examples.{PolicyExamples, PolicyCounterExamples};
 ghost use Rattle.mb_policy.specs.Examples.{JudgementExamples, JudgementCounterExamples};
 
@@ -32,4 +34,9 @@ pub fn judgement_examples()
 /// What small policies do not come to.
 pub fn judgement_counter_examples()
     ensures { JudgementCounterExamples }
+{}
+
+/// The limits of a policy are these numbers.
+pub fn numbers_are()
+    ensures { PolicyNumbersAre }
 {}

@@ -19,8 +19,8 @@ mod words;
 
 pub use judging::{Judgement, judge_report};
 pub use laws::{
-    judgement_counter_examples, judgement_examples, judgements_are_clear, policies_are_clear,
-    policy_counter_examples, policy_examples,
+    judgement_counter_examples, judgement_examples, judgements_are_clear, numbers_are,
+    policies_are_clear, policy_counter_examples, policy_examples,
 };
 pub use limits::{DEPTH_LIMIT, HASH_LIMIT, LINE_LIMIT};
 pub use lines::{PolicyEnd, read_policy};

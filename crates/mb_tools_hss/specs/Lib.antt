@@ -4,3 +4,4 @@ pub mod Endorse
 pub mod Endorsed
 pub mod Names
 pub mod Unendorsed
+pub mod NumberLaws

@@ -11,5 +11,5 @@ pub mod hsskeygen;
 mod input;
 mod laws;
 
-pub use laws::inputs_are_clear;
+pub use laws::{inputs_are_clear, numbers_are};
 pub use mb_hss::LEVEL_LIMIT;

@@ -1,9 +1,11 @@
 -- How often a command loads a board.
-use Rattle.std.proofs.Common.{◌≡◌, ℕ, ◌≤◌, ◌⊎◌, List, Option, None, Some, inl, inr, true, ap, arith}
+use Rattle.std.proofs.Common.{◌≡◌, ℕ, ◌≤◌, ◌⊎◌, List, Option, None, Some, inl, inr, false, refl, ap, ◌∙◌, arith}
 use Rattle.mb_model.specs.declared.event.Event.{Event}
+use Rattle.mb_model.specs.declared.event.Answered.{Answered}
 use Rattle.mb_model.specs.declared.key.PublicKey.{PublicKey}
+use Rattle.mb_model.specs.declared.role.Role.TheVariants as role
 use Rattle.mb_model.specs.declared.state.State.{State}
-use Rattle.mb_model.specs.Board.{Used, not_used}
+use Rattle.mb_model.specs.Board.{Held, Used, not_used, counted_load, loaded_once_more, having_answered}
 use Rattle.mb_model.specs.Outside.{read_once}
 use Rattle.mb_model.specs.Inputs.{Image, image_input, script_input, draws_input}
 use Rattle.mb_model.specs.Keygen.{KeygenNames, keygen}
@@ -14,14 +16,30 @@ use Rattle.mb_model.specs.VerifyCommand.{VerifyNames, verify, tell_verdict}
 use Rattle.mb_model.specs.AuditCommand.{AuditNames, audit, audit_chain, compare}
 use Rattle.mb_model.specs.ChainCommands.{ChainNames, AttachNames, chain, chain_of, attach, attach_statement, write_entries}
 use Rattle.mb_model.specs.Acceptance.{Verdict, chain_acceptance, chain_rejection}
-use Rattle.mb_model.specs.RunCommand.{RunNames, run, read_script, read_noise, serve_events}
-use Rattle.mb_model.specs.Commands.{Command, read, find, either_command, load, serve, rehearse, write, print, refuse, lack, Input, Output, Past, Ended, end_seen_from, InputEnds, input_is_too_long, input_is_faulty, input_is_not_read, memory_lacks, PrintEnds, text_is_printed, text_is_not_printed, CommandEnds, at_first}
-use Rattle.mb_console.specs.Words.{Argument}
+use Rattle.mb_model.specs.RunCommand.{RunNames, IsServed, run, read_script, read_noise, write_image}
+use Rattle.mb_model.specs.GenerateCommand.{GenerateNames, Prepared, generate, prepared_image, summarise}
+use Rattle.mb_model.specs.Commands.{Command, read, find, either_command, load, serve, rehearse, write, print, refuse, lack, Input, Past, Ended, end_seen_from, WantsMemory, InputEnds, input_is_too_long, input_is_faulty, input_is_not_read, memory_lacks, PrintEnds, text_is_printed, text_is_not_printed, CommandEnds, at_first}
 use Rattle.mb_policy.specs.declared.judgement.Judgement.{Judgement}
 use Rattle.mb_policy.specs.declared.judgement.Judgement.TheVariants as judgement
-use Rattle.mb_top.specs.declared.table.Command.{Command as Called}
+use Rattle.mb_policy.specs.Policies.{PolicyItem}
+use Rattle.mb_appvm.specs.declared.running.AppEnd.{AppEnd}
+use Rattle.mb_appvm.specs.declared.running.AppEnd.TheVariants as app_end
+use Rattle.mb_tools.specs.Names.{keygen_given, sign_given, countersign_given, factory_given, migrate_given, verify_given, audit_given, chain_given, attach_given}
+use Rattle.mb_tools_hss.specs.HssKeygen.{HsskeygenNames, hsskeygen, write_maker_key}
+use Rattle.mb_tools_hss.specs.Endorse.{EndorseNames, endorse, endorse_root, use_number}
+use Rattle.mb_tools_hss.specs.Endorsed.{EndorsedNames, endorsed, judge_endorsement}
+use Rattle.mb_tools_hss.specs.Names.{hsskeygen_given, endorse_given, endorsed_given}
+use Rattle.mb_tools_policy.specs.TrustCommand.{TrustNames, trust, tell_judgement, judge_verdict}
+use Rattle.mb_tools_policy.specs.Names.{trust_given}
+use Rattle.mb_tools_app.specs.AppCommand.{AppNames, app, run_stored_code, tell_end}
+use Rattle.mb_tools_app.specs.AssemblyCommands.{AsmNames, DisasmNames, asm, disasm}
+use Rattle.mb_tools_app.specs.Names.{app_given, asm_given, disasm_given}
+use Rattle.mb_tools_fleet.specs.FleetCommand.{FleetNames, FleetOutcome, all_served, text_too_long, keep_register, fleet}
+use Rattle.mb_tools_fleet.specs.FleetWords.{fleet_given}
+use Rattle.mb_tools_device.specs.CutCommand.{CutNames, CutRun, IsCutServed, cutat, uncut_script_input, read_uncut_script, read_cut_noise, serve_first, serve_cut, tell_cut}
+use Rattle.mb_tools_device.specs.Names.{run_given, cut_given, generate_given}
 use Rattle.mb_top.specs.declared.table.Command.TheVariants as command
-use Rattle.mb_top_laws.specs.LoadLaws.{serves, EndsCalled, NothingIsLoaded, EndsAfterLoads, LoadsOnce, LoadsTwice}
+use Rattle.mb_top_laws.specs.LoadLaws.{NothingIsLoaded, EndsAfterLoads, LoadsOnce, LoadsTwice}
 
 -- ---- a command without a load
 
@@ -270,10 +288,6 @@ input_ended input e ends = inl (input_used input at_first e ends, input_status i
 lacked : {Often : Type 0} (e : Ended) → WantsMemory at_first e → EndsAfterLoads Often e
 lacked e wants = inl (wants.stops.used, omega (arith, wants.stops.status_is))
 
--- the past of a command that has loaded once
-once : List ℕ → Past
-once image = record { used = loaded_once_more image not_used; wrote = false }
-
 -- a load, and what comes after the last
 loaded_ended : (image : List ℕ) (rest : Command) (e : Ended) → GoesOn rest → CommandEnds (load image rest) at_first e → EndsAfterLoads (e.used.loads ≡ 1) e
 unfolding CommandEnds GoneOn
@@ -303,6 +317,14 @@ run_loads names e (inl ends) = input_ended (image_input names.image) e ends
 run_loads names e (inr it) = script_read names it.2.0 (end_seen_from (read_once e.before) e) it.2.2
 
 -- ---- `generate`
+
+-- what comes after the load
+write_workload : GenerateNames → Prepared → Command
+write_workload names made =
+    write (record { role = role.Image; name = names.image; bytes = made.files.image })
+    (write (record { role = role.Script; name = names.script; bytes = made.files.script })
+    (write (record { role = role.Noise; name = names.noise; bytes = made.files.noise })
+    (serve (IsServed (prepared_image made) made.events) summarise)))
 
 summary_goes_on : (names : GenerateNames) (made : Prepared) → GoesOn (write_workload names made)
 unfolding GoesOn write_workload
