@@ -16,7 +16,9 @@ mod signing;
 mod verification;
 
 pub use key::{HssKey, hss_key_bytes, parse, read_hss_key};
-pub use laws::{indices_serve_one_text, makers_signatures_verify, numbers_are, numbers_count_up};
+pub use laws::{
+    indices_serve_one_text, keys_are_clear, makers_signatures_verify, numbers_are, numbers_count_up,
+};
 pub use limits::LEVEL_LIMIT;
 pub use maker::{Maker, make_maker};
 pub use maker_file::{read_maker, write_maker};
