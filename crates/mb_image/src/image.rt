@@ -1,6 +1,7 @@
 //! The state that an image means.
 
 ghost use Rattle.std.specs.Prelude.{◌≡◌, ◌+◌, ◌≤◌, IfOk, IfErr, IfSome};
+ghost use Rattle.mb_image.specs.declared.image.TheConstants.{IMAGE_HASHES};
 ghost use Rattle.mb_model.specs.Meaning.{IsWellFormedBy, IsWellFormed};
 ghost use Rattle.mb_model.specs.Faults.{HasFaultBy, HasFault};
 ghost use Rattle.mb_image.specs.Ends.{fault_of};
@@ -11,7 +12,7 @@ use crate::segments::Segments;
 use crate::sound::sound_state;
 use crate::stored::stored_in;
 use mb_layout::is_blank;
-use mb_lms::HashCount;
+use mb_lms::{HashCount, LEAF_HASHES, SIGNING_HASHES, TREE_HASHES};
 use mb_model::{NoMemory, State};
 use std::alloc::Global;
 use std::sync::ledger::Ledger;
@@ -48,6 +49,10 @@ impl From<NoMemory> for ImageEnd {
     }
 }
 
+/// The most hashes that it takes to judge an image: those of the public keys of the device and of sixteen keys of
+/// regions, and of two signatures by one tree.
+pub const IMAGE_HASHES: u64 = 17 * TREE_HASHES + SIGNING_HASHES + LEAF_HASHES;
+
 /// The state that an image of arbitrary bytes means by a form of the flash, `None` for a dead device, or the first
 /// fault of the image. It takes at most 621,330 hashes: those of the public keys of the device and of sixteen keys of
 /// regions, each derived once, and of the signatures that are still to be made.
@@ -60,7 +65,7 @@ pub fn stand_for_by<F: FlashForm, L: Ledger>(
 ) -> Result<Option<State>, ImageEnd>
     ensures stands { IfOk result (λ state. IsWellFormedBy F.form image.now state) }
     ensures fault { IfErr result (λ end. IfSome (fault_of end) (λ fault. HasFaultBy F.form image.now fault)) }
-    ensures cost { hashes.new ≤ hashes.old + 621330 }
+    ensures cost { hashes.new ≤ hashes.old + IMAGE_HASHES }
 {
     let Some((flash, bbram)) = memories(image) else {
         return Err(ImageEnd::Length);
@@ -90,7 +95,7 @@ pub fn stand_for<L: Ledger>(
 ) -> Result<Option<State>, ImageEnd>
     ensures stands { IfOk result (λ state. IsWellFormed image.now state) }
     ensures fault { IfErr result (λ end. IfSome (fault_of end) (λ fault. HasFault image.now fault)) }
-    ensures cost { hashes.new ≤ hashes.old + 621330 }
+    ensures cost { hashes.new ≤ hashes.old + IMAGE_HASHES }
 {
     stand_for_by::<Segments, L>(alloc, image, hashes)
 }

@@ -27,7 +27,7 @@ mod written;
 
 pub use count::log_length;
 pub use form::{FlashForm, PublicParts};
-pub use image::{ImageEnd, stand_for, stand_for_by};
+pub use image::{IMAGE_HASHES, ImageEnd, stand_for, stand_for_by};
 pub use same::same_state;
 pub use segments::Segments;
 pub use written::{ImageRoom, write_image};

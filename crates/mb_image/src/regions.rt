@@ -7,6 +7,7 @@ ghost use Rattle.mb_model.specs.Regions.{empty_region, AdmittedSince};
 ghost use Rattle.mb_model.specs.Valid.{as_made, IsValidRegion};
 ghost use Rattle.mb_image.specs.Keys.{as_listed, listed_keys};
 ghost use Rattle.mb_image.specs.Losses.{loss};
+ghost use Rattle.mb_model.specs.declared.limits.TheConstants.{KEY_LIMIT};
 ghost use Rattle.mb_lms.specs.declared.hash_count.TheConstants.{TREE_HASHES};
 
 use crate::alive::{MadeKey, alive_keys};
@@ -33,7 +34,7 @@ pub(crate) fn is_valid_region<L: Ledger>(
     requires number { figures.now.number ≡ number_of (entries_of log.now) }
     requires layer { IsTrue (is_upper layer) }
     ensures valid { IfOk result (λ valid. IsTrue valid ↔ IsValidRegion (entries_of log.now) figures.now.layers layer region.now) }
-    ensures cost { hashes.new ≤ hashes.old + 275192 }
+    ensures cost { hashes.new ≤ hashes.old + TREE_HASHES * KEY_LIMIT }
 {
     if !may_be_there(&figures.layers, layer, region)
         || region.keys.as_slice().len() > KEY_LIMIT as usize

@@ -7,6 +7,8 @@ ghost use Rattle.mb_model.specs.Meaning.{state_of_contents};
 ghost use Rattle.mb_model.specs.Faults.{AreSound};
 ghost use Rattle.mb_signer.specs.Tree.{IsTreeOf};
 ghost use Rattle.mb_image.specs.Stored.{contents_of, CanBeCompleted};
+ghost use Rattle.mb_lms.specs.declared.hash_count.TheConstants.{LEAF_HASHES, SIGNING_HASHES};
+ghost use Rattle.mb_image.specs.declared.image.TheConstants.{IMAGE_HASHES};
 
 use crate::complete::completed;
 use crate::fates::fated;
@@ -28,7 +30,7 @@ pub(crate) fn sound_state<L: Ledger>(
 ) -> Result<Option<State>, NoMemory>
     requires { CanBeCompleted (contents_of stored) }
     ensures state { IfOk result (λ state. MatchOption state (AreSound (contents_of stored) → ⊥) (λ s. AreSound (contents_of stored) × (s ≡ state_of_contents (contents_of stored)))) }
-    ensures cost { hashes.new ≤ hashes.old + 621330 }
+    ensures cost { hashes.new ≤ hashes.old + IMAGE_HASHES }
 {
     if !has_index(&stored.root) {
         return Ok(None);
@@ -64,7 +66,7 @@ fn state_of<L: Ledger>(
     requires contents { CanBeCompleted (contents_of stored) }
     requires tree { IsTreeOf stored.root.device tree.now }
     ensures state { IfOk result (λ state. state ≡ state_of_contents (contents_of stored)) }
-    ensures cost { hashes.new ≤ hashes.old + 36547 }
+    ensures cost { hashes.new ≤ hashes.old + SIGNING_HASHES + LEAF_HASHES }
 {
     let Stored {
         root,

@@ -1,10 +1,12 @@
 //! The check that a device can have a state.
 
-ghost use Rattle.std.specs.Prelude.{◌≡◌, ◌↔◌, ◌+◌, ◌≤◌, ◌-◌, ◌^◌, ◌<◌, length, All, IfOk, IsTrue, Some};
+ghost use Rattle.std.specs.Prelude.{◌≡◌, ◌↔◌, ◌+◌, ◌*◌, ◌≤◌, ◌-◌, ◌^◌, ◌<◌, length, All, IfOk, IsTrue, Some};
 ghost use Rattle.mb_model.specs.EntryFormat.{entry_format};
 ghost use Rattle.mb_model.specs.Log.{figures_of, entries_of, layers_of, device_of, serial_of, uses_of_device_key};
 ghost use Rattle.mb_model.specs.Signing.{public_of};
 ghost use Rattle.mb_model.specs.Valid.{IsValidState};
+ghost use Rattle.mb_model.specs.declared.limits.TheConstants.{KEY_LIMIT};
+ghost use Rattle.mb_lms.specs.declared.hash_count.TheConstants.{TREE_HASHES};
 
 use crate::codes::are_named;
 use crate::log::figures_of;
@@ -28,7 +30,7 @@ pub(crate) fn is_valid<L: Ledger>(
     requires layers { state.now.layers ≡ layers_of (entries_of state.now.log) }
     requires device { device.now ≡ public_of state.now.device }
     ensures valid { IfOk result (λ valid. IsTrue valid ↔ IsValidState state.now) }
-    ensures cost { hashes.new ≤ hashes.old + 550384 }
+    ensures cost { hashes.new ≤ hashes.old + 2 * TREE_HASHES * KEY_LIMIT }
 {
     let log = state.log.as_slice();
     let Some(figures) = figures_of(alloc, log)? else {

@@ -3,6 +3,7 @@
 ghost use Rattle.std.specs.Prelude.{◌+◌, ◌≤◌, IfOk, IfErr, IfSome};
 ghost use Rattle.mb_model.specs.OldFlash.{WasWellFormed, HadFault};
 ghost use Rattle.mb_image.specs.Ends.{fault_of};
+ghost use Rattle.mb_image.specs.declared.image.TheConstants.{IMAGE_HASHES};
 
 use crate::stored::OneRecord;
 use mb_image::{ImageEnd, stand_for_by};
@@ -23,7 +24,7 @@ pub fn old_stand_for<L: Ledger>(
 ) -> Result<Option<State>, ImageEnd>
     ensures stands { IfOk result (λ state. WasWellFormed image.now state) }
     ensures fault { IfErr result (λ end. IfSome (fault_of end) (λ fault. HadFault image.now fault)) }
-    ensures cost { hashes.new ≤ hashes.old + 621330 }
+    ensures cost { hashes.new ≤ hashes.old + IMAGE_HASHES }
 {
     stand_for_by::<OneRecord, L>(alloc, image, hashes)
 }

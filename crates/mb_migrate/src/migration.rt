@@ -1,9 +1,10 @@
 //! Images brought to the current form.
 
-ghost use Rattle.std.specs.Prelude.{◌+◌, ◌≤◌, IfOk, IfErr, IfSome};
+ghost use Rattle.std.specs.Prelude.{◌+◌, ◌*◌, ◌≤◌, IfOk, IfErr, IfSome};
 ghost use Rattle.mb_model.specs.Migration.{IsMigrated, CannotMigrate, MeansTheSame};
 ghost use Rattle.mb_image.specs.Ends.{fault_of};
 ghost use Rattle.mb_migrate.specs.Readings.{IsReadBy, StandsByEither};
+ghost use Rattle.mb_image.specs.declared.image.TheConstants.{IMAGE_HASHES};
 
 use crate::stored::OneRecord;
 use mb_image::{FlashForm, ImageEnd, Segments, stand_for_by, write_image};
@@ -26,7 +27,7 @@ pub fn migrate<L: Ledger>(
     ensures migrated { IfOk result (λ out. IsMigrated image.now out.items) }
     ensures kept { IfOk result (λ out. MeansTheSame image.now out.items) }
     ensures fault { IfErr result (λ end. IfSome (fault_of end) (CannotMigrate image.now)) }
-    ensures cost { hashes.new ≤ hashes.old + 1242660 }
+    ensures cost { hashes.new ≤ hashes.old + 2 * IMAGE_HASHES }
 {
     let state = either_stand_for(alloc, image, hashes)?;
     Ok(write_image(alloc, &state)?)
@@ -42,7 +43,7 @@ fn either_stand_for<L: Ledger>(
 ) -> Result<Option<State>, ImageEnd>
     ensures stands { IfOk result (λ state. StandsByEither image.now state) }
     ensures fault { IfErr result (λ end. IfSome (fault_of end) (CannotMigrate image.now)) }
-    ensures cost { hashes.new ≤ hashes.old + 1242660 }
+    ensures cost { hashes.new ≤ hashes.old + 2 * IMAGE_HASHES }
 {
     let fault = match read_by::<Segments, L>(alloc, image, hashes)? {
         Reading::State(state) => return Ok(state),
@@ -70,7 +71,7 @@ fn read_by<F: FlashForm, L: Ledger>(
     hashes: &mut HashCount<L>,
 ) -> Result<Reading, NoMemory>
     ensures read { IfOk result (λ reading. IsReadBy F.form image.now reading) }
-    ensures cost { hashes.new ≤ hashes.old + 621330 }
+    ensures cost { hashes.new ≤ hashes.old + IMAGE_HASHES }
 {
     match stand_for_by::<F, L>(alloc, image, hashes) {
         Ok(state) => Ok(Reading::State(state)),

@@ -59,7 +59,7 @@ pub fn factory<L: Ledger>(
     ensures spent { IsErrOf result SignEnd.Spent ↔ (k.old.next ≡ KEY_USES) }
     ensures countersignable { IsErrOf result SignEnd.NotCountersignable → ⊥ }
     ensures unchanged { OnErr result ((k.new ≡ k.old) × (hashes.new ≡ hashes.old)) }
-    ensures cost { hashes.new ≤ hashes.old + 69872 }
+    ensures cost { hashes.new ≤ hashes.old + TREE_HASHES + SIGNING_HASHES }
 {
     let mut next = k.next;
     let Some(index) = next.take() else {
