@@ -1,16 +1,13 @@
-//! The world outside: a trait for files and printing, a host in memory, and the real one.
+//! The world outside: a trait for files and printing, and a host in memory.
 //!
 //! This crate owns what may be relied on of the outside, failing or not. It stands on the definitions of `mb_model`
-//! (`Outside`).
+//! (`Outside`). The host over the files of the system stands above it, in a crate of its own.
 #![tactic(auto)]
 
 mod count;
-mod faults;
 mod host;
 mod memory;
-mod real;
-mod whole;
 
+pub use count::raised;
 pub use host::{Host, HostEnd, HostFailed};
 pub use memory::MemoryHost;
-pub use real::RealHost;

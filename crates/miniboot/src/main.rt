@@ -5,7 +5,7 @@
 #![tactic(auto)]
 
 use mb_board::SimBoard;
-use mb_host::RealHost;
+use mb_files::RealHost;
 use mb_top::{NoWords, program};
 use std::process::ExitCode;
 use std::rt::Env;

@@ -1,6 +1,7 @@
 //! What no clause says: that calls succeed unless they are to fail, and that the system's files are reached.
 
-use mb_host::{Host, HostEnd, HostFailed, MemoryHost, RealHost};
+use mb_files::RealHost;
+use mb_host::{Host, HostEnd, HostFailed, MemoryHost};
 use mb_model::{Bytes, Calls, File, Files, NoMemory};
 use std::alloc::Global;
 use std::test::Fail;

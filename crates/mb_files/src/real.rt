@@ -1,10 +1,10 @@
 //! The trusted edge: the files and the standard output of the system.
 
 ghost use Rattle.std.specs.Prelude.{◌≡◌, None};
-ghost use Rattle.mb_host.specs.Real.{untold};
+ghost use Rattle.mb_files.specs.Real.{untold};
 
-use crate::host::{Host, HostEnd, HostFailed};
 use crate::whole::{ReadCounts, WriteCounts};
+use mb_host::{Host, HostEnd, HostFailed};
 use std::alloc::Global;
 use std::fs::File;
 use std::io;

@@ -1,7 +1,7 @@
 -- The bytes before the rest were appended, and no fault came.
 use Rattle.std.proofs.Common.{◌≡◌, ◌≤◌, ℕ, length, take, drop}
 use Rattle.std.specs.Io.KnownBytes.{Appends}
-use Rattle.mb_host.proofs.whole.write_whole.Given as goal
+use Rattle.mb_files.proofs.whole.write_whole.Given as goal
 
 abbrev pub invariant-loop-rest : goal.invariant-loop-rest
 invariant-loop-rest g l = record {

@@ -1,7 +1,7 @@
 -- The bytes so far are what the source has given, and no fault came.
 use Rattle.std.proofs.Common.{◌≡◌, ◌-◌, vec_len}
 use Rattle.std.specs.Io.KnownBytes.{Consumes}
-use Rattle.mb_host.proofs.whole.read_whole.Given as goal
+use Rattle.mb_files.proofs.whole.read_whole.Given as goal
 
 abbrev pub invariant-loop-piece : goal.invariant-loop-piece
 invariant-loop-piece g l = record {

@@ -2,7 +2,7 @@ use Rattle.std.proofs.Common.{◌≡◌, ℕ, ◌+◌, ◌-◌, List, length, le
 use Rattle.std.proofs.KnownBytes.{Appends-trans}
 use Rattle.std.proofs.Math.Seq.{take-add}
 use Rattle.std.proofs.lemmas.List.{drop-drop, take_rest}
-use Rattle.mb_host.proofs.whole.write_whole.Goals as goal
+use Rattle.mb_files.proofs.whole.write_whole.Goals as goal
 
 -- what is left of the rest is what is left of all
 left : (bytes rest : List ℕ) (n count : ℕ) → rest ≡ drop n bytes → take (length rest - count) (drop count rest) ≡ drop (n + count) bytes

@@ -4,11 +4,10 @@ ghost use Rattle.std.specs.Prelude.{◌≡◌, ℕ, ◌<◌, ◌≤◌, IfOk, If
 ghost use Rattle.std.specs.Io.KnownBytes.{Appends, Consumes, IsAtEnd};
 ghost use Rattle.mb_model.specs.declared.limits.TheConstants.{FILE_LIMIT};
 ghost use Rattle.mb_model.specs.Outside.{count_after_call as raised_count};
-ghost use Rattle.mb_host.specs.Real.{one_fault_more, known};
+ghost use Rattle.mb_files.specs.Real.{one_fault_more, known};
 
-use crate::count::raised;
 use crate::faults::{Faults, Sink, Source};
-use crate::host::{HostEnd, HostFailed};
+use mb_host::{HostEnd, HostFailed, raised};
 use mb_model::FILE_LIMIT;
 use std::alloc::Global;
 use std::io;

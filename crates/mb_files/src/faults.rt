@@ -5,9 +5,9 @@
 
 ghost use Rattle.std.specs.Prelude.{◌≡◌, ℕ, ◌<◌, ◌≤◌, List, Option, length, take, IfSome, MatchOption, MatchResult};
 ghost use Rattle.std.specs.Io.KnownBytes.{Appends, Consumes, IsAtEnd, Keeps};
-ghost use Rattle.mb_host.specs.Real.{one_fault_more};
+ghost use Rattle.mb_files.specs.Real.{one_fault_more};
 
-use crate::count::raised;
+use mb_host::raised;
 use std::io;
 use std::io::{Read, Write};
 

@@ -1,9 +1,9 @@
 -- A host with contents that no contract sees, and how its counts change.
 use Rattle.std.specs.Prelude.{ℕ, List, Option, None, Result, Ok, Err}
 use Rattle.mb_model.specs.Outside.{Outside, count_after_call}
-use Rattle.mb_host.specs.declared.faults.Faults.{Faults}
-use Rattle.mb_host.specs.declared.whole.ReadCounts.{ReadCounts}
-use Rattle.mb_host.specs.declared.whole.WriteCounts.{WriteCounts}
+use Rattle.mb_files.specs.declared.faults.Faults.{Faults}
+use Rattle.mb_files.specs.declared.whole.ReadCounts.{ReadCounts}
+use Rattle.mb_files.specs.declared.whole.WriteCounts.{WriteCounts}
 
 -- what contracts see of a host without its contents: its counts alone; such a host cannot know that a file is absent
 abbrev pub untold : ReadCounts → WriteCounts → Outside
