@@ -1,7 +1,6 @@
--- A host with contents that no contract sees, and how its counts change.
+-- A host with contents that no contract sees, and what is known of an opened source or sink.
 use Rattle.std.specs.Prelude.{ℕ, List, Option, None, Result, Ok, Err}
-use Rattle.mb_model.specs.Outside.{Outside, count_after_call}
-use Rattle.mb_files.specs.declared.faults.Faults.{Faults}
+use Rattle.mb_model.specs.Outside.{Outside}
 use Rattle.mb_files.specs.declared.whole.ReadCounts.{ReadCounts}
 use Rattle.mb_files.specs.declared.whole.WriteCounts.{WriteCounts}
 
@@ -10,17 +9,13 @@ abbrev pub untold : ReadCounts → WriteCounts → Outside
 untold reads writes = record {
   files = None;
   printed = None;
-  read_faults = reads.faults.count;
+  read_faults = reads.faults;
   absences = 0;
-  write_faults = writes.faults.count;
+  write_faults = writes.faults;
   reads = reads.calls;
   writes = writes.files;
   prints = writes.prints;
 }
-
--- one more fault
-abbrev pub one_fault_more : Faults → Faults
-one_fault_more faults = record { count = count_after_call faults.count }
 
 -- what is known of what was opened
 abbrev pub known : {S E : Type 0} → (S → Option (List ℕ)) → Result S E → Option (List ℕ)

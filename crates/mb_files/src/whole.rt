@@ -4,7 +4,7 @@ ghost use Rattle.std.specs.Prelude.{◌≡◌, ℕ, ◌<◌, ◌≤◌, IfOk, If
 ghost use Rattle.std.specs.Io.KnownBytes.{Appends, Consumes, IsAtEnd};
 ghost use Rattle.mb_model.specs.declared.limits.TheConstants.{FILE_LIMIT};
 ghost use Rattle.mb_model.specs.Outside.{count_after_call as raised_count};
-ghost use Rattle.mb_files.specs.Real.{one_fault_more, known};
+ghost use Rattle.mb_files.specs.Real.{known};
 
 use crate::faults::{Faults, Sink, Source};
 use mb_host::{HostEnd, HostFailed, raised};
@@ -25,7 +25,7 @@ pub(crate) struct ReadCounts {
 impl ReadCounts {
     // No read yet.
     pub(crate) fn none() -> ReadCounts
-        ensures { result ≡ record { calls = 0; faults = record { count = 0 } } }
+        ensures { result ≡ record { calls = 0; faults = 0 } }
     {
         ReadCounts {
             calls: 0,
@@ -48,7 +48,7 @@ impl ReadCounts {
         ensures failed { IsErrOf result HostEnd.Failed →
             self.new ≡ record {
               calls = raised_count self.old.calls;
-              faults = one_fault_more self.old.faults;
+              faults = raised_count self.old.faults;
             } }
         ensures counted { (IsErrOf result HostEnd.Failed → ⊥) →
             self.new ≡ record { calls = raised_count self.old.calls; faults = self.old.faults } }
@@ -71,7 +71,7 @@ pub(crate) struct WriteCounts {
 impl WriteCounts {
     // No write yet.
     pub(crate) fn none() -> WriteCounts
-        ensures { result ≡ record { files = 0; prints = 0; faults = record { count = 0 } } }
+        ensures { result ≡ record { files = 0; prints = 0; faults = 0 } }
     {
         WriteCounts {
             files: 0,
@@ -80,7 +80,7 @@ impl WriteCounts {
         }
     }
 
-    // Writes all of these bytes to a file, if it was opened.
+    // Writes all of these bytes to a file and settles it, if it was opened.
     pub(crate) fn write<S: Sink>(
         &mut self,
         opened: &mut io::Result<S>,
@@ -91,18 +91,19 @@ impl WriteCounts {
             (known S.held opened.new) bytes.now) }
         ensures part { OnErr result ((n : ℕ) ×
             Appends (known S.held opened.old) (known S.held opened.new) (take n bytes.now)) }
+        ensures lasting { OnOk result (known S.lasting opened.new ≡ known S.held opened.new) }
         ensures done { OnOk result (self.new
             ≡ record self.old { files = raised_count self.old.files }) }
         ensures failed { OnErr result
             (self.new ≡ record self.old {
               files = raised_count self.old.files;
-              faults = one_fault_more self.old.faults;
+              faults = raised_count self.old.faults;
             }) }
     {
         self.files = raised(self.files);
         self.faults.note(opened);
         match opened {
-            Ok(sink) => write_whole(sink, &mut self.faults, bytes),
+            Ok(sink) => write_settled(sink, &mut self.faults, bytes),
             Err(_) => Err(HostFailed),
         }
     }
@@ -117,7 +118,7 @@ impl WriteCounts {
         ensures failed { OnErr result
             (self.new ≡ record self.old {
               prints = raised_count self.old.prints;
-              faults = one_fault_more self.old.faults;
+              faults = raised_count self.old.faults;
             }) }
     {
         self.prints = raised(self.prints);
@@ -137,7 +138,7 @@ fn read_whole<S: Source>(
     ensures short { IfOk result (λ bytes. vec_len bytes ≤ FILE_LIMIT) }
     ensures too_long { IsErrOf result HostEnd.TooLong
         → IfSome (S.left source.old) (λ all. FILE_LIMIT < length all) }
-    ensures failed { IsErrOf result HostEnd.Failed → faults.new ≡ one_fault_more faults.old }
+    ensures failed { IsErrOf result HostEnd.Failed → faults.new ≡ raised_count faults.old }
     ensures fine { (IsErrOf result HostEnd.Failed → ⊥) → faults.new ≡ faults.old }
 {
     let mut piece = [0; PIECE_LENGTH];
@@ -160,7 +161,7 @@ fn write_whole<S: Sink>(sink: &mut S, faults: &mut Faults, bytes: &[u8]) -> Resu
     ensures part { OnErr result ((n : ℕ)
         × Appends (S.held sink.old) (S.held sink.new) (take n bytes.now)) }
     ensures done { OnOk result (faults.new ≡ faults.old) }
-    ensures failed { OnErr result (faults.new ≡ one_fault_more faults.old) }
+    ensures failed { OnErr result (faults.new ≡ raised_count faults.old) }
 {
     let mut rest = bytes;
     while !rest.is_empty() {
@@ -170,4 +171,17 @@ fn write_whole<S: Sink>(sink: &mut S, faults: &mut Faults, bytes: &[u8]) -> Resu
         rest = &rest[count..];
     }
     Ok(())
+}
+
+// Writes all of these bytes, and makes them last.
+fn write_settled<S: Sink>(sink: &mut S, faults: &mut Faults, bytes: &[u8]) -> Result<(), HostFailed>
+    ensures whole { OnOk result (Appends (S.held sink.old) (S.held sink.new) bytes.now) }
+    ensures part { OnErr result ((n : ℕ)
+        × Appends (S.held sink.old) (S.held sink.new) (take n bytes.now)) }
+    ensures lasting { OnOk result (S.lasting sink.new ≡ S.held sink.new) }
+    ensures done { OnOk result (faults.new ≡ faults.old) }
+    ensures failed { OnErr result (faults.new ≡ raised_count faults.old) }
+{
+    write_whole(sink, faults, bytes)?;
+    sink.settle(faults).ok_or(HostFailed)
 }

@@ -1,11 +1,14 @@
-//! What no clause says: that calls succeed unless they are to fail, and that the system's files are reached.
+//! What no clause says: that calls succeed unless they are to fail, and that the system's files are reached, locked and
+//! replaced whole.
 
 use mb_files::RealHost;
 use mb_host::{Host, HostEnd, HostFailed, MemoryHost};
 use mb_model::{Bytes, Calls, File, Files, NoMemory};
 use std::alloc::Global;
+use std::fs::Permissions;
+use std::os::unix::fs::PermissionsExt;
 use std::test::Fail;
-use std::{env, fs, process};
+use std::{env, fs, io, process};
 
 // A host with this file and another of the same name, at which the calls of these numbers fail.
 fn host_of(alloc: Global, bytes: &[u8], failing: &[u64]) -> Result<MemoryHost, NoMemory> {
@@ -111,11 +114,11 @@ fn long_files_are_read_and_longer_ones_are_not(rt: HostRuntime) {
     assert!(rt; is_long_file(rt.alloc(), 4_194_305, Some(HostEnd::TooLong)) == Ok(true));
 }
 
-// The name of a file of this process.
-fn own_name(rt: &HostRuntime) -> Result<String, Fail> {
+// The name of a file of this process, for the test with this word.
+fn own_name(rt: &HostRuntime, word: &str) -> Result<String, Fail> {
     let folder = env::temp_dir(rt)?;
     let number = process::id(rt.process());
-    Ok(format!(in rt.alloc(); "{}/mb_host-{number}", folder.display())?)
+    Ok(format!(in rt.alloc(); "{}/mb_files-{number}-{word}", folder.display())?)
 }
 
 // Whether a long file and a short one in its place are kept, and a file is not reached if it is removed or has no name.
@@ -130,7 +133,71 @@ fn reaches(rt: &HostRuntime, alloc: Global, name: &str) -> bool {
 
 #[test]
 fn system_files_are_reached(rt: HostRuntime) -> Result<(), Fail> {
-    let name = own_name(&rt)?;
+    let name = own_name(&rt, "reached")?;
     assert!(rt; reaches(&rt, rt.alloc(), name.as_str()));
+    Ok(())
+}
+
+// Whether of two hosts that have read one file one replaces it, and the other does not, before and after.
+fn one_replaces(rt: &HostRuntime, alloc: Global, name: &str) -> bool {
+    let mut first = RealHost::new(rt);
+    let mut second = RealHost::new(rt);
+    keeps(&mut first, alloc, name, b"old")
+        && reads(&mut second, alloc, name, b"old")
+        && second.write(name, b"lost") == Err(HostFailed)
+        && first.write(name, b"new") == Ok(())
+        && second.write(name, b"lost") == Err(HostFailed)
+        && reads(&mut second, alloc, name, b"new")
+}
+
+#[test]
+fn one_of_two_hosts_replaces_a_file(rt: HostRuntime) -> Result<(), Fail> {
+    let name = own_name(&rt, "shared")?;
+    assert!(rt; one_replaces(&rt, rt.alloc(), name.as_str()));
+    fs::remove_file(&rt, name.as_str())?;
+    Ok(())
+}
+
+// Whether a file that was moved away after it was read is not made anew, and is replaced once it is back.
+fn moved_file_is_not_made(rt: &HostRuntime, alloc: Global, name: &str, other: &str) -> bool {
+    let mut host = RealHost::new(rt);
+    keeps(&mut host, alloc, name, b"old")
+        && fs::rename(rt, name, other).is_ok()
+        && host.write(name, b"lost") == Err(HostFailed)
+        && lacks(&mut host, alloc, name)
+        && fs::rename(rt, other, name).is_ok()
+        && host.write(name, b"new") == Ok(())
+}
+
+#[test]
+fn moved_files_are_not_made_anew(rt: HostRuntime) -> Result<(), Fail> {
+    let name = own_name(&rt, "here")?;
+    let other = own_name(&rt, "there")?;
+    assert!(rt; moved_file_is_not_made(&rt, rt.alloc(), name.as_str(), other.as_str()));
+    fs::remove_file(&rt, name.as_str())?;
+    Ok(())
+}
+
+// The mode of a file.
+fn mode_of(rt: &HostRuntime, name: &str) -> io::Result<u32> {
+    Ok(fs::metadata(rt, name)?.permissions().mode() & 0o777)
+}
+
+// The modes of a file when it is made, and once another mode was set and the file was replaced.
+fn modes(rt: &HostRuntime, name: &str) -> io::Result<(u32, u32)> {
+    let mut host = RealHost::new(rt);
+    let _ = host.write(name, b"old");
+    let made = mode_of(rt, name)?;
+    fs::set_permissions(rt, name, Permissions::from_mode(0o640))?;
+    let _ = host.write(name, b"new");
+    Ok((made, mode_of(rt, name)?))
+}
+
+#[test]
+fn files_are_made_private_and_keep_their_mode(rt: HostRuntime) -> Result<(), Fail> {
+    let name = own_name(&rt, "modes")?;
+    let (made, kept) = modes(&rt, name.as_str())?;
+    assert!(rt; made == 0o600 && kept == 0o640);
+    fs::remove_file(&rt, name.as_str())?;
     Ok(())
 }
