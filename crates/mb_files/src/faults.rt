@@ -16,6 +16,7 @@ use std::marker::Model;
 #[derive(Drop)]
 pub(crate) struct Faults {
     count: u64,
+    last: Option<io::Error>,
 }
 
 impl Model for Faults {
@@ -29,7 +30,15 @@ impl Faults {
     pub(crate) fn none() -> Faults
         ensures { result ≡ 0 }
     {
-        Faults { count: 0 }
+        Faults {
+            count: 0,
+            last: None,
+        }
+    }
+
+    // The last error, if there was one.
+    pub(crate) fn last(&self) -> Option<io::Error> {
+        self.last
     }
 
     // Counts the result of a call of the system, if it is an error.
@@ -37,8 +46,9 @@ impl Faults {
         ensures { MatchResult given.now (λ _. self.new ≡ self.old)
             (λ _. self.new ≡ raised_count self.old) }
     {
-        if given.is_err() {
+        if let Err(error) = given {
             self.count = raised(self.count);
+            self.last = Some(*error);
         }
     }
 }

@@ -15,6 +15,7 @@ mod output;
 mod real;
 mod replacement;
 mod system;
+mod told;
 mod whole;
 
 pub use real::RealHost;

@@ -6,12 +6,15 @@ ghost use Rattle.mb_files.specs.Real.{untold};
 use crate::kept::KeptFiles;
 use crate::output::Output;
 use crate::system::System;
+use crate::told::tell;
 use crate::whole::{ReadCounts, WriteCounts};
 use mb_host::{Host, HostEnd, HostFailed};
 use std::alloc::Global;
 use std::io;
 
 /// The files and the standard output of a runtime. Contracts see its counts alone, and none of its contents.
+///
+/// What the system says of each read, write and print that fails is told on standard error, on one line.
 #[derive(Drop)]
 pub struct RealHost<'a, R> {
     runtime: &'a R,
@@ -41,6 +44,13 @@ impl<'a, R: System> RealHost<'a, R> {
             writes: WriteCounts::none(),
         }
     }
+
+    // Tells the error of a write or a print, if it failed.
+    fn tell_write(&self, name: &str, outcome: Result<(), HostFailed>) {
+        if let (Err(_), Some(error)) = (outcome, self.writes.last_fault()) {
+            tell(self.runtime, name, error);
+        }
+    }
 }
 
 // No clause says which file the system opens, what its files hold or what it prints. The results and the counts are
@@ -49,7 +59,11 @@ impl<'a, R: System> Host for RealHost<'a, R> {
     ghost outside = { λ host. untold host.reads host.writes };
 
     fn read(&mut self, alloc: Global, name: &str) -> Result<Vec<u8>, HostEnd> {
-        self.reads.read(alloc, self.kept.open(self.runtime, name))
+        let result = self.reads.read(alloc, self.kept.open(self.runtime, name));
+        if let (Err(HostEnd::Failed), Some(error)) = (&result, self.reads.last_fault()) {
+            tell(self.runtime, name, error);
+        }
+        result
     }
 
     fn write(&mut self, name: &str, bytes: &[u8]) -> Result<(), HostFailed> {
@@ -58,10 +72,13 @@ impl<'a, R: System> Host for RealHost<'a, R> {
         if let Ok(output) = opened {
             output.end();
         }
+        self.tell_write(name, result);
         result
     }
 
     fn print(&mut self, bytes: &[u8]) -> Result<(), HostFailed> {
-        self.writes.print(&mut io::writer(self.runtime), bytes)
+        let result = self.writes.print(&mut io::writer(self.runtime), bytes);
+        self.tell_write("standard output", result);
+        result
     }
 }

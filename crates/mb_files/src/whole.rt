@@ -33,6 +33,11 @@ impl ReadCounts {
         }
     }
 
+    // The error of the last read that failed.
+    pub(crate) fn last_fault(&self) -> Option<io::Error> {
+        self.faults.last()
+    }
+
     // Reads all of the source, if it was opened.
     pub(crate) fn read<S: Source + Drop>(
         &mut self,
@@ -78,6 +83,11 @@ impl WriteCounts {
             prints: 0,
             faults: Faults::none(),
         }
+    }
+
+    // The error of the last write or print that failed.
+    pub(crate) fn last_fault(&self) -> Option<io::Error> {
+        self.faults.last()
     }
 
     // Writes all of these bytes to a file and settles it, if it was opened.
