@@ -1,0 +1,104 @@
+-- Laws of statements that are accepted. Was an accepted statement made by this device, and by which code?
+use Rattle.std.specs.Prelude.{◌≡◌, ◌<◌, ◌≤◌, ℕ, List, [], ◌∷◌, ◌++◌, length, Contains, Some}
+use Rattle.mb_format.specs.Format.{Spells}
+use Rattle.mb_model.specs.declared.entry.Chain.{Chain}
+use Rattle.mb_model.specs.declared.entry.Entry.{Entry}
+use Rattle.mb_model.specs.declared.entry.SignedEntry.{SignedEntry}
+use Rattle.mb_model.specs.declared.entry.Statement.{Statement}
+use Rattle.mb_model.specs.declared.event.Event.TheVariants.{Sign}
+use Rattle.mb_model.specs.declared.key.PublicKey.{PublicKey}
+use Rattle.mb_model.specs.declared.limits.TheConstants.{ENTRY_LIMIT}
+use Rattle.mb_model.specs.declared.region.RegionKey.{RegionKey}
+use Rattle.mb_model.specs.declared.reply.Reply.TheVariants as reply
+use Rattle.mb_model.specs.declared.state.Configuration.{Configuration}
+use Rattle.mb_model.specs.declared.state.Report.{Report}
+use Rattle.mb_model.specs.declared.state.State.{State}
+use Rattle.mb_model.specs.Acceptance.{IsBornOf, KeyEntry, key_of, Accepts, Honest}
+use Rattle.mb_model.specs.ChainFormat.{chain_format}
+use Rattle.mb_model.specs.LayerEvents.{statement_of}
+use Rattle.mb_model.specs.Layers.{Runnable}
+use Rattle.mb_model.specs.Lives.{configuration}
+use Rattle.mb_model.specs.Log.{entries_of, number_of, serial_of}
+use Rattle.mb_model.specs.Machine.{ratchet, World, Step}
+use Rattle.mb_model.specs.Merkle.{Verifies}
+use Rattle.mb_model.specs.Regions.{region_of}
+use Rattle.mb_model.specs.SignedTexts.{statement_text}
+use Rattle.mb_model.specs.Valid.{AreNamed, IsValidState, Valid}
+use Rattle.mb_model_histories.specs.Histories.{ComesAfter}
+
+-- Between two worlds of a history, at one event, a key with this number signs this text.
+pub record SignsBetween (first last : World) (key_number : ℕ) (text : List ℕ) : Type 0 where
+  pub here : World
+  pub after : World
+  pub state : State
+  pub layer : ℕ
+  pub index : ℕ
+  pub message : List ℕ
+  pub bytes : List ℕ
+  pub before : ComesAfter here first
+  pub step : Step here (Sign layer key_number message) (reply.Signed key_number index bytes) after
+  pub later : ComesAfter last after
+  pub is : here.state ≡ Some state
+  pub text_is : text ≡ statement_text state.serial key_number (number_of (entries_of state.log)) message
+
+-- The statement is not forged: if it verifies under the key that this log makes with this number, that key signed its
+-- text between these worlds.
+abbrev pub HonestStatement : World → World → List Entry → ℕ → Statement → Type 0
+HonestStatement first last log key_number statement =
+    (made : KeyEntry) (serial : List ℕ) → key_of log key_number ≡ Some made → serial_of log ≡ Some serial
+    → Verifies made.key (statement_text serial key_number statement.number statement.message) statement.signature
+    → SignsBetween first last key_number (statement_text serial key_number statement.number statement.message)
+
+-- Between two worlds of a history the device let the key sign this statement, in the last configuration that the report
+-- lists: the layers up to the key's own were reliable and had that code, and none above it was in control.
+pub record WasMade
+    (first last : World)
+    (key_number : ℕ)
+    (report : Report)
+    (statement : Statement) : Type 0 where
+  pub here : World
+  pub after : World
+  pub state : State
+  pub index : ℕ
+  pub bytes : List ℕ
+  pub before : ComesAfter here first
+  pub step : Step here (Sign report.layer key_number statement.message) (reply.Signed key_number index bytes) after
+  pub later : ComesAfter last after
+  pub is : here.state ≡ Some state
+  pub numbered : number_of (entries_of state.log) ≡ statement.number
+  pub sooner : List Configuration
+  pub number : ℕ
+  pub lives : report.lives ≡ sooner ++ configuration report.layer number state.layers ∷ []
+  pub runs : Runnable state.layers report.layer
+  pub named : AreNamed state.layers state.codes
+  pub level : ℕ
+  pub running : here.phase ≡ ratchet level
+  pub in_control : level ≤ report.layer
+
+-- If nothing was forged, neither an entry of the chain nor its statement, a statement that is accepted was made by the
+-- device with this log, which has the serial that the chain names.
+abbrev pub AcceptedStatementsWereMade : Type 0
+AcceptedStatementsWereMade =
+    (maker : PublicKey) (bytes : List ℕ) (key_number : ℕ) (report : Report)
+    → (accepts : Accepts maker bytes key_number report) (statement : Statement) (first last : World) (live : State)
+    → Valid first.state → ComesAfter last first → last.state ≡ Some live → length live.log ≤ ENTRY_LIMIT
+    → Honest accepts.chain.entries maker (entries_of live.log) → accepts.chain.statement ≡ Some statement
+    → HonestStatement first last (entries_of live.log) key_number statement
+    → WasMade first last key_number report statement × (serial_of (entries_of accepts.chain.entries) ≡ Some live.serial)
+
+-- a whole log with a statement, as a chain
+abbrev pub whole_chain : List SignedEntry → Statement → Chain
+whole_chain log statement = record { entries = log; statement = Some statement }
+
+-- That the statement is not forged cannot be left out: what the key signs elsewhere, as in a copy of the device, is
+-- accepted with this device's chain, in which no entry is forged, though this device did not make it.
+abbrev pub StatementsMayBeMadeElsewhere : Type 0
+StatementsMayBeMadeElsewhere =
+    (maker : PublicKey) (bytes message : List ℕ) (world : World) (state : State) (layer : ℕ) (key : RegionKey)
+    → IsValidState state → world.state ≡ Some state → Contains (region_of state layer).keys key → key.uses < 32
+    → IsBornOf maker state.log
+    → let statement : Statement = statement_of state key message in
+    Spells chain_format bytes (whole_chain state.log statement)
+    → (report : Report) × (accepts : Accepts maker bytes key.number report)
+    × (accepts.chain.statement ≡ Some statement) × Honest accepts.chain.entries maker (entries_of state.log)
+    × (WasMade world world key.number report statement → ⊥)

@@ -1,0 +1,12 @@
+pub mod SignedTextLaws
+pub mod Histories
+pub mod ObeyedOrders
+pub mod TargetLaws
+pub mod OwnerLaws
+pub mod HistoryLaws
+pub mod AcceptanceLaws
+pub mod SightLaws
+pub mod PowerLaws
+pub mod RepairLaws
+pub mod AgreementLaws
+pub mod UseLaws

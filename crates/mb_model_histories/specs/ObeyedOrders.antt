@@ -1,0 +1,45 @@
+-- When a device obeys an order, and what it keeps when it obeys none. Does anything else than an order change a device?
+use Rattle.std.specs.Prelude.{◌≡◌, ◌<◌, List, ℕ, false, Some}
+use Rattle.mb_format.specs.Format.{Spells}
+use Rattle.mb_model.specs.declared.event.Event.{Event}
+use Rattle.mb_model.specs.declared.event.Event.TheVariants.{Command}
+use Rattle.mb_model.specs.declared.layer.Layer.{Layer}
+use Rattle.mb_model.specs.declared.order.Order.{Order}
+use Rattle.mb_model.specs.declared.state.State.{State}
+use Rattle.mb_model.specs.Layers.{layer_of}
+use Rattle.mb_model.specs.Machine.{ratchet, World}
+use Rattle.mb_model.specs.OrderChecks.{view_of, IsSigned, Passes}
+use Rattle.mb_model.specs.OrderEffects.{state_after_order}
+use Rattle.mb_model.specs.OrderFormat.{order_format}
+use Rattle.mb_model.specs.Rules.{layer_from_order}
+
+-- At this event, while layer 1 runs, the order passes, and what it leaves is the state of the next world. Whether the
+-- device answered so, or lost power after it had written, is left open.
+pub record ObeysAt (here : World) (this : Event) (next : World) (order : Order) : Type 0 where
+  pub text : List ℕ
+  pub draw : List ℕ
+  pub before : State
+  pub given : this ≡ Command text draw
+  pub running : here.phase ≡ ratchet 1
+  pub was : here.state ≡ Some before
+  pub spelled : Spells order_format text order
+  pub passes : Passes (view_of before) order
+  pub is : next.state ≡ Some (state_after_order before order draw)
+
+-- all of the state is kept but the regions: serial, layers and their code, log, device key and its uses
+abbrev pub KeepsAllButRegions : State → State → Type 0
+KeepsAllButRegions before after = after ≡ record before { two = after.two; three = after.three }
+
+-- ---- what an order makes of a layer
+
+-- A layer is `new` after an order: as it was; or, if it is the layer of the order, and the owner in charge signed that,
+-- what the order puts there; or, if it stands above that layer, no longer reliable, and else as it was.
+pub data Becomes (before : State) (order : Order) (layer : ℕ) (new : Layer) : Type 0 where
+  stays : new ≡ layer_of before.layers layer → Becomes before order layer new
+  is_ordered : layer ≡ order.layer
+      → IsSigned (view_of before) order
+      → new ≡ layer_from_order (layer_of before.layers layer) order.act
+      → Becomes before order layer new
+  is_distrusted : order.layer < layer
+      → new ≡ record (layer_of before.layers layer) { reliable = false }
+      → Becomes before order layer new
