@@ -1,6 +1,6 @@
 //! The command `chain`, and the writing of a chain.
 
-ghost use Rattle.std.specs.Prelude.{◌≡◌, Some, IfOk, string_bytes, map};
+ghost use Rattle.std.specs.Prelude.{◌+◌, ◌≤◌, ◌≡◌, Some, IfOk, string_bytes, map};
 ghost use Rattle.mb_model.specs.Valid.{Valid, IsValidState};
 ghost use Rattle.mb_model.specs.ChainFormat.{chain_format};
 ghost use Rattle.mb_model.specs.ChainCommands.{chain, chain_of, write_entries, entries_text};
@@ -8,6 +8,7 @@ ghost use Rattle.mb_model_memory.specs.Storable.{Storable, IsStorableState};
 ghost use Rattle.mb_tools.specs.Names.{chain_files, chain_given};
 ghost use Rattle.mb_console.specs.Words.{given_argument};
 ghost use Rattle.mb_console.specs.Ending.{CarriesOut};
+ghost use Rattle.mb_image.specs.declared.image.TheConstants.{IMAGE_HASHES};
 
 use crate::input::devices::read_image;
 use mb_cert::write_chain;
@@ -44,7 +45,8 @@ pub fn chain<H: Host, L: Ledger>(
     host: &mut H,
     hashes: &mut HashCount<L>,
 ) -> Result<(), End>
-    ensures { CarriesOut (chain (chain_files names.now)) (H.outside host.old) result (H.outside host.new) }
+    ensures carried { CarriesOut (chain (chain_files names.now)) (H.outside host.old) result (H.outside host.new) }
+    ensures cost { hashes.new ≤ hashes.old + IMAGE_HASHES }
 {
     let image = read_image(alloc, host, names.image, hashes)?;
     chain_of(alloc, names, image.state, host)

@@ -1,12 +1,13 @@
 //! The command `factory`.
 
-ghost use Rattle.std.specs.Prelude.{◌≡◌, IfOk, string_bytes, map};
+ghost use Rattle.std.specs.Prelude.{◌+◌, ◌≤◌, ◌≡◌, IfOk, string_bytes, map};
 ghost use Rattle.mb_model.specs.declared.tools.Keyfile.{Keyfile};
 ghost use Rattle.mb_model.specs.SignedOrders.{keyfile_after_use};
 ghost use Rattle.mb_model.specs.FactoryCommand.{factory, factory_with_noise, factory_with_key, factory_with_owner, write_device, serial_text};
 ghost use Rattle.mb_tools.specs.Names.{factory_files, factory_given};
 ghost use Rattle.mb_console.specs.Words.{given_argument};
 ghost use Rattle.mb_console.specs.Ending.{CarriesOut};
+ghost use Rattle.mb_lms.specs.declared.hash_count.TheConstants.{SIGNING_HASHES, TREE_HASHES};
 
 use crate::input::devices::CodeForm;
 use crate::input::keys::{KeyForm, Leading, PublicKeyForm};
@@ -52,7 +53,8 @@ pub fn factory<H: Host, L: Ledger>(
     host: &mut H,
     hashes: &mut HashCount<L>,
 ) -> Result<(), End>
-    ensures { CarriesOut (factory (factory_files names.now)) (H.outside host.old) result (H.outside host.new) }
+    ensures carried { CarriesOut (factory (factory_files names.now)) (H.outside host.old) result (H.outside host.new) }
+    ensures cost { hashes.new ≤ hashes.old + TREE_HASHES + SIGNING_HASHES }
 {
     let noise = read_as(alloc, host, Role::Noise, names.noise, Leading::<48>)?;
     factory_drawn(alloc, names, &noise, host, hashes)
@@ -66,7 +68,8 @@ fn factory_drawn<H: Host, L: Ledger>(
     host: &mut H,
     hashes: &mut HashCount<L>,
 ) -> Result<(), End>
-    ensures { CarriesOut (factory_with_noise (factory_files names.now) noise.now) (H.outside host.old) result (H.outside host.new) }
+    ensures carried { CarriesOut (factory_with_noise (factory_files names.now) noise.now) (H.outside host.old) result (H.outside host.new) }
+    ensures cost { hashes.new ≤ hashes.old + TREE_HASHES + SIGNING_HASHES }
 {
     let key = read_as(alloc, host, Role::Key, names.key, KeyForm)?;
     factory_keyed(alloc, names, noise, key, host, hashes)
@@ -81,7 +84,8 @@ fn factory_keyed<H: Host, L: Ledger>(
     host: &mut H,
     hashes: &mut HashCount<L>,
 ) -> Result<(), End>
-    ensures { CarriesOut (factory_with_key (factory_files names.now) noise.now key) (H.outside host.old) result (H.outside host.new) }
+    ensures carried { CarriesOut (factory_with_key (factory_files names.now) noise.now key) (H.outside host.old) result (H.outside host.new) }
+    ensures cost { hashes.new ≤ hashes.old + TREE_HASHES + SIGNING_HASHES }
 {
     let owner = read_as(alloc, host, Role::Owner, names.owner, PublicKeyForm)?;
     factory_owned(alloc, names, noise, key, &owner, host, hashes)
@@ -97,7 +101,8 @@ fn factory_owned<H: Host, L: Ledger>(
     host: &mut H,
     hashes: &mut HashCount<L>,
 ) -> Result<(), End>
-    ensures { CarriesOut (factory_with_owner (factory_files names.now) noise.now key owner.now) (H.outside host.old) result (H.outside host.new) }
+    ensures carried { CarriesOut (factory_with_owner (factory_files names.now) noise.now key owner.now) (H.outside host.old) result (H.outside host.new) }
+    ensures cost { hashes.new ≤ hashes.old + TREE_HASHES + SIGNING_HASHES }
 {
     let code = read_as(alloc, host, Role::Code, names.code, CodeForm)?;
     match make_image(alloc, &mut key, owner, &code, noise, hashes) {

@@ -1,12 +1,13 @@
 //! The command `keygen`.
 
-ghost use Rattle.std.specs.Prelude.{◌≡◌, IfOk, string_bytes, map};
+ghost use Rattle.std.specs.Prelude.{◌+◌, ◌≤◌, ◌≡◌, IfOk, string_bytes, map};
 ghost use Rattle.mb_model.specs.Key.{key_bytes};
 ghost use Rattle.mb_model.specs.Signing.{public_of};
 ghost use Rattle.mb_model.specs.Keygen.{keygen, owner_text, write_key};
 ghost use Rattle.mb_tools.specs.Names.{keygen_files, keygen_given};
 ghost use Rattle.mb_console.specs.Words.{given_argument};
 ghost use Rattle.mb_console.specs.Ending.{CarriesOut};
+ghost use Rattle.mb_lms.specs.declared.hash_count.TheConstants.{TREE_HASHES};
 
 use crate::input::keys::Leading;
 use mb_console::{Arguments, End, Output, file, finish, read_as};
@@ -46,7 +47,8 @@ pub fn keygen<H: Host, L: Ledger>(
     host: &mut H,
     hashes: &mut HashCount<L>,
 ) -> Result<(), End>
-    ensures { CarriesOut (keygen (keygen_files names.now)) (H.outside host.old) result (H.outside host.new) }
+    ensures carried { CarriesOut (keygen (keygen_files names.now)) (H.outside host.old) result (H.outside host.new) }
+    ensures cost { hashes.new ≤ hashes.old + TREE_HASHES }
 {
     let noise = read_as(
         alloc,
@@ -66,7 +68,8 @@ fn write_key<H: Host, L: Ledger>(
     host: &mut H,
     hashes: &mut HashCount<L>,
 ) -> Result<(), End>
-    ensures { CarriesOut (write_key (keygen_files names.now) key.now (key_bytes (public_of key.now.seed))) (H.outside host.old) result (H.outside host.new) }
+    ensures carried { CarriesOut (write_key (keygen_files names.now) key.now (key_bytes (public_of key.now.seed))) (H.outside host.old) result (H.outside host.new) }
+    ensures cost { hashes.new ≤ hashes.old + TREE_HASHES }
 {
     let owner = public(&key.seed, hashes);
     let Ok(text) = owner_text(alloc, &owner) else {

@@ -1,10 +1,11 @@
 //! The command `migrate`.
 
-ghost use Rattle.std.specs.Prelude.{◌≡◌, IfOk, string_bytes, map};
+ghost use Rattle.std.specs.Prelude.{◌+◌, ◌≤◌, ◌*◌, ◌≡◌, IfOk, string_bytes, map};
 ghost use Rattle.mb_model.specs.MigrateCommand.{migrate, write_migrated_image, migrated_text};
 ghost use Rattle.mb_tools.specs.Names.{migrate_files, migrate_given};
 ghost use Rattle.mb_console.specs.Words.{given_argument};
 ghost use Rattle.mb_console.specs.Ending.{CarriesOut};
+ghost use Rattle.mb_image.specs.declared.image.TheConstants.{IMAGE_HASHES};
 
 use crate::input::devices::read_old_image;
 use mb_console::{Arguments, End, Output, file, finish};
@@ -42,7 +43,8 @@ pub fn migrate<H: Host, L: Ledger>(
     host: &mut H,
     hashes: &mut HashCount<L>,
 ) -> Result<(), End>
-    ensures { CarriesOut (migrate (migrate_files names.now)) (H.outside host.old) result (H.outside host.new) }
+    ensures carried { CarriesOut (migrate (migrate_files names.now)) (H.outside host.old) result (H.outside host.new) }
+    ensures cost { hashes.new ≤ hashes.old + 2 * IMAGE_HASHES }
 {
     let image = read_old_image(alloc, host, names.image, hashes)?;
     write_migrated(alloc, names, &image, host)

@@ -1,6 +1,6 @@
 //! The commands `sign` and `countersign`.
 
-ghost use Rattle.std.specs.Prelude.{◌≡◌, IfOk, IsTrue, string_bytes, map};
+ghost use Rattle.std.specs.Prelude.{◌+◌, ◌≤◌, ◌≡◌, IfOk, IsTrue, string_bytes, map};
 ghost use Rattle.mb_model.specs.declared.tools.Keyfile.{Keyfile};
 ghost use Rattle.mb_model.specs.Layers.{is_upper};
 ghost use Rattle.mb_model.specs.OrderFormat.{order_format};
@@ -10,6 +10,7 @@ ghost use Rattle.mb_tools.specs.Names.{sign_files, sign_given, countersign_files
 ghost use Rattle.mb_console.specs.Words.{given_argument};
 ghost use Rattle.mb_console.specs.Ending.{CarriesOut};
 ghost use Rattle.mb_tools.specs.Signing.{TellsUnsigned};
+ghost use Rattle.mb_lms.specs.declared.hash_count.TheConstants.{SIGNING_HASHES};
 
 use crate::input::keys::KeyForm;
 use crate::input::orders::{DraftForm, OrderLine};
@@ -83,7 +84,8 @@ pub fn sign<H: Host, L: Ledger>(
     host: &mut H,
     hashes: &mut HashCount<L>,
 ) -> Result<(), End>
-    ensures { CarriesOut (sign (sign_files names.now)) (H.outside host.old) result (H.outside host.new) }
+    ensures carried { CarriesOut (sign (sign_files names.now)) (H.outside host.old) result (H.outside host.new) }
+    ensures cost { hashes.new ≤ hashes.old + SIGNING_HASHES }
 {
     let key = read_as(alloc, host, Role::Key, names.key, KeyForm)?;
     sign_draft(alloc, names, key, host, hashes)
@@ -97,7 +99,8 @@ fn sign_draft<H: Host, L: Ledger>(
     host: &mut H,
     hashes: &mut HashCount<L>,
 ) -> Result<(), End>
-    ensures { CarriesOut (sign_draft (sign_files names.now) key) (H.outside host.old) result (H.outside host.new) }
+    ensures carried { CarriesOut (sign_draft (sign_files names.now) key) (H.outside host.old) result (H.outside host.new) }
+    ensures cost { hashes.new ≤ hashes.old + SIGNING_HASHES }
 {
     let mut order = read_as(alloc, host, Role::Draft, names.draft, DraftForm)?;
     let outputs = OutputNames {
@@ -119,7 +122,8 @@ pub fn countersign<H: Host, L: Ledger>(
     hashes: &mut HashCount<L>,
 ) -> Result<(), End>
     requires { IsTrue (is_upper names.now.layer) }
-    ensures { CarriesOut (countersign (countersign_files names.now)) (H.outside host.old) result (H.outside host.new) }
+    ensures carried { CarriesOut (countersign (countersign_files names.now)) (H.outside host.old) result (H.outside host.new) }
+    ensures cost { hashes.new ≤ hashes.old + SIGNING_HASHES }
 {
     let key = read_as(alloc, host, Role::Key, names.key, KeyForm)?;
     countersign_order(alloc, names, key, host, hashes)
@@ -134,7 +138,8 @@ fn countersign_order<H: Host, L: Ledger>(
     hashes: &mut HashCount<L>,
 ) -> Result<(), End>
     requires layer { IsTrue (is_upper names.now.layer) }
-    ensures { CarriesOut (countersign_order (countersign_files names.now) key) (H.outside host.old) result (H.outside host.new) }
+    ensures carried { CarriesOut (countersign_order (countersign_files names.now) key) (H.outside host.old) result (H.outside host.new) }
+    ensures cost { hashes.new ≤ hashes.old + SIGNING_HASHES }
 {
     let mut order = read_as(alloc, host, Role::Order, names.order, OrderLine)?;
     let outputs = OutputNames {

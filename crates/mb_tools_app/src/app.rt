@@ -1,6 +1,6 @@
 //! The command `app`.
 
-ghost use Rattle.std.specs.Prelude.{◌≡◌, ◌≤◌, length, map, IfOk, IsTrue, IsSome, Some, string_bytes};
+ghost use Rattle.std.specs.Prelude.{◌+◌, ◌≡◌, ◌≤◌, length, map, IfOk, IsTrue, IsSome, Some, string_bytes};
 ghost use Rattle.mb_model.specs.declared.limits.TheConstants.{FILE_LIMIT};
 ghost use Rattle.mb_model.specs.Texts.{line_with_lf};
 ghost use Rattle.mb_model.specs.Layers.{is_upper, Runnable};
@@ -12,6 +12,7 @@ ghost use Rattle.mb_console.specs.Ending.{CarriesOut};
 ghost use Rattle.mb_console.specs.Words.{given_argument};
 ghost use Rattle.mb_tools_app.specs.AppCommand.{app, app_device, run_stored_code, RunsStoredCode, code_of_layer, tell_end, app_line};
 ghost use Rattle.mb_tools_app.specs.Names.{app_files, app_given};
+ghost use Rattle.mb_image.specs.declared.image.TheConstants.{IMAGE_HASHES};
 
 use mb_appvm::{AppEnd, run_app};
 use mb_authority::is_runnable;
@@ -57,7 +58,8 @@ pub fn app<H: Host, L: Ledger>(
     hashes: &mut HashCount<L>,
 ) -> Result<(), End>
     requires { IsTrue (is_upper names.now.layer) }
-    ensures { CarriesOut (app (app_files names.now)) (H.outside host.old) result (H.outside host.new) }
+    ensures carried { CarriesOut (app (app_files names.now)) (H.outside host.old) result (H.outside host.new) }
+    ensures cost { hashes.new ≤ hashes.old + IMAGE_HASHES }
 {
     let image = read_image(alloc, host, names.image, hashes)?;
     app_device(alloc, names, image.state, host)

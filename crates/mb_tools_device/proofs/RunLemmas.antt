@@ -1,5 +1,5 @@
 -- What carries out `run`.
-use Rattle.std.proofs.Common.{◌≡◌, ℕ, ◌+◌, ◌≤◌, Bool, true, false, List, [], ◌∷◌, length, map, ◌++◌, Option, Some, Result, refl, sym, ◌∙◌, ap, subst, arith}
+use Rattle.std.proofs.Common.{◌≡◌, ℕ, ◌+◌, ◌≤◌, Bool, true, false, List, [], ◌∷◌, length, length-append, length-map, map, ◌++◌, Option, Some, Result, refl, sym, ◌∙◌, ap, subst, arith}
 use Rattle.std.specs.Prelude.{All, nat_lt, if◌then◌else◌}
 use Rattle.std.proofs.lemmas.List.Elements.{All-nil, All-cons, All-head, All-tail}
 use Rattle.mb_model.specs.declared.event.Event.{Event}
@@ -7,7 +7,7 @@ use Rattle.mb_model.specs.declared.event.Answered.{Answered}
 use Rattle.mb_model.specs.declared.role.Role.TheVariants as role
 use Rattle.mb_model.specs.declared.state.State.{State}
 use Rattle.mb_model.specs.Outside.{Outside}
-use Rattle.mb_model.specs.Machine.{opening_world, off}
+use Rattle.mb_model.specs.Machine.{World, opening_world, off}
 use Rattle.mb_model.specs.Meaning.{StandsFor, IsWellFormed}
 use Rattle.mb_model.specs.Script.{IsScriptEvent}
 use Rattle.mb_model.specs.Board.{Memory, Ledger, Meter, Held, Used, IsLoaded, image_of, phase_at, held_at_load, ledger_at_load, counted_load, use_of, not_used, loaded_once_more, having_answered}
@@ -81,6 +81,11 @@ loaded_use image past memory events old ledger was is bytes =
     ∙ ap (λ (u : Used). loaded_once_more image u) was
 
 -- ---- the events
+
+-- as many events were answered as waited
+pub answered_count : (world : World) (before after : Ledger) (held : Held) → IsServedFrom world before after held → length after.answered ≡ length before.answered + length before.waiting
+answered_count world before after held from =
+    omega (arith, ap length from.grown, length-append before.answered from.more, ap length from.all, length-map (λ (a : Answered). a.event) from.more)
 
 -- events that were answered are those of a script, where those are that were given
 all_scripted : (answered : List Answered) (events : List Event) → map (λ a. a.event) answered ≡ events → All IsScriptEvent events → All (λ a. IsScriptEvent a.event) answered

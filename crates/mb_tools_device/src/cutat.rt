@@ -1,6 +1,6 @@
 //! The command `cutat`.
 
-ghost use Rattle.std.specs.Prelude.{◌≡◌, ◌≤◌, ℕ, List, length, All, None, Option, false, map};
+ghost use Rattle.std.specs.Prelude.{◌+◌, ◌*◌, ◌≡◌, ◌≤◌, ℕ, List, length, All, None, Option, false, map};
 ghost use Rattle.mb_model.specs.declared.limits.TheConstants.{CUT_LIMIT, EVENT_LIMIT, IMAGE_LENGTH};
 ghost use Rattle.mb_model.specs.declared.state.State.{State as Stands};
 ghost use Rattle.mb_model.specs.Board.{Held, Used, IsLoaded, image_of, use_of};
@@ -15,6 +15,8 @@ ghost use Rattle.mb_tools_device.specs.Boards.{IsFresh, CarriesOutOn};
 ghost use Rattle.mb_tools_device.specs.Holding.{HoldsShut, EndsServed, EndsHolding, IsDone, IsOutOfMemory};
 ghost use Rattle.mb_tools_device.specs.Names.{cut_files, cut_given};
 ghost use Rattle.mb_tools_device.specs.TwoRuns.{AreRuns, CanBeCut, IsImageLeft};
+ghost use Rattle.mb_device.specs.declared.step.TheConstants.{STEP_HASHES};
+ghost use Rattle.mb_image.specs.declared.image.TheConstants.{IMAGE_HASHES};
 
 use crate::scripts::{UncutScriptForm, read_draws};
 use crate::summary::wants_memory;
@@ -72,6 +74,7 @@ pub fn cutat<H: Host, B: Board, L: Ledger>(
     ensures carried { CarriesOutOn (cutat (cut_files names.now)) (B.seen board.new) (H.outside host.old)
         result (H.outside host.new) }
     ensures stays { EndsHolding (IsDone result) (IsOutOfMemory result) (B.seen board.old) (B.seen board.new) }
+    ensures cost { hashes.new ≤ hashes.old + 3 * IMAGE_HASHES + 2 * STEP_HASHES * EVENT_LIMIT }
 {
     let image = read_image(alloc, host, names.image, hashes)?;
     cut_image(alloc, names, image.bytes, host, board, hashes)
@@ -94,6 +97,7 @@ fn cut_image<H: Host, B: Board, L: Ledger>(
         → CarriesOutOn (read_uncut_script (cut_files names.now) (record { bytes = image.items; state = state })) (B.seen board.new) (H.outside host.old)
         result (H.outside host.new) }
     ensures stays { EndsHolding (IsDone result) (IsOutOfMemory result) (B.seen board.old) (B.seen board.new) }
+    ensures cost { hashes.new ≤ hashes.old + 2 * IMAGE_HASHES + 2 * STEP_HASHES * EVENT_LIMIT }
 {
     let events = read_as(alloc, host, Role::Script, names.script, UncutScriptForm)?;
     cut_script(alloc, names, image, events, host, board, hashes)
@@ -119,6 +123,7 @@ fn cut_script<H: Host, B: Board, L: Ledger>(
         → CarriesOutOn (read_cut_noise (cut_files names.now) (record { bytes = image.items; state = state }) events) (B.seen board.new) (H.outside host.old)
         result (H.outside host.new) }
     ensures stays { EndsHolding (IsDone result) (IsOutOfMemory result) (B.seen board.old) (B.seen board.new) }
+    ensures cost { hashes.new ≤ hashes.old + 2 * IMAGE_HASHES + 2 * STEP_HASHES * EVENT_LIMIT }
 {
     let drawn = read_draws(alloc, host, names.noise, events)?;
     cut_drawn(alloc, names, image, drawn, host, board, hashes)
@@ -144,6 +149,7 @@ fn cut_drawn<H: Host, B: Board, L: Ledger>(
         → CarriesOutOn (serve_twice (cut_files names.now) (record { bytes = image.items; state = state }) events) (B.seen board.new) (H.outside host.old)
         result (H.outside host.new) }
     ensures stays { EndsHolding (IsDone result) (IsOutOfMemory result) (B.seen board.old) (B.seen board.new) }
+    ensures cost { hashes.new ≤ hashes.old + 2 * IMAGE_HASHES + 2 * STEP_HASHES * EVENT_LIMIT }
 {
     let Ok(runs) = two_runs(alloc, events, names.count, names.fill) else {
         return Err(End::NoMemory);
@@ -172,6 +178,7 @@ fn serve_first<H: Host, B: Board, L: Ledger>(
         → CarriesOutOn (serve_first (cut_files names.now) (record { bytes = image.items; state = state }) cut) (B.seen board.new) (H.outside host.old)
         result (H.outside host.new) }
     ensures stays { EndsHolding (IsDone result) (IsOutOfMemory result) (B.seen board.old) (B.seen board.new) }
+    ensures cost { hashes.new ≤ hashes.old + 2 * IMAGE_HASHES + 2 * STEP_HASHES * EVENT_LIMIT }
 {
     let Ok(mut before) = Vec::from_slice(alloc, &image) else {
         return Err(End::NoMemory);
@@ -212,6 +219,7 @@ fn serve_cut<H: Host, B: Board, L: Ledger>(
         (record { used = use_of (B.seen board.old).ledger; wrote = false }) (use_of (B.seen board.new).ledger)
         (B.seen board.new).ledger.standing (H.outside host.old) result (H.outside host.new) }
     ensures stays { HoldsShut (B.seen board.old) → EndsServed (IsDone result) (IsOutOfMemory result) (B.seen board.new) }
+    ensures cost { hashes.new ≤ hashes.old + 2 * IMAGE_HASHES + STEP_HASHES * EVENT_LIMIT }
 {
     match board.load(alloc, &image, events) {
         Ok(()) => {}
@@ -234,11 +242,12 @@ fn tell_cut<H: Host, B: Board, L: Ledger>(
     requires loaded { IsLoaded (B.seen board.now).memory }
     requires answered { (B.seen board.now).ledger.standing.memory ≡ (B.seen board.now).memory }
     requires room { length image.items ≡ IMAGE_LENGTH }
-    ensures { (held : Held) → IsImageLeft held before.now
+    ensures carried { (held : Held) → IsImageLeft held before.now
         → ((last : List ℕ) → last ≡ image_of (B.seen board.now).memory → IsImageLeft (B.seen board.now).ledger.standing last)
         → CarriesOutRest (tell_cut held (B.seen board.now).ledger.answered (B.seen board.now).ledger.standing)
         (record { used = use_of (B.seen board.now).ledger; wrote = false }) (use_of (B.seen board.now).ledger)
         (B.seen board.now).ledger.standing (H.outside host.old) result (H.outside host.new) }
+    ensures cost { hashes.new ≤ hashes.old + 2 * IMAGE_HASHES }
 {
     let answered = board.answered();
     if wants_memory(answered) {
@@ -260,9 +269,10 @@ fn tell_state<H: Host, L: Ledger>(
     host: &mut H,
     hashes: &mut HashCount<L>,
 ) -> Result<(), End>
-    ensures { (held final : Held) (used : Used) → IsImageLeft held before.now → IsImageLeft final after.now
+    ensures carried { (held final : Held) (used : Used) → IsImageLeft held before.now → IsImageLeft final after.now
         → CarriesOutRest (tell_state held final) (record { used = used; wrote = false }) used final
         (H.outside host.old) result (H.outside host.new) }
+    ensures cost { hashes.new ≤ hashes.old + 2 * IMAGE_HASHES }
 {
     let Ok(before) = stand_for(alloc, before, hashes) else {
         return Err(End::NoMemory);

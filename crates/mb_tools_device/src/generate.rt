@@ -1,6 +1,6 @@
 //! The command `generate`.
 
-ghost use Rattle.std.specs.Prelude.{◌≡◌, ◌≤◌, length, All, IfOk, IfErr, OnOk, map};
+ghost use Rattle.std.specs.Prelude.{◌+◌, ◌*◌, ◌≡◌, ◌≤◌, length, All, IfOk, IfErr, OnOk, map};
 ghost use Rattle.mb_model.specs.declared.limits.TheConstants.{EVENT_LIMIT, IMAGE_LENGTH};
 ghost use Rattle.mb_model.specs.Board.{IsLoaded, use_of};
 ghost use Rattle.mb_model.specs.Machine.{World};
@@ -18,6 +18,8 @@ ghost use Rattle.mb_tools_device.specs.Boards.{IsFresh, CarriesOutOn};
 ghost use Rattle.mb_tools_device.specs.Holding.{EndsHolding, IsDone};
 ghost use Rattle.mb_console.specs.Outputs.{WritesAll, StopsWriting};
 ghost use Rattle.mb_tools_device.specs.Generated.{HasEvents, workload_outputs};
+ghost use Rattle.mb_device.specs.declared.step.TheConstants.{STEP_HASHES};
+ghost use Rattle.mb_lms.specs.declared.hash_count.TheConstants.{SIGNING_HASHES, TREE_HASHES};
 
 use crate::summary::{summary_of, wants_memory};
 use mb_board::Board;
@@ -72,6 +74,7 @@ pub fn generate<H: Host, B: Board, L: Ledger>(
     ensures carried { CarriesOutOn (generate (generate_files names.now)) (B.seen board.new) (H.outside host.old)
         result (H.outside host.new) }
     ensures stays { EndsHolding (IsDone result) ⊥ (B.seen board.old) (B.seen board.new) }
+    ensures cost { hashes.new ≤ hashes.old + 4 * TREE_HASHES + 6 * SIGNING_HASHES + 3 * SIGNING_HASHES * names.now.rounds + STEP_HASHES * length (B.seen board.new).ledger.answered }
 {
     let Ok(files) = workload(alloc, names.number, names.rounds, hashes) else {
         return Err(End::NoMemory);
@@ -118,6 +121,7 @@ fn load_workload<H: Host, B: Board, L: Ledger>(
     ensures carried { CarriesOutOn (generate (generate_files names.now)) (B.seen board.new) (H.outside host.old)
         result (H.outside host.new) }
     ensures stays { EndsHolding (IsDone result) ⊥ (B.seen board.old) (B.seen board.new) }
+    ensures cost { hashes.new ≤ hashes.old + STEP_HASHES * length (B.seen board.new).ledger.answered }
 {
     match board.load(alloc, files.image.as_slice(), events) {
         Ok(()) => {}

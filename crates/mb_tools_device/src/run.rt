@@ -1,6 +1,6 @@
 //! The command `run`.
 
-ghost use Rattle.std.specs.Prelude.{◌≡◌, ◌≤◌, length, All, Option, false, map};
+ghost use Rattle.std.specs.Prelude.{◌+◌, ◌*◌, ◌≡◌, ◌≤◌, length, All, Option, false, map};
 ghost use Rattle.mb_model.specs.declared.limits.TheConstants.{EVENT_LIMIT, IMAGE_LENGTH};
 ghost use Rattle.mb_model.specs.declared.state.State.{State};
 ghost use Rattle.mb_model.specs.Board.{IsLoaded, use_of};
@@ -12,6 +12,8 @@ ghost use Rattle.mb_console.specs.Words.{given_argument};
 ghost use Rattle.mb_console.specs.Ending.{CarriesOutRest};
 ghost use Rattle.mb_tools_device.specs.Boards.{IsFresh, CarriesOutOn};
 ghost use Rattle.mb_tools_device.specs.Holding.{EndsHolding, IsDone};
+ghost use Rattle.mb_device.specs.declared.step.TheConstants.{STEP_HASHES};
+ghost use Rattle.mb_image.specs.declared.image.TheConstants.{IMAGE_HASHES};
 
 use crate::replies::write_replies;
 use crate::scripts::{ScriptForm, read_draws};
@@ -58,6 +60,7 @@ pub fn run<H: Host, B: Board, L: Ledger>(
     ensures carried { CarriesOutOn (run (run_files names.now)) (B.seen board.new) (H.outside host.old)
         result (H.outside host.new) }
     ensures stays { EndsHolding (IsDone result) ⊥ (B.seen board.old) (B.seen board.new) }
+    ensures cost { hashes.new ≤ hashes.old + IMAGE_HASHES + STEP_HASHES * length (B.seen board.new).ledger.answered }
 {
     let image = read_image(alloc, host, names.image, hashes)?;
     run_image(alloc, names, image.bytes, host, board, hashes)
@@ -78,6 +81,7 @@ fn run_image<H: Host, B: Board, L: Ledger>(
         → CarriesOutOn (read_script (run_files names.now) (record { bytes = image.items; state = state })) (B.seen board.new) (H.outside host.old)
         result (H.outside host.new) }
     ensures stays { EndsHolding (IsDone result) ⊥ (B.seen board.old) (B.seen board.new) }
+    ensures cost { hashes.new ≤ hashes.old + STEP_HASHES * length (B.seen board.new).ledger.answered }
 {
     let events = read_as(alloc, host, Role::Script, names.script, ScriptForm)?;
     run_events(alloc, names, image, events, host, board, hashes)
@@ -101,6 +105,7 @@ fn run_events<H: Host, B: Board, L: Ledger>(
         → CarriesOutOn (read_noise (run_files names.now) (record { bytes = image.items; state = state }) events) (B.seen board.new) (H.outside host.old)
         result (H.outside host.new) }
     ensures stays { EndsHolding (IsDone result) ⊥ (B.seen board.old) (B.seen board.new) }
+    ensures cost { hashes.new ≤ hashes.old + STEP_HASHES * length (B.seen board.new).ledger.answered }
 {
     let drawn = read_draws(alloc, host, names.noise, events)?;
     run_drawn(alloc, names, image, drawn, host, board, hashes)
@@ -124,6 +129,7 @@ fn run_drawn<H: Host, B: Board, L: Ledger>(
         → CarriesOutOn (serve_events (run_files names.now) (record { bytes = image.items; state = state }) events) (B.seen board.new) (H.outside host.old)
         result (H.outside host.new) }
     ensures stays { EndsHolding (IsDone result) ⊥ (B.seen board.old) (B.seen board.new) }
+    ensures cost { hashes.new ≤ hashes.old + STEP_HASHES * length (B.seen board.new).ledger.answered }
 {
     match board.load(alloc, &image, events) {
         Ok(()) => {}

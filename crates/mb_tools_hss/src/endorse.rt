@@ -1,6 +1,6 @@
 //! The command `endorse`.
 
-ghost use Rattle.std.specs.Prelude.{◌≡◌, IfOk, map, string_bytes};
+ghost use Rattle.std.specs.Prelude.{◌+◌, ◌≤◌, ◌*◌, ◌≡◌, IfOk, map, string_bytes};
 ghost use Rattle.mb_model.specs.declared.key.PublicKey.{PublicKey as RootKey};
 ghost use Rattle.mb_model.specs.Sign.{index_text};
 ghost use Rattle.mb_console.specs.Ending.{CarriesOut};
@@ -11,6 +11,8 @@ ghost use Rattle.mb_hss.specs.MakerSignatures.{Signs};
 ghost use Rattle.mb_tools_hss.specs.Endorse.{endorse, endorse_by, use_number, endorsed_text};
 ghost use Rattle.mb_tools_hss.specs.Names.{endorse_files, endorse_given};
 ghost use Rattle.mb_tools_hss.specs.Unendorsed.{TellsUnendorsed};
+ghost use Rattle.mb_lms.specs.declared.hash_count.TheConstants.{SIGNING_HASHES};
+ghost use Rattle.mb_hss.specs.declared.limits.TheConstants.{LEVEL_LIMIT};
 
 use crate::input::MakerForm;
 use mb_console::{Arguments, End, Output, file, finish, read_as, refused};
@@ -55,7 +57,8 @@ pub fn endorse<H: Host, L: Ledger>(
     host: &mut H,
     hashes: &mut HashCount<L>,
 ) -> Result<(), End>
-    ensures { CarriesOut (endorse (endorse_files names.now)) (H.outside host.old) result (H.outside host.new) }
+    ensures carried { CarriesOut (endorse (endorse_files names.now)) (H.outside host.old) result (H.outside host.new) }
+    ensures cost { hashes.new ≤ hashes.old + (SIGNING_HASHES + 2) * LEVEL_LIMIT }
 {
     let maker = read_as(alloc, host, Role::Key, names.key, MakerForm)?;
     endorse_by(alloc, names, maker, host, hashes)
@@ -70,7 +73,8 @@ fn endorse_by<H: Host, L: Ledger>(
     hashes: &mut HashCount<L>,
 ) -> Result<(), End>
     requires { IsMaker maker }
-    ensures { CarriesOut (endorse_by (endorse_files names.now) maker) (H.outside host.old) result (H.outside host.new) }
+    ensures carried { CarriesOut (endorse_by (endorse_files names.now) maker) (H.outside host.old) result (H.outside host.new) }
+    ensures cost { hashes.new ≤ hashes.old + (SIGNING_HASHES + 2) * LEVEL_LIMIT }
 {
     let root = read_as(alloc, host, Role::Root, names.root, PublicKeyForm)?;
     let body = key_bytes(&root);

@@ -1,6 +1,6 @@
 //! The command `hsskeygen`.
 
-ghost use Rattle.std.specs.Prelude.{◌≡◌, ◌≤◌, IfOk, map, string_bytes};
+ghost use Rattle.std.specs.Prelude.{◌+◌, ◌≡◌, ◌≤◌, IfOk, map, string_bytes};
 ghost use Rattle.mb_console.specs.Ending.{CarriesOut};
 ghost use Rattle.mb_console.specs.Words.{given_argument};
 ghost use Rattle.mb_hss.specs.declared.limits.TheConstants.{LEVEL_LIMIT};
@@ -8,6 +8,7 @@ ghost use Rattle.mb_hss.specs.HssKeyFormat.{hss_key_format};
 ghost use Rattle.mb_hss.specs.MakerKeys.{IsMaker, maker_key};
 ghost use Rattle.mb_tools_hss.specs.HssKeygen.{hsskeygen, maker_text, write_maker_key};
 ghost use Rattle.mb_tools_hss.specs.Names.{hsskeygen_files, hsskeygen_given};
+ghost use Rattle.mb_lms.specs.declared.hash_count.TheConstants.{TREE_HASHES};
 
 use mb_console::{Arguments, End, Output, file, finish, number, read_as};
 use mb_host::Host;
@@ -51,7 +52,8 @@ pub fn hsskeygen<H: Host, L: Ledger>(
     hashes: &mut HashCount<L>,
 ) -> Result<(), End>
     requires { (1 ≤ names.now.levels) × (names.now.levels ≤ LEVEL_LIMIT) }
-    ensures { CarriesOut (hsskeygen (hsskeygen_files names.now)) (H.outside host.old) result (H.outside host.new) }
+    ensures carried { CarriesOut (hsskeygen (hsskeygen_files names.now)) (H.outside host.old) result (H.outside host.new) }
+    ensures cost { hashes.new ≤ hashes.old + TREE_HASHES + 2 }
 {
     let noise = read_as(
         alloc,
@@ -73,7 +75,8 @@ fn write_maker_key<H: Host, L: Ledger>(
     hashes: &mut HashCount<L>,
 ) -> Result<(), End>
     requires { IsMaker maker.now }
-    ensures { CarriesOut (write_maker_key (hsskeygen_files names.now) maker.now (hss_key_format.spelling (maker_key maker.now))) (H.outside host.old) result (H.outside host.new) }
+    ensures carried { CarriesOut (write_maker_key (hsskeygen_files names.now) maker.now (hss_key_format.spelling (maker_key maker.now))) (H.outside host.old) result (H.outside host.new) }
+    ensures cost { hashes.new ≤ hashes.old + TREE_HASHES + 2 }
 {
     let spelled = hss_key_bytes(&public(maker, hashes));
     let Ok(text) = maker_text(alloc, &spelled) else {

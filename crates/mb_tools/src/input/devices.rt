@@ -2,7 +2,7 @@
 //!
 //! Images are read by functions of their own, since the hashes of their keys are counted.
 
-ghost use Rattle.std.specs.Prelude.{IfOk, IfErr};
+ghost use Rattle.std.specs.Prelude.{◌+◌, ◌≤◌, ◌*◌, IfOk, IfErr};
 ghost use Rattle.mb_model.specs.Meaning.{IsWellFormed};
 ghost use Rattle.mb_model.specs.Valid.{Valid};
 ghost use Rattle.mb_model.specs.MigrateCommand.{old_image_input};
@@ -11,6 +11,7 @@ ghost use Rattle.mb_model_memory.specs.Storable.{Storable};
 ghost use Rattle.mb_image.specs.Ends.{fault_of};
 ghost use Rattle.mb_console.specs.Ending.{HasInput, StopsAt};
 ghost use Rattle.mb_tools.specs.Images.{TellsFault};
+ghost use Rattle.mb_image.specs.declared.image.TheConstants.{IMAGE_HASHES};
 
 use mb_console::{End, Form, Unread, read_input};
 use mb_host::Host;
@@ -69,6 +70,7 @@ pub fn read_image<H: Host, L: Ledger>(
     ensures read { IfOk result (λ image. HasInput (image_input name.now) (H.outside host.old) (H.outside host.new)
         (record { bytes = image.bytes.items; state = image.state })) }
     ensures err { IfErr result (StopsAt (image_input name.now) (H.outside host.old) (H.outside host.new)) }
+    ensures cost { hashes.new ≤ hashes.old + IMAGE_HASHES }
 {
     let bytes = read_input(alloc, host, Role::Image, name)?;
     match stand_for(alloc, &bytes, hashes) {
@@ -86,6 +88,7 @@ pub fn read_old_image<H: Host, L: Ledger>(
 ) -> Result<Vec<u8>, End>
     ensures read { IfOk result (λ image. HasInput (old_image_input name.now) (H.outside host.old) (H.outside host.new) image.items) }
     ensures err { IfErr result (StopsAt (old_image_input name.now) (H.outside host.old) (H.outside host.new)) }
+    ensures cost { hashes.new ≤ hashes.old + 2 * IMAGE_HASHES }
 {
     let bytes = read_input(alloc, host, Role::Image, name)?;
     match migrate(alloc, &bytes, hashes) {

@@ -7,16 +7,16 @@ use Rattle.mb_tools.specs.Names.{audit_files}
 use Rattle.mb_console.proofs.CommandLemmas.{input_carried_out, read_on}
 use Rattle.mb_tools.proofs.audit.audit.Goals as goal
 
-pub returns-in_err-image : goal.returns-in_err-image
+pub returns-in_err-image-clause-carried : goal.returns-in_err-image-clause-carried
 unfolding audit
-returns-in_err-image g c = λ final.
+returns-in_err-image-clause-carried g c = λ final.
     let p = err_from_is_err_and c.from_residual.result c.from_residual.ensures.1 in
     let outside = g.H.Host.outside in
     rw (p.1, p.2) (input_carried_out (image_input c.args.names.now.image.now) (λ image. audit_device (audit_files c.args.names.now) image.state) at_first _ final (outside c.args.host.now) (outside c.read_image.new.host) c.in_err-image.field-0.0 refl refl c.in_err-image.ensures.err)
 
-pub returns : goal.returns
+pub returns-clause-carried : goal.returns-clause-carried
 unfolding audit
-returns g c = λ final.
+returns-clause-carried g c = λ final.
     let outside = g.H.Host.outside in
     read_on (image_input c.args.names.now.image.now) (λ image. audit_device (audit_files c.args.names.now) image.state) at_first _ final (outside c.args.host.now) (outside c.read_image.new.host) (outside c.audit_device.new.host) (record { bytes = c.in_ok-image.image.bytes.items; state = c.in_ok-image.image.state })
     c.audit_device.result c.in_ok-image.ensures.read (c.audit_device.ensures final)

@@ -7,14 +7,14 @@ use Rattle.mb_tools.specs.Names.{factory_files}
 use Rattle.mb_console.proofs.CommandLemmas.{input_carried_out, read_on}
 use Rattle.mb_tools.proofs.factory.factory_drawn.Goals as goal
 
-pub returns-in_err-key : goal.returns-in_err-key
-returns-in_err-key g c = λ final.
+pub returns-in_err-key-clause-carried : goal.returns-in_err-key-clause-carried
+returns-in_err-key-clause-carried g c = λ final.
     let p = err_from_is_err_and c.from_residual.result c.from_residual.ensures.1 in
     let outside = g.H.Host.outside in
     rw (p.1, p.2) (input_carried_out (key_input c.args.names.now.key.now) _ at_first _ final (outside c.args.host.now) (outside c.read_as.new.host) c.in_err-key.field-0.0 refl refl c.in_err-key.ensures.err)
 
-pub returns : goal.returns
-returns g c = λ final.
+pub returns-clause-carried : goal.returns-clause-carried
+returns-clause-carried g c = λ final.
     let outside = g.H.Host.outside in
     read_on (key_input c.args.names.now.key.now) (factory_with_key (factory_files c.args.names.now) c.args.noise.now) at_first _ final (outside c.args.host.now) (outside c.read_as.new.host) (outside c.factory_keyed.new.host) c.in_ok-key.key
-    c.factory_keyed.result c.in_ok-key.ensures.read (c.factory_keyed.ensures final)
+    c.factory_keyed.result c.in_ok-key.ensures.read (c.factory_keyed.ensures.carried final)

@@ -7,14 +7,14 @@ use Rattle.mb_tools.specs.Names.{factory_files}
 use Rattle.mb_console.proofs.CommandLemmas.{input_carried_out, read_on}
 use Rattle.mb_tools.proofs.factory.factory_keyed.Goals as goal
 
-pub returns-in_err-owner : goal.returns-in_err-owner
-returns-in_err-owner g c = λ final.
+pub returns-in_err-owner-clause-carried : goal.returns-in_err-owner-clause-carried
+returns-in_err-owner-clause-carried g c = λ final.
     let p = err_from_is_err_and c.from_residual.result c.from_residual.ensures.1 in
     let outside = g.H.Host.outside in
     rw (p.1, p.2) (input_carried_out (owner_input c.args.names.now.owner.now) _ at_first _ final (outside c.args.host.now) (outside c.read_as.new.host) c.in_err-owner.field-0.0 refl refl c.in_err-owner.ensures.err)
 
-pub returns : goal.returns
-returns g c = λ final.
+pub returns-clause-carried : goal.returns-clause-carried
+returns-clause-carried g c = λ final.
     let outside = g.H.Host.outside in
     read_on (owner_input c.args.names.now.owner.now) (factory_with_owner (factory_files c.args.names.now) c.args.noise.now c.args.key) at_first _ final (outside c.args.host.now) (outside c.read_as.new.host) (outside c.factory_owned.new.host) c.in_ok-owner.owner
-    c.factory_owned.result c.in_ok-owner.ensures.read (c.factory_owned.ensures final)
+    c.factory_owned.result c.in_ok-owner.ensures.read (c.factory_owned.ensures.carried final)

@@ -7,16 +7,16 @@ use Rattle.mb_tools.specs.Names.{countersign_files}
 use Rattle.mb_console.proofs.CommandLemmas.{input_carried_out, read_on}
 use Rattle.mb_tools.proofs.sign.countersign.Goals as goal
 
-pub returns-in_err-key : goal.returns-in_err-key
+pub returns-in_err-key-clause-carried : goal.returns-in_err-key-clause-carried
 unfolding countersign
-returns-in_err-key g c = λ final.
+returns-in_err-key-clause-carried g c = λ final.
     let p = err_from_is_err_and c.from_residual.result c.from_residual.ensures.1 in
     let outside = g.H.Host.outside in
     rw (p.1, p.2) (input_carried_out (key_input c.args.names.now.key.now) _ at_first _ final (outside c.args.host.now) (outside c.read_as.new.host) c.in_err-key.field-0.0 refl refl c.in_err-key.ensures.err)
 
-pub returns : goal.returns
+pub returns-clause-carried : goal.returns-clause-carried
 unfolding countersign
-returns g c = λ final.
+returns-clause-carried g c = λ final.
     let outside = g.H.Host.outside in
     read_on (key_input c.args.names.now.key.now) (countersign_order (countersign_files c.args.names.now)) at_first _ final (outside c.args.host.now) (outside c.read_as.new.host) (outside c.countersign_order.new.host) c.in_ok-key.key
-    c.countersign_order.result c.in_ok-key.ensures.read (c.countersign_order.ensures final)
+    c.countersign_order.result c.in_ok-key.ensures.read (c.countersign_order.ensures.carried final)

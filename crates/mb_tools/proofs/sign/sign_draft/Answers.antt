@@ -7,22 +7,22 @@ use Rattle.mb_console.proofs.CommandLemmas.{input_carried_out}
 use Rattle.mb_tools.proofs.SignLemmas.{never_both, draft_signed, draft_not_signed}
 use Rattle.mb_tools.proofs.sign.sign_draft.Goals as goal
 
-pub returns-in_err-order : goal.returns-in_err-order
-returns-in_err-order g c = λ final.
+pub returns-in_err-order-clause-carried : goal.returns-in_err-order-clause-carried
+returns-in_err-order-clause-carried g c = λ final.
     let p = err_from_is_err_and c.from_residual.result c.from_residual.ensures.1 in
     let outside = g.H.Host.outside in
     rw (p.1, p.2) (input_carried_out (draft_input c.args.names.now.draft.now) _ at_first _ final (outside c.args.host.now) (outside c.read_as.new.host) c.in_err-order.field-0.0 refl refl c.in_err-order.ensures.err)
 
-pub returns-in-Ok : goal.returns-in-Ok
-returns-in-Ok g c =
+pub returns-in-Ok-clause-carried : goal.returns-in-Ok-clause-carried
+returns-in-Ok-clause-carried g c =
     let outside = g.H.Host.outside in
     let signed = c.in-Ok.ensures.signed in
     draft_signed (sign_files c.args.names.now) c.args.key c.sign_order.new.k c.in_ok-order.order c.sign_order.new.order c.in-Ok.index
     (outside c.args.host.now) (outside c.read_as.new.host) (outside c.write_signed.new.host) c.write_signed.result
     c.in_ok-order.ensures.read signed.0 signed.1 signed.2 (λ spent. never_both c.in-Ok.index (c.in-Ok.ensures.spent.1 spent)) c.write_signed.ensures
 
-pub returns : goal.returns
-returns g c =
+pub returns-clause-carried : goal.returns-clause-carried
+returns-clause-carried g c =
     let outside = g.H.Host.outside in
     let names = sign_files c.args.names.now in
     draft_not_signed names c.args.key c.in_ok-order.order (outside c.args.host.now) (outside c.read_as.new.host) c.in-Err.end c.end_of.result c.in_ok-order.ensures.read

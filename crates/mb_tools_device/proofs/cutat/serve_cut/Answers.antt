@@ -1,4 +1,4 @@
-use Rattle.std.proofs.Common.{◌≡◌, List, inl, inr, refl, sym, ◌∙◌, ap, subst}
+use Rattle.std.proofs.Common.{◌≡◌, List, length, arith, inl, inr, refl, sym, ◌∙◌, ap, subst}
 use Rattle.mb_model.specs.declared.event.Event.{Event}
 use Rattle.mb_model.specs.Machine.{opening_world}
 use Rattle.mb_board.specs.Calls.{Seen}
@@ -34,6 +34,10 @@ serve-device-requires-clause-sound g c =
     let shown = loaded_shows board.memory board.power board.level board.meter c.args.image.items state c.in-Ok.ensures.sized (c.in-Ok.ensures.image ∙ c.deref.ensures.value) c.load.ensures.power (ap (λ m. m.armed) c.in-Ok.ensures.meter) formed in
     record { world = opening_world state; sound = c.start.ensures.started (opening_world state) shown formed.valid }
 
+pub returns-clause-cost : goal.returns-clause-cost
+returns-clause-cost g c =
+    omega (arith, c.serve-device.ensures.cost, c.tell_cut.ensures.cost, ap (λ l. length l.waiting) c.in-Ok.ensures.ledger, c.requires.count)
+
 pub returns-clause-stays : goal.returns-clause-stays
 returns-clause-stays g c = λ holds.
     inl (record { loaded = served_once (g.B.Board.seen c.load.new.self).ledger (g.B.Board.seen c.serve-device.new.b).ledger (loaded_once (g.B.Board.seen c.load.new.self).memory c.args.events (g.B.Board.seen c.load.new.self).ledger c.in-Ok.ensures.ledger) c.serve-device.ensures.used; between = c.serve-device.ensures.between; none_waits = λ done. c.serve-device.ensures.none_waits })
@@ -56,4 +60,4 @@ returns-clause-carried g c = λ state cut held formed same can left.
     let loaded = subst IsLoaded (sym same_memory) c.serve-device.ensures.loaded in
     load_goes c.args.image.items (serve (IsCutServed (record { bytes = c.args.image.items; state = state }) c.args.names.now.count cut) (tell_cut held)) (served_past (use_of old)) (use_of after.ledger) after.ledger.standing (outside c.args.host.now) (outside c.tell_cut.new.host) c.tell_cut.result
     (serve_goes (IsCutServed (record { bytes = c.args.image.items; state = state }) c.args.names.now.count cut) (tell_cut held) (served_past (loaded_once_more c.args.image.items (use_of old))) (use_of after.ledger) after.ledger.standing (outside c.args.host.now) (outside c.tell_cut.new.host) c.tell_cut.result
-    used is (c.tell_cut.ensures held left (λ last last_is. served_left (record { bytes = c.args.image.items; state = state }) c.args.events after.ledger.answered after.ledger.standing last served loaded (last_is ∙ ap image_of (sym same_memory)))))
+    used is (c.tell_cut.ensures.carried held left (λ last last_is. served_left (record { bytes = c.args.image.items; state = state }) c.args.events after.ledger.answered after.ledger.standing last served loaded (last_is ∙ ap image_of (sym same_memory)))))

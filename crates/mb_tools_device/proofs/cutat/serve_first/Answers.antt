@@ -83,6 +83,14 @@ returns-clause-carried g c = λ state cut formed are.
     (subst (λ (l : Ledger). CarriesOutRest (load c.args.image.items (serve (IsCutServed (record { bytes = c.args.image.items; state = state }) c.args.names.now.count cut) (tell_cut after.ledger.standing))) (served_past (use_of l)) (use_of final.ledger) final.ledger.standing (outside c.args.host.now) c.serve_cut.result (outside c.serve_cut.new.host))
     c.shut.ensures.switched.ledger carried)
 
+pub returns-clause-cost : goal.returns-clause-cost
+returns-clause-cost g c =
+    omega (arith, c.serve-device.ensures.cost, c.serve_cut.ensures.cost, ap (λ l. length l.waiting) c.in-Ok-load.ensures.ledger, c.requires.first_count)
+
+pub returns-then-wants_memory-clause-cost : goal.returns-then-wants_memory-clause-cost
+returns-then-wants_memory-clause-cost g c =
+    omega (arith, c.serve-device.ensures.cost, ap (λ l. length l.waiting) c.in-Ok-load.ensures.ledger, c.requires.first_count)
+
 pub returns-in-Err-clause-stays : goal.returns-in-Err-clause-stays
 returns-in-Err-clause-stays g c = inl c.in-Err.ensures.failed
 

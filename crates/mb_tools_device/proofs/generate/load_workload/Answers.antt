@@ -1,11 +1,11 @@
-use Rattle.std.proofs.Common.{Some, ◌∙◌, sym, ap, subst, length, length-append, arith, inl, inr}
+use Rattle.std.proofs.Common.{◌≡◌, Some, Ok, Err, ◌∙◌, sym, ap, subst, length, length-append, arith, inl, inr}
 use Rattle.std.proofs.lemmas.Result.{err_from_is_err_and}
 use Rattle.mb_model.specs.Acknowledged.{Shows}
 use Rattle.mb_model.specs.Machine.{opening_world}
 use Rattle.mb_board.specs.Calls.{Seen}
 use Rattle.mb_model.specs.Board.{Used, not_used, use_of, having_answered}
 use Rattle.mb_tools_device.specs.Names.{generate_files}
-use Rattle.mb_tools_device.proofs.RunLemmas.{loaded_shows, loaded_between, loaded_once, served_once, loaded_use, served_whole}
+use Rattle.mb_tools_device.proofs.RunLemmas.{loaded_shows, loaded_between, loaded_once, served_once, answered_count, loaded_use, served_whole}
 use Rattle.mb_tools_device.proofs.GenerateLemmas.{new_state, new_image, none_made, files_not_written, workload_served}
 use Rattle.mb_tools_device.proofs.generate.load_workload.Goals as goal
 
@@ -61,6 +61,21 @@ returns-clause-carried g c =
     let used = c.serve-device.ensures.used ∙ ap (λ (u : Used). having_answered (g.B.Board.seen c.serve-device.new.b).ledger.answered u) once in
     workload_served (generate_files names) c.args.files c.args.events _ _ (outside c.args.host.now) (outside c.write_files.new.host) (outside c.summarise.new.host) c.summarise.result
     c.requires.generated c.requires.events c.in_ok-write_files.ensures.ok used served c.summarise.ensures
+
+pub returns-clause-cost : goal.returns-clause-cost
+returns-clause-cost g c =
+    let board = g.B.Board.seen c.load.new.self in
+    let names = c.args.names.now in
+    let state = Some (new_state names.number names.rounds c.args.files c.requires.generated) in
+    let held = new_image names.number names.rounds c.args.files c.requires.generated in
+    let shown = loaded_shows board.memory board.power board.level board.meter c.args.files.image state c.in-Ok.ensures.sized
+    (c.in-Ok.ensures.image ∙ c.as_slice.ensures) c.load.ensures.power (ap (λ m. m.armed) c.in-Ok.ensures.meter) held in
+    let sound = c.start.ensures.started (opening_world state) shown held.valid in
+    omega (
+      arith,
+      c.serve-device.ensures.cost,
+      answered_count (opening_world state) board.ledger (g.B.Board.seen c.serve-device.new.b).ledger _ (c.serve-device.ensures.served (opening_world state) sound),
+    )
 
 pub returns-in_err-write_files-clause-stays : goal.returns-in_err-write_files-clause-stays
 returns-in_err-write_files-clause-stays g c =

@@ -5,7 +5,7 @@ use Rattle.mb_model.specs.Board.{Used, not_used, use_of, having_answered}
 use Rattle.mb_model.specs.Commands.{at_first}
 use Rattle.mb_tools_device.specs.Names.{run_files}
 use Rattle.mb_console.proofs.CommandLemmas.{memory_unloaded}
-use Rattle.mb_tools_device.proofs.RunLemmas.{loaded_shows, loaded_between, loaded_once, served_once, loaded_use, served_whole, events_served}
+use Rattle.mb_tools_device.proofs.RunLemmas.{loaded_shows, loaded_between, loaded_once, served_once, answered_count, loaded_use, served_whole, events_served}
 use Rattle.mb_tools_device.proofs.run.run_drawn.Goals as goal
 
 pub returns-in-Err-clause-carried : goal.returns-in-Err-clause-carried
@@ -37,6 +37,20 @@ returns-clause-carried g c = λ state held.
     let once = loaded_use c.args.image.items not_used (g.B.Board.seen board).memory c.args.events (g.B.Board.seen c.args.board.now).ledger (g.B.Board.seen board).ledger c.requires.fresh.never_used c.in-Ok.ensures.ledger (c.in-Ok.ensures.image ∙ c.deref.ensures.value) in
     let used = c.serve-device.ensures.used ∙ ap (λ (u : Used). having_answered (g.B.Board.seen c.serve-device.new.b).ledger.answered u) once in
     events_served (run_files c.args.names.now) (record { bytes = c.args.image.items; state = state }) c.args.events _ _ (outside c.args.host.now) (outside c.write_image.new.host) c.write_image.result used served c.write_image.ensures
+
+pub returns-clause-cost : goal.returns-clause-cost
+returns-clause-cost g c =
+    let board = g.B.Board.seen c.load.new.self in
+    let after = g.B.Board.seen c.serve-device.new.b in
+    let held = c.requires.image.1 in
+    let shown = loaded_shows board.memory board.power board.level board.meter c.args.image.items c.requires.image.0 c.in-Ok.ensures.sized
+    (c.in-Ok.ensures.image ∙ c.deref.ensures.value) c.load.ensures.power (ap (λ m. m.armed) c.in-Ok.ensures.meter) held in
+    let sound = c.start.ensures.started (opening_world c.requires.image.0) shown held.valid in
+    omega (
+      arith,
+      c.serve-device.ensures.cost,
+      answered_count (opening_world c.requires.image.0) board.ledger after.ledger _ (c.serve-device.ensures.served (opening_world c.requires.image.0) sound),
+    )
 
 pub returns-in-Err-clause-stays : goal.returns-in-Err-clause-stays
 returns-in-Err-clause-stays g c = inl c.in-Err.ensures.failed

@@ -8,12 +8,12 @@ use Rattle.mb_tools_hss.specs.Names.{hsskeygen_files}
 use Rattle.mb_tools_hss.proofs.HsskeygenLemmas.{maker_key_written}
 use Rattle.mb_tools_hss.proofs.hsskeygen.write_maker_key.Goals as goal
 
-pub returns-in_default : goal.returns-in_default
+pub returns-in_default-clause-carried : goal.returns-in_default-clause-carried
 unfolding write_maker_key
-returns-in_default g c = λ final. memory_here _ _ at_first _ final (g.H.Host.outside c.args.host.now) refl refl
+returns-in_default-clause-carried g c = λ final. memory_here _ _ at_first _ final (g.H.Host.outside c.args.host.now) refl refl
 
-pub returns : goal.returns
-returns g c =
+pub returns-clause-carried : goal.returns-clause-carried
+returns-clause-carried g c =
     let outside = g.H.Host.outside in
     maker_key_written (hsskeygen_files c.args.names.now) c.args.maker.now (hss_key_format.spelling (maker_key c.args.maker.now)) c.write_maker-file.result c.hss_key_bytes-spelled.result c.as_bytes.result.now
     (outside c.args.host.now) (outside c.finish.new.host) c.finish.result
