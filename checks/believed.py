@@ -8,7 +8,9 @@ import sys
 TOP = pathlib.Path("crates/mb_top/src/commands.rt")
 TRAITS = [pathlib.Path("crates/mb_host/src/host.rt"), pathlib.Path("crates/mb_board/src/board.rt")]
 USE = re.compile(r"^(?:ghost )?use Rattle\.(\w+)\.specs\.([\w.]+)\.\{([^}]*)\}", re.M)
-DECLARED = re.compile(r"^use Rattle\.(\w+)\.specs\.declared\.(\w+)\.(\w+)\.", re.M)
+DECLARED = re.compile(r"^use Rattle\.(\w+)\.specs\.declared\.(\w+)\.(?!TheConstants)(\w+)\.", re.M)
+CONSTANTS = re.compile(r"^use Rattle\.(\w+)\.specs\.declared\.\w+\.TheConstants\.\{([^}]*)\}", re.M)
+TIED = re.compile(r": (\w+) ≡ ")
 CLAUSE = re.compile(r"^    ensures (\w+) \{(.*?)\}\n(?=    ensures|\{)", re.M | re.S)
 NAMED = re.compile(r"`(?:crates/(\w+)/specs/)?(\w+\.antt)`")
 FOLDER = re.compile(r"`crates/(\w+)/specs`")
@@ -22,13 +24,30 @@ def file_of(crate, module):
     return path if path.exists() else None
 
 
+def constants_in(text):
+    """The constants of the code that a text imports, each with its crate."""
+    return {(crate, name.strip()) for crate, names in CONSTANTS.findall(text) for name in names.split(",")}
+
+
+def numbers_of(crate):
+    """The file that ties constants of a crate to their numbers, if there is one, and these constants."""
+    file = file_of(crate, "NumberLaws")
+    return file, set(TIED.findall(file.read_text())) if file else set()
+
+
 def used_by(text, words=None):
-    """The files of definitions that a text imports; if words are given, only those with an imported name among them."""
+    """The files of definitions that a text imports; if words are given, only those with an imported name among them.
+
+    A constant of the code stands for the file that ties it to its number, if one does."""
     found = set()
     for crate, module, names in USE.findall(text):
         file = file_of(crate, module)
         imported = {name.split(" as ")[-1].strip() for name in names.split(",")}
         if file and (words is None or imported & words):
+            found.add(file)
+    for crate, name in constants_in(text):
+        file, tied = numbers_of(crate)
+        if name in tied and (words is None or name in words):
             found.add(file)
     return found
 
@@ -52,6 +71,12 @@ def declared_by(files):
     return {types for file in files for types in DECLARED.findall(file.read_text())}
 
 
+def untied_in(files):
+    """The constants of the code that files of definitions import, and that no file ties to their numbers."""
+    found = set().union(*(constants_in(file.read_text()) for file in files))
+    return sorted(name for crate, name in found if name not in numbers_of(crate)[1])
+
+
 def clauses_of_top():
     """The clauses of `top` by name, each with the files that it imports."""
     text = TOP.read_text()
@@ -65,9 +90,12 @@ def clauses_of_top():
 
 def show(what, files, listed):
     found = reached(files)
-    print(f"{what}: {len(found)} files, {sum(map(lines_of, found)):,} lines, {len(declared_by(found))} declared types")
+    lines, types, constants = sum(map(lines_of, found)), declared_by(found), untied_in(found)
+    print(f"{what}: {len(found)} files, {lines:,} lines, {len(types)} declared types, {len(constants)} constants")
     for file in sorted(found) if listed else []:
         print(f"  {lines_of(file):5} {file}")
+    for name in constants if listed else []:
+        print(f"        {name}")
 
 
 def main(words):
