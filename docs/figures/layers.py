@@ -10,7 +10,7 @@ import sys
 
 ROWS = [
     ("the program", "#e7edf6", ["miniboot"]),
-    ("its table of commands", "#e7edf6", ["mb_top"]),
+    ("its table of commands", "#e7edf6", ["mb_top", "mb_top_laws"]),
     ("commands", "#e7edf6", ["mb_tools..", "mb_console"]),
     ("the device", "#e5f2e9", ["mb_device", "mb_device_orders", "mb_device_regions"]),
     ("its memory", "#e5f2e9", ["mb_boot", "mb_outbound", "mb_region", "mb_area", "mb_flash", "mb_slot"]),
