@@ -9,7 +9,7 @@ TOP = pathlib.Path("crates/mb_top/src/commands.rt")
 TRAITS = [pathlib.Path("crates/mb_host/src/host.rt"), pathlib.Path("crates/mb_board/src/board.rt")]
 USE = re.compile(r"^(?:ghost )?use Rattle\.(\w+)\.specs\.([\w.]+)\.\{([^}]*)\}", re.M)
 DECLARED = re.compile(r"^use Rattle\.(\w+)\.specs\.declared\.(\w+)\.(?!TheConstants)(\w+)\.", re.M)
-CONSTANTS = re.compile(r"^use Rattle\.(\w+)\.specs\.declared\.\w+\.TheConstants\.\{([^}]*)\}", re.M)
+CONSTANTS = re.compile(r"^(?:ghost )?use Rattle\.(\w+)\.specs\.declared\.\w+\.TheConstants\.\{([^}]*)\}", re.M)
 TIED = re.compile(r": (\w+) ≡ ")
 CLAUSE = re.compile(r"^    ensures (\w+) \{(.*?)\}\n(?=    ensures|\{)", re.M | re.S)
 NAMED = re.compile(r"`(?:crates/(\w+)/specs/)?(\w+\.antt)`")
