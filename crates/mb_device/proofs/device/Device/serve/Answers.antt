@@ -15,7 +15,7 @@ pub events-init : goal.events-init
 events-init g c = (
   serves_first (g.B.Board.seen c.args.b.now).ledger c.args.self _ c.requires.between.none_out c.requires.between.standing c.requires.events c.requires.sound,
   c.requires.between.stops,
-  arith,
+  omega arith,
 )
 
 pub take-requires : goal.take-requires
