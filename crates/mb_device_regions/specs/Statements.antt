@@ -1,8 +1,9 @@
 -- What is prepared for a statement, and its bytes. Does signing find the memory that it needs?
-use Rattle.std.specs.Prelude.{◌≡◌, ℕ, ◌≤◌, List, [], Option, Result, Ok, Err}
+use Rattle.std.specs.Prelude.{◌≡◌, ℕ, ◌≤◌, List, [], false, Option, Result, Ok, Err}
 use Rattle.std.specs.Vec.{vec_len, vec_capacity}
 use Rattle.mb_model.specs.declared.key.KeySeed.{KeySeed}
 use Rattle.mb_model.specs.ChainFormat.{statement_format}
+use Rattle.mb_model.specs.Listing.{is_signed}
 use Rattle.mb_model.specs.Signing.{signature_of}
 use Rattle.mb_model.specs.SignedTexts.{statement_text}
 use Rattle.mb_model.specs.Board.{Memory}
@@ -41,3 +42,8 @@ abbrev pub KeepsTree : {S E : Type 0} → Result (S × Reply) E → Option Regio
 KeepsTree (Ok told) kept L key =
     (index : ℕ) (statement : List ℕ) → told.1 ≡ reply.Signed key index statement → IsKeptFor kept L key
 KeepsTree (Err stop) kept L key = Unit {0}
+
+-- unless a key has signed, the tree that was kept is kept still
+abbrev pub LeavesTree : {S E : Type 0} → Result (S × Reply) E → Option RegionTree → Option RegionTree → Type 0
+LeavesTree (Ok told) before after = is_signed told.1 ≡ false → after ≡ before
+LeavesTree (Err stop) before after = after ≡ before

@@ -13,7 +13,7 @@ ghost use Rattle.mb_model_memory.specs.Answering.{ComesTo, TellsOfWrites};
 ghost use Rattle.mb_device_regions.specs.Uses.{CanAnswer};
 ghost use Rattle.mb_signer.specs.Tree.{IsTreeOf};
 ghost use Rattle.mb_outbound.specs.KeptTrees.{IsKeptFor, IsKeptIn};
-ghost use Rattle.mb_device_regions.specs.Statements.{IsPreparedMessage, signed_statement_bytes, HasKeptTree, KeepsTree};
+ghost use Rattle.mb_device_regions.specs.Statements.{IsPreparedMessage, signed_statement_bytes, HasKeptTree, KeepsTree, LeavesTree};
 ghost use Rattle.mb_lms.specs.declared.hash_count.TheConstants.{LEAF_HASHES, SIGNING_HASHES};
 
 use mb_board::Board;
@@ -99,7 +99,8 @@ fn make_statement<Lg: Ledger>(
 /// signs twice; if power fails, the use is stored or not. There are at most three write calls and 35,473 hashes.
 ///
 /// The key signs with its tree, which is kept in place of the previous one, so that the same key signs again in at most
-/// 1,074 hashes. A kept tree has to be that of the key for which it is kept.
+/// 1,074 hashes. Where no key signs, the tree that was kept is kept still. A kept tree has to be that of the key for
+/// which it is kept.
 pub fn sign_message<S: Reaches<L>, L: Named, B: Board, Lg: Ledger>(
     alloc: Global,
     s: S,
@@ -126,6 +127,7 @@ pub fn sign_message<S: Reaches<L>, L: Named, B: Board, Lg: Ledger>(
     ensures kept { (state : State) → IsReady (B.seen b.old).memory state → IsKeptIn kept.old state
         → IsKeptIn kept.new state }
     ensures keeps { KeepsTree result kept.new L.place key }
+    ensures stays { LeavesTree result kept.old kept.new }
     ensures plans { SamePlans room.old room.new }
     ensures cost { hashes.new ≤ hashes.old + SIGNING_HASHES }
     ensures again { IsKeptFor kept.old L.place key → hashes.new ≤ hashes.old + LEAF_HASHES }
