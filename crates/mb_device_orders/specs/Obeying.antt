@@ -1,9 +1,10 @@
 -- How an order is answered, and what a power loss leaves of it. Is an order obeyed wholly or not at all?
-use Rattle.std.specs.Prelude.{◌≡◌, ℕ, ◌⊎◌, List, Result, Ok, Err}
+use Rattle.std.specs.Prelude.{◌≡◌, ℕ, ◌⊎◌, List, false, Result, Ok, Err}
 use Rattle.mb_model.specs.declared.reply.Reply.{Reply}
 use Rattle.mb_model.specs.declared.reply.Reply.TheVariants as reply
 use Rattle.mb_model.specs.declared.state.State.{State}
 use Rattle.mb_model.specs.Board.{Memory}
+use Rattle.mb_model.specs.Listing.{is_done}
 use Rattle.mb_model.specs.OrderStep.{OrderStep}
 use Rattle.mb_model_memory.specs.Holding.{Means, IsReady}
 use Rattle.mb_device_orders.specs.declared.remembering.Known.{Known}
@@ -31,3 +32,8 @@ pub record IsOrderCut (state : State) (text draw : List ℕ) (after : Memory) : 
 abbrev pub Obeys : {S E : Type 0} → State → List ℕ → List ℕ → Known → Memory → Memory → Result (S × Reply) E → Type 0
 Obeys state text draw known before after (Ok told) = IsOrderAnswered state text draw known told.1 before after
 Obeys state text draw known before after (Err stop) = IsOrderCut state text draw after
+
+-- unless an order is done or power fails, all that the device remembers stays, with the trees that it keeps
+abbrev pub LeavesKnown : {S E : Type 0} → Result (S × Reply) E → Known → Known → Type 0
+LeavesKnown (Ok told) before after = is_done told.1 ≡ false → after ≡ before
+LeavesKnown (Err stop) before after = Unit {0}

@@ -8,7 +8,7 @@ ghost use Rattle.mb_model.specs.Spared.{SparesSectors};
 ghost use Rattle.mb_model_memory.specs.Holding.{IsReady};
 ghost use Rattle.mb_model_memory.specs.Answering.{TellsOfWrites};
 ghost use Rattle.mb_device_orders.specs.Remembering.{Knows, IsRemembered};
-ghost use Rattle.mb_device_orders.specs.Obeying.{Obeys};
+ghost use Rattle.mb_device_orders.specs.Obeying.{Obeys, LeavesKnown};
 ghost use Rattle.mb_lms.specs.declared.hash_count.TheConstants.{SIGNING_HASHES, TREE_HASHES};
 
 use crate::committing::commit;
@@ -50,6 +50,7 @@ pub fn obey<B: Board, L: Ledger>(
     ensures told { (state : State) → IsReady (B.seen b.old).memory state → Knows known.old state
         → Obeys state text.now draw.now known.new (B.seen b.old).memory (B.seen b.new).memory
         result }
+    ensures stays { LeavesKnown result known.old known.new }
     ensures writes { TellsOfWrites result (B.seen b.old).memory (B.seen b.new).memory
         (B.seen b.old).meter (B.seen b.new).meter }
     ensures spared { SparesSectors (B.seen b.old).memory (B.seen b.new).memory }
