@@ -37,6 +37,7 @@ may_answer loaded memory standing power level armed given sized blank stood same
       clean = λ has_to_be. (sized.bbram, blank);
       kept = tt;
       untouched = λ quiet. refl;
+      quiet = λ boot state clean. refl;
       spared = record { log = record { kept = λ root header is held position below. refl }; unused = λ n is. refl };
     }
 
