@@ -8,3 +8,5 @@ pub mod Told
 pub mod Cleans
 pub mod Serves
 pub mod Stops
+pub mod Trees
+pub mod TreeCounterProofs

@@ -2,3 +2,5 @@ pub mod Sound
 pub mod Stepping
 pub mod Regions
 pub mod Served
+pub mod KeptTrees
+pub mod TreeCounterExamples

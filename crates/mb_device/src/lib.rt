@@ -6,6 +6,7 @@
 #![tactic(auto)]
 
 mod control;
+mod counter_examples;
 mod device;
 mod orders;
 mod power;
@@ -14,5 +15,6 @@ mod runs;
 mod status;
 mod step;
 
+pub use counter_examples::tree_counter_examples;
 pub use device::{Device, Running};
 pub use step::STEP_HASHES;

@@ -7,6 +7,7 @@ ghost use Rattle.mb_board.specs.Calls.{held_in, KeepsEvents};
 ghost use Rattle.mb_model.specs.Spared.{SparesSectors};
 ghost use Rattle.mb_device.specs.Sound.{HasSound, StepsFrom};
 ghost use Rattle.mb_device.specs.Stepping.{stop_told, IfNothingTold};
+ghost use Rattle.mb_device.specs.KeptTrees.{KeepsItsTree};
 ghost use Rattle.mb_lms.specs.declared.hash_count.TheConstants.{SIGNING_HASHES, TREE_HASHES};
 
 use crate::device::{Device, Running};
@@ -36,6 +37,8 @@ fn take_order<B: Board, L: Ledger>(
         (B.seen b.old).meter (B.seen b.new).meter }
     ensures spared { SparesSectors (B.seen b.old).memory (B.seen b.new).memory }
     ensures events { KeepsEvents 35 (stop_told result.1) (B.seen b.old) (B.seen b.new) }
+    ensures tree { KeepsItsTree (Device.One up running) (event.Command text.now draw.now) result.1
+        result.0 }
     ensures cost { hashes.new ≤ hashes.old + 2 * TREE_HASHES + 2 * SIGNING_HASHES }
 {
     let mut known = running.known;
@@ -64,6 +67,7 @@ impl Device {
             (B.seen b.old).meter (B.seen b.new).meter }
         ensures spared { SparesSectors (B.seen b.old).memory (B.seen b.new).memory }
         ensures events { KeepsEvents 35 (stop_told result.1) (B.seen b.old) (B.seen b.new) }
+        ensures tree { KeepsItsTree self (event.Command text.now draw.now) result.1 result.0 }
         ensures cost { hashes.new ≤ hashes.old + 2 * TREE_HASHES + 2 * SIGNING_HASHES }
     {
         match self {

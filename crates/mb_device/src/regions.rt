@@ -1,6 +1,6 @@
 //! How layers use their regions.
 
-ghost use Rattle.std.specs.Prelude.{◌≡◌, ◌+◌, ◌≤◌, true};
+ghost use Rattle.std.specs.Prelude.{◌≡◌, ◌+◌, ◌≤◌, true, IfOk};
 ghost use Rattle.mb_format.specs.Format.{IsBytes};
 ghost use Rattle.mb_model.specs.declared.state.State.{State};
 ghost use Rattle.mb_model.specs.Layers.{is_runnable};
@@ -13,7 +13,8 @@ ghost use Rattle.mb_device_orders.specs.Remembering.{Knows, IsRemembered};
 ghost use Rattle.mb_device.specs.Sound.{HasSound, StepsFrom};
 ghost use Rattle.mb_device.specs.Stepping.{stop_told, IfNothingTold};
 ghost use Rattle.mb_device.specs.Regions.{IsLayerEvent, region_named, layer_outcome};
-ghost use Rattle.mb_lms.specs.declared.hash_count.TheConstants.{SIGNING_HASHES};
+ghost use Rattle.mb_device.specs.KeptTrees.{IsKeptToSign, TreeIsKept, HasTreeFor, KeepsItsTree};
+ghost use Rattle.mb_lms.specs.declared.hash_count.TheConstants.{LEAF_HASHES, SIGNING_HASHES};
 
 use crate::device::{Device, Running};
 use crate::runs::Runs;
@@ -48,8 +49,12 @@ fn ask<S: Reaches<L>, L: Named, B: Board, C: Ledger>(
         (B.seen b.old).meter (B.seen b.new).meter }
     ensures known { (state : State) → IsReady (B.seen b.old).memory state
         → Knows running.old.known state → Knows running.new.known state }
+    ensures tree { IfOk result (λ told. TreeIsKept L.place event.now told.1
+        running.old.known.trees.value.region running.new.known.trees.value.region) }
     ensures ran { RanOnBbram 3 result (B.seen b.old) (B.seen b.new) }
     ensures cost { hashes.new ≤ hashes.old + SIGNING_HASHES }
+    ensures again { IsKeptToSign running.old.known.trees.value.region L.place event.now
+        → hashes.new ≤ hashes.old + LEAF_HASHES }
 {
     let number = running.known.figures.number;
     let serial = running.known.serial;
@@ -94,7 +99,9 @@ fn use_at<S: Reaches<L> + Runs, L: Named, B: Board, C: Ledger>(
         (B.seen b.old).meter (B.seen b.new).meter }
     ensures flash { (B.seen b.new).memory.flash ≡ (B.seen b.old).memory.flash }
     ensures events { KeepsEvents 3 (stop_told result.1) (B.seen b.old) (B.seen b.new) }
+    ensures tree { KeepsItsTree (S.holder s running) event.now result.1 result.0 }
     ensures cost { hashes.new ≤ hashes.old + SIGNING_HASHES }
+    ensures again { HasTreeFor (S.holder s running) event.now → hashes.new ≤ hashes.old + LEAF_HASHES }
 {
     let mut running = running;
     if !running.may_run(L::number() as u8) {
@@ -127,7 +134,9 @@ impl Device {
             (B.seen b.old).meter (B.seen b.new).meter }
         ensures flash { (B.seen b.new).memory.flash ≡ (B.seen b.old).memory.flash }
         ensures events { KeepsEvents 3 (stop_told result.1) (B.seen b.old) (B.seen b.new) }
+        ensures tree { KeepsItsTree self event.now result.1 result.0 }
         ensures cost { hashes.new ≤ hashes.old + SIGNING_HASHES }
+        ensures again { HasTreeFor self event.now → hashes.new ≤ hashes.old + LEAF_HASHES }
     {
         match self {
             Device::Off(off) => (Device::Off(off), Refusal::PoweredOff.reply()),

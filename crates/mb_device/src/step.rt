@@ -11,7 +11,9 @@ ghost use Rattle.mb_boot.specs.Booting.{IsQuiet};
 ghost use Rattle.mb_device.specs.Sound.{IsSoundDevice, HasSound, taken, CanStep, Steps};
 ghost use Rattle.mb_device.specs.Stepping.{stop_told, IfNothingTold, IfBoot};
 ghost use Rattle.mb_device.specs.Served.{IsServedFrom};
+ghost use Rattle.mb_device.specs.KeptTrees.{HasTreeFor, KeepsItsTree};
 ghost use Rattle.mb_device.specs.declared.step.TheConstants.{STEP_HASHES};
+ghost use Rattle.mb_lms.specs.declared.hash_count.TheConstants.{LEAF_HASHES};
 
 use crate::device::Device;
 use mb_board::Board;
@@ -30,6 +32,9 @@ impl Device {
     /// entry of the log keeps its bytes, even if power fails, and so do sectors 50 to 63 and 192 to 255, which hold
     /// nothing. There are at most 35 write calls and 139,744 hashes. The answer is `Stopped` exactly if a write call
     /// was stopped.
+    ///
+    /// Once a region's key has signed, the device keeps its tree, so that the key signs again in at most 1,074 hashes,
+    /// until power goes, an order is done, or another region's key signs.
     #[tactic(auto, using(mb_device_orders::proofs::Spared::same_flash_spared, mb_device_orders::proofs::Spared::same_memory_spared))]
     pub fn step<B: Board, L: Ledger>(
         self,
@@ -50,7 +55,9 @@ impl Device {
             (B.seen b.new).meter) }
         ensures spared { SparesSectors (B.seen b.old).memory (B.seen b.new).memory }
         ensures events { KeepsEvents WRITE_LIMIT (stop_told result.1) (B.seen b.old) (B.seen b.new) }
+        ensures tree { KeepsItsTree self event.now result.1 result.0 }
         ensures cost { hashes.new ≤ hashes.old + STEP_HASHES }
+        ensures again { HasTreeFor self event.now → hashes.new ≤ hashes.old + LEAF_HASHES }
     {
         match event {
             Event::Boot => self.boot(alloc, b, hashes),

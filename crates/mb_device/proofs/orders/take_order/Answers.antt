@@ -1,8 +1,13 @@
-use Rattle.std.proofs.Common.{sym, ◌∙◌}
+use Rattle.std.proofs.Common.{None, refl, sym, ◌∙◌}
+use Rattle.std.specs.Prelude.{Ok}
+use Rattle.mb_ratchet.specs.declared.state.Off.{Off}
+use Rattle.mb_model.specs.declared.event.Event.TheVariants as event
+use Rattle.mb_model.specs.declared.reply.Reply.TheVariants as reply
 use Rattle.mb_device.specs.declared.device.Device.TheVariants as device
 use Rattle.mb_device.proofs.Uses.{is_up, running_on, metered_by}
 use Rattle.mb_device.proofs.Steps.{running_ready}
 use Rattle.mb_device.proofs.Ordered.{order_told, order_cut, order_goes_on}
+use Rattle.mb_device.proofs.Trees.{tree_goes, tree_ordered}
 use Rattle.mb_device.proofs.orders.take_order.Goals as goal
 
 pub obey-requires-clause-up : goal.obey-requires-clause-up
@@ -35,3 +40,9 @@ returns-in-Err-clause-steps g c = λ world sound.
     let ready = running_ready (device.One c.args.up c.args.running) 1 _ world sound.fits.state sound sound.fits.phase sound.fits.live in
     order_cut (device.One c.args.up c.args.running) c.args.running c.args.text.now c.args.draw.now (g.B.Board.seen c.args.b.now).memory (g.B.Board.seen c.args.b.now).power (g.B.Board.seen c.args.b.now).level (g.B.Board.seen c.args.b.now).meter world sound sound.fits
     c.in-Err.off (g.B.Board.seen c.obey.new.b).memory (g.B.Board.seen c.obey.new.b).power (g.B.Board.seen c.obey.new.b).level (g.B.Board.seen c.obey.new.b).meter (c.in-Err.ensures.told sound.fits.state ready sound.fits.knows) c.in-Err.ensures.ran.power c.in-Err.ensures.ran.meter.armed c.in-Err.ensures.ran.meter.cut
+
+pub returns-in-Ok-clause-tree : goal.returns-in-Ok-clause-tree
+returns-in-Ok-clause-tree g c = tree_ordered {E = Off} (Ok (c.in-Ok.up, c.in-Ok.reply)) c.args.running.known c.obey.new.known c.args.text.now c.args.draw.now c.in-Ok.ensures.stays
+
+pub returns-in-Err-clause-tree : goal.returns-in-Err-clause-tree
+returns-in-Err-clause-tree g c = tree_goes 0 (event.Command c.args.text.now c.args.draw.now) reply.Stopped c.args.running.known.trees.value.region None refl refl

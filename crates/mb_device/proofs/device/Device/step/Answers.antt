@@ -5,9 +5,11 @@ use Rattle.mb_model.specs.declared.reply.Reply.TheVariants as reply
 use Rattle.mb_model.specs.Board.{Held}
 use Rattle.mb_board.specs.Calls.{held_by}
 use Rattle.mb_device.specs.Sound.{IsSoundDevice, taken, Steps}
+use Rattle.mb_device.specs.KeptTrees.{tree_of, HasTreeFor, KeepsItsTree}
 use Rattle.mb_device.proofs.Steps.{stays}
 use Rattle.mb_device.proofs.Taken.{goes_off, is_tampered, is_armed, off_same}
 use Rattle.mb_device.proofs.Uses.{unmetered}
+use Rattle.mb_device.proofs.Trees.{tree_goes, tree_stays}
 use Rattle.mb_device.proofs.device.Device.step.Goals as goal
 
 pub returns-in-Off-clause-steps : goal.returns-in-Off-clause-steps
@@ -43,3 +45,29 @@ returns-in-Status-clause-events g c = record { ledger = refl; meter = unmetered 
 
 pub returns-in-Go-clause-events : goal.returns-in-Go-clause-events
 returns-in-Go-clause-events g c = record { ledger = c.go.ensures.switched.ledger; meter = unmetered 35 c.go.result.1 _ _ c.go.ensures.goes_on c.go.ensures.switched.meter }
+
+pub returns-in-Off-clause-tree : goal.returns-in-Off-clause-tree
+returns-in-Off-clause-tree g c =
+    subst (λ (e : Event). KeepsItsTree c.args.self e reply.Off c.power_off.result) (sym c.in-Off.is)
+    (tree_goes 0 event.Off reply.Off (tree_of c.args.self) (tree_of c.power_off.result) refl refl)
+
+pub returns-in-Tamper-clause-tree : goal.returns-in-Tamper-clause-tree
+returns-in-Tamper-clause-tree g c =
+    subst (λ (e : Event). KeepsItsTree c.args.self e reply.Tampered c.power_off-in-Tamper.result) (sym c.in-Tamper.is)
+    (tree_goes 0 event.Tamper reply.Tampered (tree_of c.args.self) (tree_of c.power_off-in-Tamper.result) refl refl)
+
+pub returns-in-Cut-clause-tree : goal.returns-in-Cut-clause-tree
+returns-in-Cut-clause-tree g c =
+    subst (λ (e : Event). KeepsItsTree c.args.self e reply.Armed c.args.self) (sym c.in-Cut.is)
+    (tree_stays c.args.self c.args.self c.args.self (event.Cut c.in-Cut.count c.in-Cut.tear) reply.Armed refl refl tt)
+
+pub returns-in-Status-clause-tree : goal.returns-in-Status-clause-tree
+returns-in-Status-clause-tree g c =
+    subst (λ (e : Event). KeepsItsTree c.args.self e c.status-reply.result c.args.self) (sym c.in-Status.is)
+    (tree_stays c.args.self c.args.self c.args.self event.Status c.status-reply.result refl refl tt)
+
+pub returns-in-Boot-clause-again : goal.returns-in-Boot-clause-again
+returns-in-Boot-clause-again g c = λ own. absurd (subst (λ (e : Event). HasTreeFor c.args.self e) c.in-Boot.is own)
+
+pub returns-in-Command-clause-again : goal.returns-in-Command-clause-again
+returns-in-Command-clause-again g c = λ own. absurd (subst (λ (e : Event). HasTreeFor c.args.self e) c.in-Command.is own)
