@@ -1,6 +1,7 @@
 -- What carries out `run`.
-use Rattle.std.proofs.Common.{◌≡◌, ℕ, ◌+◌, ◌≤◌, Bool, true, false, List, [], ◌∷◌, length, length-append, length-map, map, ◌++◌, Option, Some, Result, refl, sym, ◌∙◌, ap, subst, arith}
+use Rattle.std.proofs.Common.{◌≡◌, ℕ, ◌+◌, ◌≤◌, Bool, true, false, List, [], ◌∷◌, length, length-append, map, ◌++◌, Option, Some, Result, refl, sym, ◌∙◌, ap, subst, arith}
 use Rattle.std.specs.Prelude.{All, nat_lt, if◌then◌else◌}
+use Rattle.std.proofs.lemmas.List.{length-map}
 use Rattle.std.proofs.lemmas.List.Elements.{All-nil, All-cons, All-head, All-tail}
 use Rattle.mb_model.specs.declared.event.Event.{Event}
 use Rattle.mb_model.specs.declared.event.Answered.{Answered}
@@ -65,8 +66,8 @@ counted_some loads = by (nat_lt loads 1000) refl
     by true is = omega arith
     by false is = grind (arith, is)
 
-pub loaded_once : {stops loads : ℕ} (memory : Memory) (events : List Event) (ledger : Ledger) → ledger ≡ ledger_at_load (counted_load loads) stops memory events → 1 ≤ ledger.loads
-loaded_once {loads = loads} memory events ledger is = subst (λ (n : ℕ). 1 ≤ n) (sym (ap (λ (l : Ledger). l.loads) is)) (counted_some loads)
+pub loaded_once : {stops : ℕ} (loads : ℕ) (memory : Memory) (events : List Event) (ledger : Ledger) → ledger ≡ ledger_at_load (counted_load loads) stops memory events → 1 ≤ ledger.loads
+loaded_once loads memory events ledger is = subst (λ (n : ℕ). 1 ≤ n) (sym (ap (λ (l : Ledger). l.loads) is)) (counted_some loads)
 
 -- answers leave the count of loads
 pub served_once : (before after : Ledger) → 1 ≤ before.loads → use_of after ≡ having_answered after.answered (use_of before) → 1 ≤ after.loads
@@ -85,7 +86,7 @@ loaded_use image past memory events old ledger was is bytes =
 -- as many events were answered as waited
 pub answered_count : (world : World) (before after : Ledger) (held : Held) → IsServedFrom world before after held → length after.answered ≡ length before.answered + length before.waiting
 answered_count world before after held from =
-    omega (arith, ap length from.grown, length-append before.answered from.more, ap length from.all, length-map (λ (a : Answered). a.event) from.more)
+    omega (arith, ap length from.grown, length-append before.answered from.more, ap length from.all, length-map {A = Answered} {B = Event} from.more (λ a. a.event))
 
 -- events that were answered are those of a script, where those are that were given
 all_scripted : (answered : List Answered) (events : List Event) → map (λ a. a.event) answered ≡ events → All IsScriptEvent events → All (λ a. IsScriptEvent a.event) answered

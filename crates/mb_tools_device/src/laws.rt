@@ -13,7 +13,6 @@ pub fn plain_runs_are_the_machines()
 {}
 
 /// What `cutat` prints as `new` is the machine's state after the script's last event.
-#[tactic(auto, using(crate::proofs::OutcomeLemmas::cuts_count_wholly_or_not_at_all))]
 pub fn cuts_count_wholly_or_not_at_all()
     ensures { CutsCountWhollyOrNotAtAll }
 {}

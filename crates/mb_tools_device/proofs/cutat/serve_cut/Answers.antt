@@ -40,7 +40,7 @@ returns-clause-cost g c =
 
 pub returns-clause-stays : goal.returns-clause-stays
 returns-clause-stays g c = λ holds.
-    inl (record { loaded = served_once (g.B.Board.seen c.load.new.self).ledger (g.B.Board.seen c.serve-device.new.b).ledger (loaded_once (g.B.Board.seen c.load.new.self).memory c.args.events (g.B.Board.seen c.load.new.self).ledger c.in-Ok.ensures.ledger) c.serve-device.ensures.used; between = c.serve-device.ensures.between; none_waits = λ done. c.serve-device.ensures.none_waits })
+    inl (record { loaded = served_once (g.B.Board.seen c.load.new.self).ledger (g.B.Board.seen c.serve-device.new.b).ledger (loaded_once (g.B.Board.seen c.args.board.now).ledger.loads (g.B.Board.seen c.load.new.self).memory c.args.events (g.B.Board.seen c.load.new.self).ledger c.in-Ok.ensures.ledger) c.serve-device.ensures.used; between = c.serve-device.ensures.between; none_waits = λ done. c.serve-device.ensures.none_waits })
 
 pub returns-clause-carried : goal.returns-clause-carried
 returns-clause-carried g c = λ state cut held formed same can left.

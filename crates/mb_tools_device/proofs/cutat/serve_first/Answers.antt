@@ -99,10 +99,10 @@ returns-in_default-clause-stays g c = inl refl
 
 pub returns-then-wants_memory-clause-stays : goal.returns-then-wants_memory-clause-stays
 returns-then-wants_memory-clause-stays g c =
-    inr (inl (record { loaded = served_once (g.B.Board.seen c.load.new.self).ledger (g.B.Board.seen c.serve-device.new.b).ledger (loaded_once (g.B.Board.seen c.load.new.self).memory c.args.runs.first (g.B.Board.seen c.load.new.self).ledger c.in-Ok-load.ensures.ledger) c.serve-device.ensures.used; between = c.serve-device.ensures.between; none_waits = λ done. c.serve-device.ensures.none_waits }))
+    inr (inl (record { loaded = served_once (g.B.Board.seen c.load.new.self).ledger (g.B.Board.seen c.serve-device.new.b).ledger (loaded_once (g.B.Board.seen c.args.board.now).ledger.loads (g.B.Board.seen c.load.new.self).memory c.args.runs.first (g.B.Board.seen c.load.new.self).ledger c.in-Ok-load.ensures.ledger) c.serve-device.ensures.used; between = c.serve-device.ensures.between; none_waits = λ done. c.serve-device.ensures.none_waits }))
 
 pub returns-clause-stays : goal.returns-clause-stays
 returns-clause-stays g c =
     inr (c.serve_cut.ensures.stays (shut_holds (g.B.Board.seen c.serve-device.new.b) (g.B.Board.seen c.shut.new.b)
-    (served_once (g.B.Board.seen c.load.new.self).ledger (g.B.Board.seen c.serve-device.new.b).ledger (loaded_once (g.B.Board.seen c.load.new.self).memory c.args.runs.first (g.B.Board.seen c.load.new.self).ledger c.in-Ok-load.ensures.ledger) c.serve-device.ensures.used)
+    (served_once (g.B.Board.seen c.load.new.self).ledger (g.B.Board.seen c.serve-device.new.b).ledger (loaded_once (g.B.Board.seen c.args.board.now).ledger.loads (g.B.Board.seen c.load.new.self).memory c.args.runs.first (g.B.Board.seen c.load.new.self).ledger c.in-Ok-load.ensures.ledger) c.serve-device.ensures.used)
     c.serve-device.ensures.between c.serve-device.ensures.none_waits c.shut.ensures.switched c.shut.ensures.power))

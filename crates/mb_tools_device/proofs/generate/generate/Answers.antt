@@ -1,5 +1,5 @@
 use Rattle.mb_tools_device.specs.Names.{generate_files}
-use Rattle.std.proofs.Common.{inl}
+use Rattle.std.proofs.Common.{inl, refl}
 use Rattle.mb_tools_device.proofs.GenerateLemmas.{none_made}
 use Rattle.mb_tools_device.proofs.generate.generate.Goals as goal
 

@@ -82,7 +82,7 @@ returns-in_err-write_files-clause-stays g c =
     let board = g.B.Board.seen c.load.new.self in
     let p = err_from_is_err_and c.from_residual.result c.from_residual.ensures.1 in
     inr (inl (record {
-      loaded = loaded_once board.memory c.args.events board.ledger c.in-Ok.ensures.ledger;
+      loaded = loaded_once (g.B.Board.seen c.args.board.now).ledger.loads board.memory c.args.events board.ledger c.in-Ok.ensures.ledger;
       between = loaded_between (g.B.Board.seen c.args.board.now) board c.args.events c.in-Ok.ensures.ledger c.load.ensures.power c.in-Ok.ensures.meter;
       none_waits = λ done. let no : Err p.0 ≡ Ok tt = sym p.1 ∙ done in absurd (grind (arith, no));
     }))
@@ -97,4 +97,4 @@ returns-in-Err-clause-stays g c = inl c.in-Err.ensures.failed
 
 pub returns-clause-stays : goal.returns-clause-stays
 returns-clause-stays g c =
-    inr (inl (record { loaded = served_once (g.B.Board.seen c.load.new.self).ledger (g.B.Board.seen c.serve-device.new.b).ledger (loaded_once (g.B.Board.seen c.load.new.self).memory c.args.events (g.B.Board.seen c.load.new.self).ledger c.in-Ok.ensures.ledger) c.serve-device.ensures.used; between = c.serve-device.ensures.between; none_waits = λ done. c.serve-device.ensures.none_waits }))
+    inr (inl (record { loaded = served_once (g.B.Board.seen c.load.new.self).ledger (g.B.Board.seen c.serve-device.new.b).ledger (loaded_once (g.B.Board.seen c.args.board.now).ledger.loads (g.B.Board.seen c.load.new.self).memory c.args.events (g.B.Board.seen c.load.new.self).ledger c.in-Ok.ensures.ledger) c.serve-device.ensures.used; between = c.serve-device.ensures.between; none_waits = λ done. c.serve-device.ensures.none_waits }))

@@ -1,4 +1,4 @@
-use Rattle.std.proofs.Common.{refl, ◌∙◌, ap, inl, inr}
+use Rattle.std.proofs.Common.{refl, ◌∙◌, ap, inl, inr, arith}
 use Rattle.mb_model.specs.Machine.{opening_world}
 use Rattle.mb_board.specs.Calls.{Seen}
 use Rattle.mb_model.specs.Board.{Used, not_used, use_of, having_answered}
@@ -57,4 +57,4 @@ returns-in-Err-clause-stays g c = inl c.in-Err.ensures.failed
 
 pub returns-clause-stays : goal.returns-clause-stays
 returns-clause-stays g c =
-    inr (inl (record { loaded = served_once (g.B.Board.seen c.load.new.self).ledger (g.B.Board.seen c.serve-device.new.b).ledger (loaded_once (g.B.Board.seen c.load.new.self).memory c.args.events (g.B.Board.seen c.load.new.self).ledger c.in-Ok.ensures.ledger) c.serve-device.ensures.used; between = c.serve-device.ensures.between; none_waits = λ done. c.serve-device.ensures.none_waits }))
+    inr (inl (record { loaded = served_once (g.B.Board.seen c.load.new.self).ledger (g.B.Board.seen c.serve-device.new.b).ledger (loaded_once (g.B.Board.seen c.args.board.now).ledger.loads (g.B.Board.seen c.load.new.self).memory c.args.events (g.B.Board.seen c.load.new.self).ledger c.in-Ok.ensures.ledger) c.serve-device.ensures.used; between = c.serve-device.ensures.between; none_waits = λ done. c.serve-device.ensures.none_waits }))
