@@ -1,5 +1,5 @@
 -- How often a command loads a board.
-use Rattle.std.proofs.Common.{◌≡◌, ℕ, ◌≤◌, ◌⊎◌, List, Option, None, Some, inl, inr, false, refl, ap, ◌∙◌, arith}
+use Rattle.std.proofs.Common.{◌≡◌, ℕ, ◌≤◌, ◌⊎◌, List, Option, None, Some, inl, inr, true, false, refl, ap, ◌∙◌, arith}
 use Rattle.mb_model.specs.declared.event.Event.{Event}
 use Rattle.mb_model.specs.declared.event.Answered.{Answered}
 use Rattle.mb_model.specs.declared.key.PublicKey.{PublicKey}
@@ -19,8 +19,8 @@ use Rattle.mb_model.specs.Acceptance.{Verdict, chain_acceptance, chain_rejection
 use Rattle.mb_model.specs.RunCommand.{RunNames, IsServed, run, read_script, read_noise, write_image}
 use Rattle.mb_model.specs.GenerateCommand.{GenerateNames, Prepared, generate, prepared_image, summarise}
 use Rattle.mb_model.specs.Commands.{Command, read, find, either_command, load, serve, rehearse, write, print, refuse, lack, Input, Past, Ended, end_seen_from, WantsMemory, InputEnds, input_is_too_long, input_is_faulty, input_is_not_read, memory_lacks, PrintEnds, text_is_printed, text_is_not_printed, CommandEnds, at_first}
-use Rattle.mb_policy.specs.declared.judgement.Judgement.{Judgement}
-use Rattle.mb_policy.specs.declared.judgement.Judgement.TheVariants as judgement
+use Rattle.mb_policy.specs.declared.judging.Judgement.{Judgement}
+use Rattle.mb_policy.specs.declared.judging.Judgement.TheVariants as judgement
 use Rattle.mb_policy.specs.Policies.{PolicyItem}
 use Rattle.mb_appvm.specs.declared.running.AppEnd.{AppEnd}
 use Rattle.mb_appvm.specs.declared.running.AppEnd.TheVariants as app_end
@@ -281,7 +281,6 @@ input_status input past e (input_is_faulty bytes has place fault stops) = omega 
 input_status input past e (input_is_not_read mid fails stops) = omega (arith, stops.status_is)
 input_status input past e (memory_lacks wants) = omega (arith, wants.stops.status_is)
 
-
 input_ended : {A : Type 0} {Often : Type 0} (input : Input A) (e : Ended) → InputEnds input at_first e → EndsAfterLoads Often e
 input_ended input e ends = inl (input_used input at_first e ends, input_status input at_first e ends)
 
@@ -368,8 +367,8 @@ first_ended names image cut e (inr wants) = lacked e wants
 cut_noise_read : (names : CutNames) (image : Image) (events : List Event) (e : Ended) → CommandEnds (read_cut_noise names image events) at_first e → CutEnds e
 unfolding CommandEnds
 cut_noise_read names image events e (inl ends) = input_ended (draws_input events names.noise) e ends
-cut_noise_read names image events e (inr (bytes, is, events_drawn, drawn, inl it)) = first_ended names image it.0 (end_seen_from (read_once e.before) e) it.2
-cut_noise_read names image events e (inr (bytes, is, events_drawn, drawn, inr wants)) = lacked (end_seen_from (read_once e.before) e) wants
+cut_noise_read names image events e (inr (bytes, is, (drawn, means, inl it))) = first_ended names image it.0 (end_seen_from (read_once e.before) e) it.2
+cut_noise_read names image events e (inr (bytes, is, (drawn, means, inr wants))) = lacked (end_seen_from (read_once e.before) e) wants
 
 cut_script_read : (names : CutNames) (image : Image) (e : Ended) → CommandEnds (read_uncut_script names image) at_first e → CutEnds e
 unfolding CommandEnds
