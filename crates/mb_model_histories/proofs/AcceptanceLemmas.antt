@@ -52,7 +52,7 @@ use Rattle.mb_model_histories.proofs.TargetLemmas.{serials_stay}
 -- ---- more entries
 
 -- what the log says of a key, it says with more entries too
-made_on : (rest front : List Entry) (n : ℕ) (made : KeyEntry) → RuledLog (front ++ rest) → key_of front n ≡ Some made → key_of (front ++ rest) n ≡ Some made
+pub made_on : (rest front : List Entry) (n : ℕ) (made : KeyEntry) → RuledLog (front ++ rest) → key_of front n ≡ Some made → key_of (front ++ rest) n ≡ Some made
 made_on [] front n made ruled is = ap (λ log. key_of log n) (append-nil front) ∙ is
 made_on (entry ∷ rest) front n made ruled is =
     let more : List Entry = front ++ entry ∷ [] in
@@ -222,7 +222,7 @@ made_some log n made is none =
     let no : None ≡ Some made = ap (λ es. key_of es n) (sym none) ∙ is in
     absurd (grind (arith, no))
 
-current_in : (entries : List Entry) (n : ℕ) (made : KeyEntry) (o : Option Statement) (statement : Statement) → o ≡ Some statement → IfStatement o (IsCurrent entries n made) → IsCurrent entries n made statement
+pub current_in : (entries : List Entry) (n : ℕ) (made : KeyEntry) (o : Option Statement) (statement : Statement) → o ≡ Some statement → IfStatement o (IsCurrent entries n made) → IsCurrent entries n made statement
 current_in entries n made o statement is current = subst (λ (p : Option Statement). IfStatement p (IsCurrent entries n made)) is current
 
 pub accepted_statements_were_made : (maker : PublicKey) (bytes : List ℕ) (key_number : ℕ) (report : Report) (accepts : Accepts maker bytes key_number report) (statement : Statement) (first last : World) (live : State)

@@ -19,3 +19,4 @@ pub mod RepairLemmas
 pub mod AgreementLemmas
 pub mod ElsewhereLemmas
 pub mod UseLemmas
+pub mod KeyLemmas

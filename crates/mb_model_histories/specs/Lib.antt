@@ -10,3 +10,4 @@ pub mod PowerLaws
 pub mod RepairLaws
 pub mod AgreementLaws
 pub mod UseLaws
+pub mod KeyLaws
