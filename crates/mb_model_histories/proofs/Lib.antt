@@ -20,3 +20,4 @@ pub mod AgreementLemmas
 pub mod ElsewhereLemmas
 pub mod UseLemmas
 pub mod KeyLemmas
+pub mod RegionEventLemmas

@@ -173,7 +173,7 @@ machine_comes here (event.Sign L key message) answer next x =
     of_told here _ answer next (region_event here L (sign_event L key message) (running_state_in here)) x (region_undone here L (sign_event L key message) (running_state_in here) refl (sign_undone L key message))
 
 -- an order that was obeyed in another world, whose state is left here
-obeyed_there : (here : World) (this : Event) (whole next : World) (order : Order) → next.state ≡ whole.state → ObeysAt here this whole order → ObeysAt here this next order
+pub obeyed_there : (here : World) (this : Event) (whole next : World) (order : Order) → next.state ≡ whole.state → ObeysAt here this whole order → ObeysAt here this next order
 obeyed_there here this whole next order same by = record {
   text = by.text;
   draw = by.draw;

@@ -1,12 +1,12 @@
 -- When a device obeys an order, and what it keeps when it obeys none. Does anything else than an order change a device?
-use Rattle.std.specs.Prelude.{◌≡◌, ◌<◌, List, ℕ, false, Some}
+use Rattle.std.specs.Prelude.{◌≡◌, ◌<◌, ◌≤◌, List, ℕ, false, Option, None, Some}
 use Rattle.mb_format.specs.Format.{Spells}
 use Rattle.mb_model.specs.declared.event.Event.{Event}
-use Rattle.mb_model.specs.declared.event.Event.TheVariants.{Command}
+use Rattle.mb_model.specs.declared.event.Event.TheVariants.{Command, Put, Drop, Sign}
 use Rattle.mb_model.specs.declared.layer.Layer.{Layer}
 use Rattle.mb_model.specs.declared.order.Order.{Order}
 use Rattle.mb_model.specs.declared.state.State.{State}
-use Rattle.mb_model.specs.Layers.{layer_of}
+use Rattle.mb_model.specs.Layers.{layer_of, Runnable}
 use Rattle.mb_model.specs.Machine.{ratchet, World}
 use Rattle.mb_model.specs.OrderChecks.{view_of, IsSigned, Passes}
 use Rattle.mb_model.specs.OrderEffects.{state_after_order}
@@ -29,6 +29,26 @@ pub record ObeysAt (here : World) (this : Event) (next : World) (order : Order) 
 -- all of the state is kept but the regions: serial, layers and their code, log, device key and its uses
 abbrev pub KeepsAllButRegions : State → State → Type 0
 KeepsAllButRegions before after = after ≡ record before { two = after.two; three = after.three }
+
+-- ---- what a layer does with its region
+
+-- the layer whose region the event may change
+abbrev pub layer_asked : Event → Option ℕ
+layer_asked (Put layer name value) = Some layer
+layer_asked (Drop layer name) = Some layer
+layer_asked (Sign layer key message) = Some layer
+layer_asked other = None
+
+-- At this event the region of a layer may change: it is a `put`, a `drop` or a `sign` of that layer, no layer above it
+-- is in control, and it may run.
+pub record ActsOnRegion (here : World) (this : Event) (layer : ℕ) : Type 0 where
+  pub state : State
+  pub level : ℕ
+  pub asked : layer_asked this ≡ Some layer
+  pub was : here.state ≡ Some state
+  pub running : here.phase ≡ ratchet level
+  pub in_control : level ≤ layer
+  pub runs : Runnable state.layers layer
 
 -- ---- what an order makes of a layer
 

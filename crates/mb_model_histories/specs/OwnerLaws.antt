@@ -25,7 +25,7 @@ use Rattle.mb_model.specs.Regions.{region_of, AdmittedSince}
 use Rattle.mb_model.specs.SignedTexts.{order_text}
 use Rattle.mb_model.specs.Valid.{IsValidState, Valid}
 use Rattle.mb_model_histories.specs.Histories.{ComesAfter}
-use Rattle.mb_model_histories.specs.ObeyedOrders.{ObeysAt, KeepsAllButRegions, Becomes}
+use Rattle.mb_model_histories.specs.ObeyedOrders.{ObeysAt, KeepsAllButRegions, ActsOnRegion, Becomes}
 use Rattle.mb_model_histories.specs.RepairLaws.{plain_order, CanBeGiven, HasKeyOf}
 
 -- ---- who decides
@@ -42,6 +42,14 @@ abbrev pub ObeyedOrdersAreLogged : Type 0
 ObeyedOrdersAreLogged =
     (here next : World) (this : Event) (order : Order) (before after : State) → ObeysAt here this next order
     → here.state ≡ Some before → next.state ≡ Some after → length before.log < length after.log
+
+-- A region of a device that stays alive changes only at an event of its own layer, or at an order that is obeyed.
+abbrev pub RegionsChangeByTheirLayer : Type 0
+RegionsChangeByTheirLayer =
+    (here next : World) (this : Event) (answer : Reply) (before after : State) (layer : ℕ)
+    → Step here this answer next → here.state ≡ Some before → next.state ≡ Some after
+    → (region_of after layer ≡ region_of before layer) ⊎ ActsOnRegion here this layer
+    ⊎ ((order : Order) × ObeysAt here this next order)
 
 -- An event that is answered `done` is an order that is obeyed.
 abbrev pub DoneIsObeyed : Type 0

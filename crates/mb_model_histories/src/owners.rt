@@ -1,6 +1,6 @@
 //! Laws of owners: who decides over a layer, and who could have what is kept in it.
 
-ghost use Rattle.mb_model_histories.specs.OwnerLaws.{OnlyOrdersChange, ObeyedOrdersAreLogged, DoneIsObeyed, OrdersChangeTheirLayer, OrdersLeaveOtherCode, OwnersStay, OwnerOfLayerOneStays, OwnersCanGiveUp, SecretsKeepTheirOwner, KeysKeepTheirOwner, NobodyOwnsBeforeTheBirth, ValuesAreAdmitted, InvalidStatesReadMore};
+ghost use Rattle.mb_model_histories.specs.OwnerLaws.{OnlyOrdersChange, ObeyedOrdersAreLogged, RegionsChangeByTheirLayer, DoneIsObeyed, OrdersChangeTheirLayer, OrdersLeaveOtherCode, OwnersStay, OwnerOfLayerOneStays, OwnersCanGiveUp, SecretsKeepTheirOwner, KeysKeepTheirOwner, NobodyOwnsBeforeTheBirth, ValuesAreAdmitted, InvalidStatesReadMore};
 
 /// Nothing but an order that is obeyed changes more of a living device than its regions. An order makes of its own
 /// layer what it says, by the signature of the owner in charge; of a layer above it can only end the reliability. It
@@ -8,6 +8,7 @@ ghost use Rattle.mb_model_histories.specs.OwnerLaws.{OnlyOrdersChange, ObeyedOrd
 pub fn only_owners_decide()
     ensures only { OnlyOrdersChange }
     ensures logged { ObeyedOrdersAreLogged }
+    ensures region { RegionsChangeByTheirLayer }
     ensures done { DoneIsObeyed }
     ensures layer { OrdersChangeTheirLayer }
     ensures code { OrdersLeaveOtherCode }
