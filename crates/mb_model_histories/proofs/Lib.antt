@@ -21,3 +21,4 @@ pub mod ElsewhereLemmas
 pub mod UseLemmas
 pub mod KeyLemmas
 pub mod RegionEventLemmas
+pub mod KeyFileLemmas

@@ -11,3 +11,4 @@ pub mod RepairLaws
 pub mod AgreementLaws
 pub mod UseLaws
 pub mod KeyLaws
+pub mod KeyFileLaws

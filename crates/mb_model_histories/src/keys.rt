@@ -1,5 +1,6 @@
-//! Laws of keys, and of the noise that they are derived from.
+//! Laws of keys: of the noise that they are derived from, and of the file of an officer's key.
 
+ghost use Rattle.mb_model_histories.specs.KeyFileLaws.{SigningUsesUpItsIndex, CountersigningUsesUpItsIndex, IndicesInTurnDiffer, OldKeysSignAgain};
 ghost use Rattle.mb_model_histories.specs.KeyLaws.{DeviceKeysDiffer, OfficersKeysDiffer, KeysOfDevicesAreNoOfficers, OneNoiseMakesOneKey, KeysAreDerived, KeysOfOneDeviceDiffer};
 
 /// Keys differ if what they were derived from does, or two texts with one hash are at hand: those of devices, those of
@@ -12,4 +13,13 @@ pub fn keys_differ()
     ensures noise { OneNoiseMakesOneKey }
     ensures derived { KeysAreDerived }
     ensures regions { KeysOfOneDeviceDiffer }
+{}
+
+/// A call of `sign` or `countersign` leaves KEY as it was and signs nothing, or uses up one index before the signature is
+/// written, or could not write KEY. So no two calls, each over the KEY that the one before left, sign at one index.
+pub fn key_files_sign_once()
+    ensures sign { SigningUsesUpItsIndex }
+    ensures countersign { CountersigningUsesUpItsIndex }
+    ensures turn { IndicesInTurnDiffer }
+    ensures old { OldKeysSignAgain }
 {}

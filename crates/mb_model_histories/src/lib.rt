@@ -24,7 +24,7 @@ pub use histories::{
     calls_make_a_history, histories_are_runs, histories_are_sound, histories_begin_at_a_birth,
     replayed_images_sign_again,
 };
-pub use keys::keys_differ;
+pub use keys::{key_files_sign_once, keys_differ};
 pub use owners::{only_owners_decide, owners_stay, regions_keep_their_owner, values_are_admitted};
 pub use power::{power_losses_reach_nothing_new, runs_are_determined};
 pub use repair::{live_devices_come_to_layer_one, owners_beneath_can_always_act};

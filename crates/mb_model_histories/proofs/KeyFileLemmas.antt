@@ -1,0 +1,192 @@
+-- What a call of `sign` or `countersign` leaves of the files.
+use Rattle.std.proofs.Common.{◌≡◌, ◌≢◌, ◌<◌, ◌⊎◌, ℕ, List, [], ◌∷◌, inl, inr, Option, Some, true, false, true≢false, refl, sym, ap, ◌∙◌, subst, arith}
+use Rattle.std.specs.Prelude.{All}
+use Rattle.std.proofs.lemmas.List.Elements.{All-nil, All-cons, All-head}
+use Rattle.std.proofs.lemmas.List.Kept.{AllPairs-cons}
+use Rattle.mb_format.specs.Format.{Spells, IsClearWhole}
+use Rattle.mb_format.proofs.Whole.{IsClearWhole-from_exact}
+use Rattle.mb_model.specs.declared.order.Order.{Order}
+use Rattle.mb_model.specs.declared.role.Role.{Role}
+use Rattle.mb_model.specs.declared.role.Role.TheVariants as role
+use Rattle.mb_model.specs.declared.tools.Keyfile.{Keyfile}
+use Rattle.mb_model.specs.Commands.{Input, Command, read, write, print, HasRead, Past, Ended, end_seen_from, SaysLine, Stops, InputEnds, input_is_too_long, input_is_faulty, input_is_not_read, memory_lacks, text_is_printed, text_is_not_printed, CommandEnds, at_first}
+use Rattle.mb_model.specs.Inputs.{key_input, draft_input, order_input}
+use Rattle.mb_model.specs.KeyFormat.{keyfile_format}
+use Rattle.mb_model.specs.OrderLines.{order_line}
+use Rattle.mb_model.specs.Outside.{Outside, read_once, FailsToRead, by_fault, by_absence}
+use Rattle.mb_model.specs.Sign.{CountersignNames, index_text, use_index, sign_by, sign_draft, sign, countersign_by, countersign_order, countersign}
+use Rattle.mb_model.specs.SignedOrders.{keyfile_after_use, signed_order, countersigned_order}
+use Rattle.mb_model.specs.Texts.{line_with_lf}
+use Rattle.mb_model.proofs.KeyFormatLaws.{keyfile_exact}
+use Rattle.mb_model_lemmas.proofs.FateLemmas.{pairs_head}
+use Rattle.mb_model_lemmas.proofs.Splits.{some_same}
+use Rattle.mb_model_histories.specs.KeyFileLaws.{Files, LeavesKey, nothing_is_written, key_is_not_written, index_is_used, SigningUsesUpItsIndex, CountersigningUsesUpItsIndex, AreIndicesInTurn, IndicesInTurnDiffer, OldKeysSignAgain}
+
+-- ---- ends without a write
+
+said_files : (line : List ℕ) (before after : Outside) → SaysLine line before after → after.files ≡ before.files
+said_files line before after (inl prints) = ap (λ (o : Outside). o.files) prints.stays
+said_files line before after (inr fails) = ap (λ (o : Outside). o.files) fails.stays
+
+stopped_files : (line : List ℕ) (status : ℕ) (past : Past) (ending : Ended) → Stops line status past ending → ending.after.files ≡ ending.before.files
+stopped_files line status past ending stops = said_files line ending.before ending.after stops.says
+
+unread_files : (name : List ℕ) (before after : Outside) → FailsToRead name before after → after.files ≡ before.files
+unread_files name before after (by_fault is) = ap (λ (o : Outside). o.files) is
+unread_files name before after (by_absence none is) = ap (λ (o : Outside). o.files) is
+
+input_files : {A : Type 0} (input : Input A) (past : Past) (ending : Ended) → InputEnds input past ending → ending.after.files ≡ ending.before.files
+input_files input past ending (input_is_too_long held stops) = stopped_files _ 3 past _ stops
+input_files input past ending (input_is_faulty bytes has place fault stops) = stopped_files _ 3 past _ stops
+input_files input past ending (input_is_not_read mid fails stops) = stopped_files _ 4 past _ stops ∙ unread_files input.name ending.before mid fails
+input_files input past ending (memory_lacks wants) = stopped_files _ 6 past _ wants.stops
+
+printed_files : (text : List ℕ) (past : Past) (ending : Ended) → past.wrote ≡ true → CommandEnds (print text) past ending → (ending.after.files ≡ ending.before.files)
+unfolding CommandEnds
+printed_files text past ending wrote (inl (text_is_printed prints used status)) = ap (λ (o : Outside). o.files) prints.stays
+printed_files text past ending wrote (inl (text_is_not_printed mid fails stops)) = stopped_files _ 5 past _ stops ∙ ap (λ (o : Outside). o.files) fails.stays
+printed_files text past ending wrote (inr wants) = absurd (true≢false (sym wrote ∙ wants.first))
+
+-- ---- files by name
+
+-- the files of one name apart
+abbrev ButFor : List ℕ → Files → Files → Type 0
+ButFor name before after = (other : List ℕ) → other ≢ name → after other ≡ before other
+
+same_files : (before after : Files) (o p : Option Files) → o ≡ Some before → p ≡ Some after → p ≡ o → (name : List ℕ) → after name ≡ before name
+same_files before after o p is_before is_after same name =
+    let equal : after ≡ before = some_same after before (sym is_after ∙ same ∙ is_before) in
+    ap (λ (f : Files). f name) equal
+
+-- ---- the key is used
+
+-- OUT after the key was written
+out_left : (name text line : List ℕ) (role_of : Role) (between after : Files) (ending : Ended) → ending.before.files ≡ Some between → ending.after.files ≡ Some after
+    → CommandEnds (write (record { role = role_of; name = name; bytes = line }) (print text)) (record at_first { wrote = true }) ending
+    → ButFor name between after × ((after name ≡ Some line) ⊎ (ending.status ≡ 5))
+unfolding CommandEnds
+out_left name text line role_of between after ending is_between is_after (inl ends) =
+    let kept = ends.fails.others between is_between in
+    let same : after ≡ kept.0 = some_same after kept.0 (sym is_after ∙ stopped_files _ 5 _ _ ends.stops ∙ kept.1) in
+    (λ other apart. ap (λ (f : Files). f other) same ∙ kept.2 other apart, inr ends.stops.status_is)
+out_left name text line role_of between after ending is_between is_after (inr (inl (mid, writes, rest))) =
+    let kept = writes.others between is_between in
+    let printed : ending.after.files ≡ mid.files = printed_files text (record at_first { wrote = true }) (end_seen_from mid ending) refl rest in
+    let same : after ≡ kept.0 = some_same after kept.0 (sym is_after ∙ printed ∙ kept.1) in
+    (λ other apart. ap (λ (f : Files). f other) same ∙ kept.2 other apart, inl (ap (λ (f : Files). f name) same ∙ writes.holds kept.0 kept.1))
+out_left name text line role_of between after ending is_between is_after (inr (inr wants)) = absurd (true≢false wants.first)
+
+module _ (key_name out_name : List ℕ) (key : Keyfile) (Made : Order → Type 0) (allowed : keyfile_format.Allowed key) (apart : out_name ≢ key_name) (before after : Files) where
+  next_allowed : key.next ≢ 32 → keyfile_format.Allowed (keyfile_after_use key)
+  unfolding keyfile_format
+  next_allowed left = (allowed.0, (allowed.1.0, (omega arith, omega (arith, allowed.1.1.1, left))))
+
+  index_used : (order : Order) (ending : Ended) → Made order → key.next ≢ 32 → ending.before.files ≡ Some before → ending.after.files ≡ Some after
+      → CommandEnds (use_index key_name out_name key order) at_first ending → LeavesKey key_name out_name key Made before after ending.status
+  unfolding CommandEnds use_index
+  index_used order ending made left is_before is_after (inl ends) =
+      let kept = ends.fails.others before is_before in
+      let same : after ≡ kept.0 = some_same after kept.0 (sym is_after ∙ stopped_files _ 5 at_first _ ends.stops ∙ kept.1) in
+      key_is_not_written (λ name other. ap (λ (f : Files). f name) same ∙ kept.2 name other) ends.stops.status_is
+  index_used order ending made left is_before is_after (inr (inr wants)) =
+      nothing_is_written (same_files before after ending.before.files ending.after.files is_before is_after (stopped_files _ 6 at_first ending wants.stops))
+  index_used order ending made left is_before is_after (inr (inl (mid, writes, rest))) =
+      let kept = writes.others before is_before in
+      let now : List ℕ = keyfile_format.spelling (keyfile_after_use key) in
+      let out = out_left out_name (index_text key.next) (line_with_lf (order_line order)) role.Out kept.0 after (end_seen_from mid ending) kept.1 is_after rest in
+      index_is_used left now (out.0 key_name (λ same. apart (sym same)) ∙ writes.holds kept.0 kept.1) (record { allowed = next_allowed left; whole = refl })
+      (λ name not_key not_out. out.0 name not_out ∙ kept.2 name not_key)
+      (elim (out.1) [ inl holds ↦ inl (order, made, holds) | inr failed ↦ inr failed ])
+
+  signed_by : (order : Order) (ending : Ended) → Made order → ending.before.files ≡ Some before → ending.after.files ≡ Some after
+      → CommandEnds (sign_by key_name out_name key order) at_first ending → LeavesKey key_name out_name key Made before after ending.status
+  unfolding CommandEnds sign_by
+  signed_by order ending made is_before is_after (inl (spent, inl stops)) =
+      nothing_is_written (same_files before after ending.before.files ending.after.files is_before is_after (stopped_files _ 7 at_first ending stops))
+  signed_by order ending made is_before is_after (inl (spent, inr wants)) =
+      nothing_is_written (same_files before after ending.before.files ending.after.files is_before is_after (stopped_files _ 6 at_first ending wants.stops))
+  signed_by order ending made is_before is_after (inr (inl (left, used))) = index_used order ending made left is_before is_after used
+  signed_by order ending made is_before is_after (inr (inr wants)) =
+      nothing_is_written (same_files before after ending.before.files ending.after.files is_before is_after (stopped_files _ 6 at_first ending wants.stops))
+
+-- ---- the key that was read
+
+key_clear : IsClearWhole keyfile_format
+key_clear = IsClearWhole-from_exact keyfile_exact
+
+-- the key that is read is the one that the file spells
+one_key : (name bytes found : List ℕ) (key value : Keyfile) (outside : Outside) (files : Files) → outside.files ≡ Some files → files name ≡ Some bytes → Spells keyfile_format bytes key
+    → HasRead outside name found → Spells keyfile_format found value → value ≡ key
+one_key name bytes found key value outside files is holds spelled has other =
+    let same : found ≡ bytes = some_same found bytes (sym (has.held files is) ∙ holds) in
+    key_clear.one_value found value key has.are_bytes other (subst (λ b. Spells keyfile_format b key) (sym same) spelled)
+
+-- what is read after the key, and then done
+draft_read : {A : Type 0} (input : Input A) (rest : A → Command) (key_name out_name : List ℕ) (key : Keyfile) (Made : Order → Type 0) (before after : Files) (ending : Ended)
+    → ending.before.files ≡ Some before → ending.after.files ≡ Some after
+    → ((value : A) (mid : Ended) → mid.before.files ≡ Some before → mid.after.files ≡ Some after → CommandEnds (rest value) at_first mid → LeavesKey key_name out_name key Made before after mid.status)
+    → CommandEnds (read input rest) at_first ending → LeavesKey key_name out_name key Made before after ending.status
+unfolding CommandEnds
+draft_read input rest key_name out_name key Made before after ending is_before is_after each (inl ends) =
+    nothing_is_written (same_files before after ending.before.files ending.after.files is_before is_after (input_files input at_first ending ends))
+draft_read input rest key_name out_name key Made before after ending is_before is_after each (inr (bytes, has, (value, is, ends))) =
+    each value (end_seen_from (read_once ending.before) ending) is_before is_after ends
+
+pub signing_uses_up_its_index : SigningUsesUpItsIndex
+unfolding sign CommandEnds
+signing_uses_up_its_index names ending before after bytes key (inl ends) is_before is_after holds spelled apart =
+    nothing_is_written (same_files before after ending.before.files ending.after.files is_before is_after (input_files (key_input names.key) at_first ending ends))
+signing_uses_up_its_index names ending before after bytes key (inr (found, has, (value, is, ends))) is_before is_after holds spelled apart =
+    let one : value ≡ key = one_key names.key bytes found key value ending.before before is_before holds spelled has is in
+    let Made : Order → Type 0 = λ made. (order : Order) × (made ≡ signed_order key order) in
+    draft_read (draft_input names.draft) (λ order. sign_by names.key names.out key (signed_order key order)) names.key names.out key Made before after
+    (end_seen_from (read_once ending.before) ending) is_before is_after
+    (λ order mid at_before at_after. signed_by names.key names.out key Made spelled.allowed apart before after (signed_order key order) mid (order, refl) at_before at_after)
+    (subst (λ k. CommandEnds (sign_draft names k) at_first (end_seen_from (read_once ending.before) ending)) one ends)
+
+countersigned_by : (names : CountersignNames) (key : Keyfile) (Made : Order → Type 0) → keyfile_format.Allowed key → names.out ≢ names.key → (before after : Files) (order : Order) (ending : Ended)
+    → Made (countersigned_order key names.layer order) → ending.before.files ≡ Some before → ending.after.files ≡ Some after → CommandEnds (countersign_by names key order) at_first ending
+    → LeavesKey names.key names.out key Made before after ending.status
+unfolding CommandEnds
+countersigned_by names key Made allowed apart before after order ending made is_before is_after (inl (not_so, inl stops)) =
+    nothing_is_written (same_files before after ending.before.files ending.after.files is_before is_after (stopped_files _ 7 at_first ending stops))
+countersigned_by names key Made allowed apart before after order ending made is_before is_after (inl (not_so, inr wants)) =
+    nothing_is_written (same_files before after ending.before.files ending.after.files is_before is_after (stopped_files _ 6 at_first ending wants.stops))
+countersigned_by names key Made allowed apart before after order ending made is_before is_after (inr (inl (so, signs))) =
+    signed_by names.key names.out key Made allowed apart before after (countersigned_order key names.layer order) ending made is_before is_after signs
+countersigned_by names key Made allowed apart before after order ending made is_before is_after (inr (inr wants)) =
+    nothing_is_written (same_files before after ending.before.files ending.after.files is_before is_after (stopped_files _ 6 at_first ending wants.stops))
+
+pub countersigning_uses_up_its_index : CountersigningUsesUpItsIndex
+unfolding countersign CommandEnds
+countersigning_uses_up_its_index names ending before after bytes key (inl ends) is_before is_after holds spelled apart =
+    nothing_is_written (same_files before after ending.before.files ending.after.files is_before is_after (input_files (key_input names.key) at_first ending ends))
+countersigning_uses_up_its_index names ending before after bytes key (inr (found, has, (value, is, ends))) is_before is_after holds spelled apart =
+    let one : value ≡ key = one_key names.key bytes found key value ending.before before is_before holds spelled has is in
+    let Made : Order → Type 0 = λ made. (order : Order) × (made ≡ countersigned_order key names.layer order) in
+    draft_read (order_input names.order) (countersign_by names key) names.key names.out key Made before after
+    (end_seen_from (read_once ending.before) ending) is_before is_after
+    (λ order mid at_before at_after. countersigned_by names key Made spelled.allowed apart before after order mid (order, refl) at_before at_after)
+    (subst (λ k. CommandEnds (countersign_order names k) at_first (end_seen_from (read_once ending.before) ending)) one ends)
+
+-- ---- in turn
+
+pub indices_in_turn_differ : IndicesInTurnDiffer
+indices_in_turn_differ first last [] turn = λ i j d less within. absurd (omega (arith, within))
+indices_in_turn_differ first last (index ∷ indices) turn =
+    AllPairs-cons (λ sooner later. sooner < later) index indices (all_above (keyfile_after_use first) last indices index (omega (arith, turn.0)) turn.1)
+    (indices_in_turn_differ (keyfile_after_use first) last indices turn.1)
+  where
+    all_above : (first last : Keyfile) (indices : List ℕ) (bound : ℕ) → bound < first.next → AreIndicesInTurn first indices last → All (λ later. bound < later) indices
+    all_above first last [] bound less turn = All-nil (λ later. bound < later)
+    all_above first last (index ∷ indices) bound less turn =
+        All-cons (λ later. bound < later) index indices (omega (arith, less, turn.0)) (all_above (keyfile_after_use first) last indices bound (omega (arith, less)) turn.1)
+
+pub old_keys_sign_again : OldKeysSignAgain
+old_keys_sign_again key = (
+  (refl, refl),
+  (refl, refl),
+  λ differ.
+      let less : key.next < key.next = All-head (λ later. key.next < later) key.next [] (pairs_head (λ sooner later. sooner < later) key.next (key.next ∷ []) differ) in
+      omega (arith, less),
+)

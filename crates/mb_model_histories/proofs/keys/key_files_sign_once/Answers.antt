@@ -1,0 +1,10 @@
+use Rattle.mb_model_histories.proofs.KeyFileLemmas as lemmas
+use Rattle.mb_model_histories.proofs.keys.key_files_sign_once.Goals as goal
+
+pub returns : goal.returns
+returns c = record {
+  sign = lemmas.signing_uses_up_its_index;
+  countersign = lemmas.countersigning_uses_up_its_index;
+  turn = lemmas.indices_in_turn_differ;
+  old = lemmas.old_keys_sign_again;
+}
