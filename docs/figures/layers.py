@@ -2,7 +2,7 @@
 """Draws the layers of crates: layers.py >layers.svg, from crates.txt.
 
 A row has crates of one subject. Crates of tests alone, and of lemmas and laws, have a box each, and those of commands a
-row, by what their names begin with. It is an error if another crate stands in no row, if one that is drawn is not in
+row, by what their names begin or end with. It is an error if another crate stands in no row, if one that is drawn is not in
 crates.txt, if a crate stands on one of a row above its own, or if one that is no test stands on a crate of tests."""
 
 import pathlib
@@ -24,7 +24,7 @@ ROWS = [
     ("the world outside", "#f1e7f2", ["mb_host", "mb_board", "mb_ratchet"]),
     ("definitions", "#f1e7f2", ["mb_model", "mb_format"]),
 ]
-LEMMAS, TESTS = "mb_model_", "mb_test_"
+LEMMAS, TESTS, LAWS = "mb_model_", "mb_test_", "_histories"
 
 LEFT, RIGHT, TOP, HEIGHT, GAP = 176, 806, 84, 34, 14
 BOX, BOX_WIDTH = 830, 140
@@ -42,6 +42,10 @@ def beginning(start, listed):
     return [name for name in listed if name.startswith(start)]
 
 
+def lemmas_and_laws(listed):
+    return [name for name in listed if name.startswith(LEMMAS) or name.endswith(LAWS)]
+
+
 def rows_of(listed):
     """The rows, with the crates of this list in place of the beginnings of names."""
     for title, fill, names in ROWS:
@@ -52,7 +56,7 @@ def rows_of(listed):
 def faults_of(listed):
     """What is wrong with the rows, by the list of crates."""
     row_of = {name: at for at, (_, _, names) in enumerate(rows_of(listed)) for name in names}
-    drawn = {*row_of, *beginning(LEMMAS, listed), *beginning(TESTS, listed)}
+    drawn = {*row_of, *lemmas_and_laws(listed), *beginning(TESTS, listed)}
     for name in sorted(drawn ^ set(listed)):
         yield f"{name} is {'drawn' if name in drawn else 'listed'}, and not {'listed' if name in drawn else 'drawn'}"
     for name, others in listed.items():
@@ -92,7 +96,7 @@ def side(y, title, names, fill):
 
 def figure(listed):
     height, rows = BOTTOM + 70, list(rows_of(listed))
-    lemmas, tests = beginning(LEMMAS, listed), beginning(TESTS, listed)
+    lemmas, tests = lemmas_and_laws(listed), beginning(TESTS, listed)
     yield (f'<svg xmlns="http://www.w3.org/2000/svg" viewBox="0 0 {WIDTH} {height}" width="{WIDTH}" height="{height}" '
            'role="img" aria-labelledby="t d" font-family="Helvetica, Arial, sans-serif" font-size="12">')
     yield '<title id="t">The layers of crates</title>'
