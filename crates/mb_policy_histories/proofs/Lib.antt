@@ -1,0 +1,2 @@
+pub mod TrustLemmas
+pub mod ShorteningLemmas
