@@ -47,9 +47,16 @@ impl Faults {
             (λ _. self.new ≡ raised_count self.old) }
     {
         if let Err(error) = given {
-            self.count = raised(self.count);
-            self.last = Some(*error);
+            self.count(*error);
         }
+    }
+
+    // Counts an error.
+    pub(crate) fn count(&mut self, error: io::Error)
+        ensures { self.new ≡ raised_count self.old }
+    {
+        self.count = raised(self.count);
+        self.last = Some(error);
     }
 }
 

@@ -1,6 +1,6 @@
 //! The files that were read: each stays open and locked, so that no other process replaces it meanwhile.
 
-use crate::identity::{Identity, stands_at};
+use crate::identity::{Identity, standing_at, stands_at};
 use crate::obstacle::Obstacle;
 use crate::system::System;
 use std::alloc::Global;
@@ -107,21 +107,20 @@ impl KeptFiles {
         Ok(true)
     }
 
-    // Locks the file that stands at this path for this process alone, if it was read. An error if it is not the one
+    // Locks the file that was found by this name for this process alone, if it was read. An error if it is not the one
     // that was read, if another process keeps it too, if it has a second name, or if there are no locks.
     pub(crate) fn claim<R: System>(
         &self,
         runtime: &R,
         name: &str,
-        path: &str,
         found: &Metadata,
     ) -> io::Result<()> {
         let identity = Identity::of(found);
-        if self.leads_elsewhere(name, path, identity) {
+        if self.was_read_as_another(name, identity) {
             return Err(Obstacle::Replaced.into());
         }
         let Some(kept) = self.files.iter().find(|kept| kept.identity == identity) else {
-            return Ok(());
+            return self.refuse_a_place_taken(runtime, identity);
         };
         if found.nlink() > 1 {
             return Err(Obstacle::SecondName.into());
@@ -145,20 +144,25 @@ impl KeptFiles {
         self.files.iter().any(|kept| kept.identity == identity)
     }
 
-    // Whether the last file that was read by this name, or from this path, is another than this one.
-    fn leads_elsewhere(&self, name: &str, path: &str, identity: Identity) -> bool {
-        let by_name = self
+    // Whether the last file that was read by this name is another than this one.
+    fn was_read_as_another(&self, name: &str, identity: Identity) -> bool {
+        let last = self
             .names
             .iter()
             .rev()
             .find(|read| read.name.as_str() == name);
-        let by_path = self
-            .files
-            .iter()
-            .rev()
-            .find(|kept| kept.path.as_str() == path);
-        by_name.is_some_and(|read| read.identity != identity)
-            || by_path.is_some_and(|kept| kept.identity != identity)
+        last.is_some_and(|read| read.identity != identity)
+    }
+
+    // An error if this file, which was not read, stands at a path from which one was read.
+    fn refuse_a_place_taken<R: System>(&self, runtime: &R, identity: Identity) -> io::Result<()> {
+        for kept in &self.files {
+            let standing = standing_at(runtime, kept.path.as_str())?;
+            if standing.is_some_and(|found| Identity::of(&found) == identity) {
+                return Err(Obstacle::Replaced.into());
+            }
+        }
+        Ok(())
     }
 }
 

@@ -12,6 +12,7 @@ mod kept;
 mod obstacle;
 mod opened;
 mod output;
+mod path_text;
 mod real;
 mod replacement;
 mod system;

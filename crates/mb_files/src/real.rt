@@ -5,6 +5,7 @@ ghost use Rattle.mb_files.specs.Real.{untold};
 
 use crate::kept::KeptFiles;
 use crate::output::Output;
+use crate::path_text::path_of;
 use crate::system::System;
 use crate::told::tell;
 use crate::whole::{ReadCounts, WriteCounts};
@@ -14,13 +15,16 @@ use std::io;
 
 /// The files and the standard output of a runtime. Contracts see its counts alone, and none of its contents.
 ///
-/// What the system says of each read, write and print that fails is told on standard error, on one line.
+/// What the system says of each read and write that fails, and of the first print, is told on standard error, on one
+/// line.
 #[derive(Drop)]
 pub struct RealHost<'a, R> {
     runtime: &'a R,
     kept: KeptFiles,
     reads: ReadCounts,
     writes: WriteCounts,
+    // Whether it was told that printing failed.
+    is_print_told: bool,
 }
 
 impl<'a, R: System> RealHost<'a, R> {
@@ -42,6 +46,7 @@ impl<'a, R: System> RealHost<'a, R> {
             kept: KeptFiles::none(runtime.alloc()),
             reads: ReadCounts::none(),
             writes: WriteCounts::none(),
+            is_print_told: false,
         }
     }
 
@@ -67,9 +72,13 @@ impl<'a, R: System> Host for RealHost<'a, R> {
     }
 
     fn write(&mut self, name: &str, bytes: &[u8]) -> Result<(), HostFailed> {
-        let mut opened = Output::open(self.runtime, &self.kept, name);
+        let path = path_of(self.runtime, name);
+        let mut opened = match &path {
+            Ok(path) => Output::open(self.runtime, &self.kept, name, path.as_str()),
+            Err(error) => Err(*error),
+        };
         let result = self.writes.write(&mut opened, bytes);
-        if let Ok(output) = opened {
+        if let Ok(output) = &opened {
             output.end();
         }
         self.tell_write(name, result);
@@ -78,7 +87,10 @@ impl<'a, R: System> Host for RealHost<'a, R> {
 
     fn print(&mut self, bytes: &[u8]) -> Result<(), HostFailed> {
         let result = self.writes.print(&mut io::writer(self.runtime), bytes);
-        self.tell_write("standard output", result);
+        if result.is_err() && !self.is_print_told {
+            self.is_print_told = true;
+            self.tell_write("standard output", result);
+        }
         result
     }
 }

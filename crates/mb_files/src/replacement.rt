@@ -6,6 +6,7 @@
 use crate::identity::{Identity, standing_at, stands_at};
 use crate::obstacle::Obstacle;
 use crate::opened::{create, open_to_write};
+use crate::path_text::draft_of;
 use crate::system::System;
 use std::fs::{File, Metadata, Permissions, TryLockError};
 use std::os::unix::fs::{MetadataExt, PermissionsExt, fchown};
@@ -14,28 +15,22 @@ use std::{fs, io};
 
 /// A new file, locked for this process alone.
 #[derive(Drop)]
-pub(crate) struct Replacement<'a, R> {
+pub(crate) struct Replacement<'a, 'b, R> {
     runtime: &'a R,
     pub(crate) file: File,
-    // Where the new file is written.
-    draft: String,
     // The place that it takes, and which file stands there now.
-    place: String,
+    place: &'b str,
     replaced: Option<Identity>,
     is_placed: bool,
 }
 
-impl<'a, R: System> Replacement<'a, R> {
+impl<'a, 'b, R: System> Replacement<'a, 'b, R> {
     // A new file at a path where nothing stands. Only its owner may read and write it.
-    pub(crate) fn of_nothing(runtime: &'a R, path: &str) -> io::Result<Replacement<'a, R>> {
-        let draft = format!(in runtime.alloc(); "{path}.miniboot-new")?;
-        let place = String::from_str(runtime.alloc(), path)?;
-        let file = create_locked(runtime, draft.as_str())?;
+    pub(crate) fn of_nothing(runtime: &'a R, path: &'b str) -> io::Result<Replacement<'a, 'b, R>> {
         Ok(Replacement {
             runtime,
-            file,
-            draft,
-            place,
+            file: create_locked(runtime, draft_of(path)?.as_str())?,
+            place: path,
             replaced: None,
             is_placed: false,
         })
@@ -44,9 +39,9 @@ impl<'a, R: System> Replacement<'a, R> {
     // A new file with the owner, the group and the mode of the file that it replaces.
     pub(crate) fn of(
         runtime: &'a R,
-        path: &str,
+        path: &'b str,
         found: &Metadata,
-    ) -> io::Result<Replacement<'a, R>> {
+    ) -> io::Result<Replacement<'a, 'b, R>> {
         let mut replacement = Replacement::of_nothing(runtime, path)?;
         replacement.replaced = Some(Identity::of(found));
         match copy_access(found, &replacement.file) {
@@ -62,26 +57,29 @@ impl<'a, R: System> Replacement<'a, R> {
     // after.
     pub(crate) fn place(&mut self) -> io::Result<()> {
         self.file.sync_all()?;
-        let folder = File::open(self.runtime, folder_of(self.place.as_str()))?;
+        let folder = File::open(self.runtime, folder_of(self.place))?;
         if !self.is_place_as_found()? {
             return Err(Obstacle::Replaced.into());
         }
-        fs::rename(self.runtime, self.draft.as_str(), self.place.as_str())?;
+        fs::rename(self.runtime, draft_of(self.place)?.as_str(), self.place)?;
         self.is_placed = true;
         folder.sync_all()
     }
 
     // Removes the new file if it did not take its place.
-    pub(crate) fn remove_unless_placed(self) {
+    pub(crate) fn remove_unless_placed(&self) {
         if !self.is_placed {
             // (if this fails, the next command that writes here removes it)
-            let _ = fs::remove_file(self.runtime, self.draft.as_str());
+            let _ = draft_of(self.place).and_then(|draft| fs::remove_file(
+                self.runtime,
+                draft.as_str(),
+            ));
         }
     }
 
     // Whether the file that is to be replaced, or none, still stands at the place.
     fn is_place_as_found(&self) -> io::Result<bool> {
-        let standing = standing_at(self.runtime, self.place.as_str())?;
+        let standing = standing_at(self.runtime, self.place)?;
         Ok(standing.map(|found| Identity::of(&found)) == self.replaced)
     }
 }

@@ -1,6 +1,7 @@
 //! Whole reads and writes over any source and any sink: their results, and how they are counted.
 
-ghost use Rattle.std.specs.Prelude.{◌≡◌, ℕ, ◌<◌, ◌≤◌, IfOk, IfSome, IsErr, IsErrOf, OnErr, OnOk, length, take, vec_len};
+ghost use Rattle.std.specs.Prelude.{◌≡◌, ◌≢◌, ℕ, ◌<◌, ◌≤◌, IfErr, IfOk, IfSome, IsErr, IsErrOf, OnErr, OnOk, length, take, vec_len};
+ghost use Rattle.std.specs.IoError.{error_kind};
 ghost use Rattle.std.specs.Io.KnownBytes.{Appends, Consumes, IsAtEnd};
 ghost use Rattle.mb_model.specs.declared.limits.TheConstants.{FILE_LIMIT};
 ghost use Rattle.mb_model.specs.Outside.{count_after_call as raised_count};
@@ -11,6 +12,7 @@ use mb_host::{HostEnd, HostFailed, raised};
 use mb_model::FILE_LIMIT;
 use std::alloc::Global;
 use std::io;
+use std::io::ErrorKind;
 
 // The most bytes of one read.
 const PIECE_LENGTH: usize = 65_536;
@@ -44,7 +46,10 @@ impl ReadCounts {
         alloc: Global,
         opened: io::Result<S>,
     ) -> Result<Vec<u8>, HostEnd>
-        ensures unopened { OnErr opened (IsErrOf result HostEnd.Failed) }
+        ensures unopened { IfErr opened (λ error. error_kind error ≢ ErrorKind.OutOfMemory
+            → IsErrOf result HostEnd.Failed) }
+        ensures no_memory { IfErr opened (λ error. error_kind error ≡ ErrorKind.OutOfMemory
+            → IsErrOf result HostEnd.NoMemory) }
         ensures whole { IfOk opened (λ source. IfSome (S.left source) (λ all.
             IfOk result (λ bytes. bytes.items ≡ all))) }
         ensures short { IfOk result (λ bytes. vec_len bytes ≤ FILE_LIMIT) }
@@ -59,9 +64,14 @@ impl ReadCounts {
             self.new ≡ record { calls = raised_count self.old.calls; faults = self.old.faults } }
     {
         self.calls = raised(self.calls);
-        self.faults.note(&opened);
-        let mut source = opened.map_err(|_| HostEnd::Failed)?;
-        read_whole(&mut source, &mut self.faults, alloc)
+        match opened {
+            Ok(mut source) => read_whole(&mut source, &mut self.faults, alloc),
+            Err(error) if matches!(error.kind(), ErrorKind::OutOfMemory) => Err(HostEnd::NoMemory),
+            Err(error) => {
+                self.faults.count(error);
+                Err(HostEnd::Failed)
+            }
+        }
     }
 }
 
