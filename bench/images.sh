@@ -9,7 +9,7 @@ set -euo pipefail
 export LC_ALL=C
 cd "$(dirname "${BASH_SOURCE[0]}")/.."
 . bench/program.sh
-program image mb_host mb_image mb_lms mb_model sha2 hex
+program image mb_files mb_host mb_image mb_lms mb_model sha2 hex
 
 failed=0
 for kind in new 'pending entry' 'pending succession' 'pending renewal' 'pending last' 'pending add' 'pending short' full \
