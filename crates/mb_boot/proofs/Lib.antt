@@ -1,3 +1,4 @@
 pub mod Completed
 pub mod Settled
 pub mod Booted
+pub mod Signers

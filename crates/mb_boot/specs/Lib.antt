@@ -1,3 +1,4 @@
 pub mod Completions
 pub mod Settling
 pub mod Booting
+pub mod Signers

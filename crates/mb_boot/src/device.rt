@@ -4,13 +4,16 @@ ghost use Rattle.std.specs.Prelude.{◌≡◌, ◌+◌, ◌≤◌, ◌==◌, OnO
 ghost use Rattle.std.specs.Option.{is_none};
 ghost use Rattle.mb_model.specs.declared.state.State.{State};
 ghost use Rattle.mb_model.specs.Memory.{life_byte, inactive_area_of_slot};
-ghost use Rattle.mb_model.specs.Meaning.{StandsFor};
+ghost use Rattle.mb_model.specs.declared.stored.Root.{Root};
+ghost use Rattle.mb_model.specs.Meaning.{RootIn, StandsFor};
 ghost use Rattle.mb_board.specs.Calls.{IsPowered, IsUp, Ran, KeepsEvents, RanOnBbram, IsSwitched};
 ghost use Rattle.mb_model.specs.Spared.{SparesSectors};
 ghost use Rattle.mb_model_memory.specs.Holding.{KeepsContents, KeepsMeaning};
 ghost use Rattle.mb_boot.specs.Settling.{IsLive, IsLiveBoard};
 ghost use Rattle.mb_boot.specs.Booting.{IsFoundAs, Rests, IsWiped, Cleans, IsQuiet, StandsForValid, KeepsState, IfUnwritten, stop_of, power_at, HasLevel, is_zeroised};
-ghost use Rattle.mb_lms.specs.declared.hash_count.TheConstants.{SIGNING_HASHES};
+ghost use Rattle.mb_boot.specs.Signers.{HasSigners, DeviceKeySigns};
+ghost use Rattle.mb_signer.specs.Benches.{HasTree};
+ghost use Rattle.mb_lms.specs.declared.hash_count.TheConstants.{LEAF_HASHES, SIGNING_HASHES};
 
 use crate::work::settle;
 use mb_area::{Looked, Unsettled, look, wipe_root};
@@ -132,7 +135,8 @@ fn come_up<B: Board, L: Ledger>(
 
 /// Does the pending work of a committed order, and wipes what it replaced. The entries are signed by the trees on the
 /// bench; one that is not there is built. The memory has to mean a state that a device can have. It means the same
-/// state wherever power fails, and afterwards it is clean. There are at most 15 write calls, and 70,946 hashes.
+/// state wherever power fails, and afterwards it is clean. There are at most 15 write calls, and 70,946 hashes; 2,148 if
+/// the trees of the keys that sign are on the bench. The tree of a device key that signs is there afterwards.
 #[tactic(auto, using(crate::proofs::Booted::settled_rests, crate::proofs::Booted::cleaned, mb_model_memory::proofs::HoldingLemmas::contents_keep, mb_model_memory::proofs::HoldingLemmas::keeps_then, crate::proofs::Settled::spared_then))]
 pub fn finish_order<B: Board, L: Ledger>(
     u: Unsettled,
@@ -147,7 +151,12 @@ pub fn finish_order<B: Board, L: Ledger>(
     ensures meaning { KeepsMeaning (B.seen b.old).memory (B.seen b.new).memory }
     ensures spared { SparesSectors (B.seen b.old).memory (B.seen b.new).memory }
     ensures ran { Ran 15 result (B.seen b.old) (B.seen b.new) }
+    ensures kept { (root : Root) → RootIn (B.seen b.old).memory.bbram root
+        → DeviceKeySigns (B.seen b.old).memory.flash root
+        → OnOk result (HasTree bench.new root.device) }
     ensures cost { hashes.new ≤ hashes.old + 2 * SIGNING_HASHES }
+    ensures again { (root : Root) → RootIn (B.seen b.old).memory.bbram root
+        → HasSigners bench.old root → hashes.new ≤ hashes.old + 2 * LEAF_HASHES }
 {
     let w = settle(u, b, room, bench, hashes)?;
     let up = wipe_root(w, b)?;

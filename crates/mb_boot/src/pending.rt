@@ -1,6 +1,6 @@
 //! Unsigned entries, signed for their sectors of the log, and the header that counts them as signed.
 
-ghost use Rattle.std.specs.Prelude.{◌≡◌, ◌+◌, ◌-◌, ◌*◌, ◌≤◌, ◌∷◌, IfSome, length, vec_len, vec_capacity};
+ghost use Rattle.std.specs.Prelude.{◌≡◌, ◌+◌, ◌-◌, ◌*◌, ◌≤◌, ◌∷◌, IfSome, IsSome, length, vec_len, vec_capacity};
 ghost use Rattle.std.specs.Option.{option_copied};
 ghost use Rattle.mb_format.specs.Format.{Spells};
 ghost use Rattle.mb_model.specs.declared.limits.TheConstants.{ENTRY_LIMIT, ENTRY_TEXT_LIMIT, KEY_USES, LAST_INDEX, SECTOR_LENGTH, SIGNATURE_LENGTH};
@@ -14,7 +14,9 @@ ghost use Rattle.mb_model_memory.specs.NextHeaders.{header_settled};
 ghost use Rattle.mb_segments.specs.Uncopied.{header_of};
 ghost use Rattle.mb_area.specs.Flashes.{IsPlan};
 ghost use Rattle.mb_boot.specs.Completions.{BeginsWithHeader, signer_of, text_at_place, count_of, unsigned_count, IsSignedSector, SignsTextAt};
-ghost use Rattle.mb_lms.specs.declared.hash_count.TheConstants.{SIGNING_HASHES};
+ghost use Rattle.mb_boot.specs.Signers.{HasSigner};
+ghost use Rattle.mb_signer.specs.Benches.{HasTree, KeepsTrees};
+ghost use Rattle.mb_lms.specs.declared.hash_count.TheConstants.{LEAF_HASHES, SIGNING_HASHES};
 
 use mb_layout::Room;
 use mb_lms::HashCount;
@@ -156,7 +158,10 @@ fn sign_entry<L: Ledger>(
 )
     requires { index ≤ LAST_INDEX }
     ensures signature { signature.new ≡ signature_of key.now index (ENTRY_TEXT ∷ entry.now) }
+    ensures kept { HasTree bench.new key.now }
+    ensures beside { HasTree bench.old key.now → KeepsTrees bench.old bench.new }
     ensures cost { hashes.new ≤ hashes.old + SIGNING_HASHES }
+    ensures again { HasTree bench.old key.now → hashes.new ≤ hashes.old + LEAF_HASHES }
 {
     let mut uses = Uses::stored(index);
     let Some(right) = take_index(&mut uses) else {
@@ -178,7 +183,10 @@ fn sign_text<L: Ledger>(
     requires room { SECTOR_LENGTH ≤ vec_capacity log.old }
     ensures signed { IsSignedSector signer.now text.now log.new.items }
     ensures room { SECTOR_LENGTH ≤ vec_capacity log.new }
+    ensures kept { HasTree bench.new signer.now.key }
+    ensures beside { HasTree bench.old signer.now.key → KeepsTrees bench.old bench.new }
     ensures cost { hashes.new ≤ hashes.old + SIGNING_HASHES }
+    ensures again { HasTree bench.old signer.now.key → hashes.new ≤ hashes.old + LEAF_HASHES }
 {
     let mut signature = [0; SIGNATURE_LENGTH];
     sign_entry(
@@ -210,7 +218,11 @@ pub(crate) fn sign_next<L: Ledger>(
     requires header { BeginsWithHeader room.old.header.items }
     ensures signed { SignsTextAt root.now place room.old.header.items result room.new.log.items }
     ensures header { room.new.header ≡ room.old.header }
+    ensures kept { (header : Header) → BeginsAs header_format room.old.header.items header
+        → IsSome (text_at_place header place) → HasSigner bench.new root.now place }
+    ensures beside { HasSigner bench.old root.now place → KeepsTrees bench.old bench.new }
     ensures cost { hashes.new ≤ hashes.old + SIGNING_HASHES }
+    ensures again { HasSigner bench.old root.now place → hashes.new ≤ hashes.old + LEAF_HASHES }
 {
     let header = held_header(room.header.as_slice());
     let Some(text) = text_in(header, place) else {

@@ -1,14 +1,20 @@
 //! The pending work of an order.
 
-ghost use Rattle.std.specs.Prelude.{◌≡◌, ◌≤◌, ◌+◌, OnOk, ◌*◌};
-ghost use Rattle.mb_model.specs.Flash.{sector};
+ghost use Rattle.std.specs.Prelude.{◌≡◌, ◌≤◌, ◌+◌, IsSome, OnOk, ◌*◌};
+ghost use Rattle.mb_model.specs.declared.stored.Header.{Header};
+ghost use Rattle.mb_model.specs.declared.stored.Root.{Root};
+ghost use Rattle.mb_model.specs.Flash.{sector, HoldsHeader};
+ghost use Rattle.mb_model.specs.Meaning.{RootIn};
 ghost use Rattle.mb_model.specs.Sectors.{header_sector};
 ghost use Rattle.mb_board.specs.Calls.{Ran, RanOnBbram, RanOnFlash};
 ghost use Rattle.mb_model.specs.Spared.{SparesSectors};
 ghost use Rattle.mb_model_memory.specs.FlashInForce.{AgreeForArea};
 ghost use Rattle.mb_model_memory.specs.Holding.{KeepsContents, KeepsMeaning};
 ghost use Rattle.mb_boot.specs.Settling.{IsLiveBoard, IsLiveWith, IsOnlyRoot, AppliesBoth, AddsToLog, CompletesLog, CountsLog, SignsRecord, Settles};
-ghost use Rattle.mb_lms.specs.declared.hash_count.TheConstants.{SIGNING_HASHES};
+ghost use Rattle.mb_boot.specs.Completions.{text_at_place};
+ghost use Rattle.mb_boot.specs.Signers.{HasSigner, HasSigners, DeviceKeySigns};
+ghost use Rattle.mb_signer.specs.Benches.{HasTree, KeepsTrees};
+ghost use Rattle.mb_lms.specs.declared.hash_count.TheConstants.{LEAF_HASHES, SIGNING_HASHES};
 
 use crate::pending::{settle_header, sign_next};
 use mb_area::{Unsettled, Unwiped, finish_root, read_header, read_root, write_log, write_public};
@@ -62,7 +68,12 @@ fn write_entry<B: Board, L: Ledger>(
     ensures added { OnOk result (AddsToLog place (B.seen b.old).memory (B.seen b.new).memory) }
     ensures header { room.new.header ≡ room.old.header }
     ensures ran { RanOnFlash 2 result (B.seen b.old) (B.seen b.new) }
+    ensures kept { (header : Header)
+        → HoldsHeader (B.seen b.old).memory.flash root.now.area header
+        → IsSome (text_at_place header place) → HasSigner bench.new root.now place }
+    ensures beside { HasSigner bench.old root.now place → KeepsTrees bench.old bench.new }
     ensures cost { hashes.new ≤ hashes.old + SIGNING_HASHES }
+    ensures again { HasSigner bench.old root.now place → hashes.new ≤ hashes.old + LEAF_HASHES }
 {
     let Some(position) = sign_next(root, place, room, bench, hashes) else {
         return Ok(u);
@@ -89,7 +100,10 @@ fn write_entries<B: Board, L: Ledger>(
     ensures header { room.new.header.items
         ≡ sector (B.seen b.new).memory.flash (header_sector root.now.area) }
     ensures ran { RanOnFlash 4 result (B.seen b.old) (B.seen b.new) }
+    ensures kept { DeviceKeySigns (B.seen b.old).memory.flash root.now
+        → OnOk result (HasTree bench.new root.now.device) }
     ensures cost { hashes.new ≤ hashes.old + 2 * SIGNING_HASHES }
+    ensures again { HasSigners bench.old root.now → hashes.new ≤ hashes.old + 2 * LEAF_HASHES }
 {
     read_header(b, root.area, room);
     let u = write_entry(u, b, root, 0, room, bench, hashes)?;
@@ -135,7 +149,10 @@ fn write_signed<B: Board, L: Ledger>(
         root.now.area }
     ensures signed { OnOk result (SignsRecord (B.seen b.old).memory (B.seen b.new).memory) }
     ensures ran { RanOnFlash 6 result (B.seen b.old) (B.seen b.new) }
+    ensures kept { DeviceKeySigns (B.seen b.old).memory.flash root.now
+        → OnOk result (HasTree bench.new root.now.device) }
     ensures cost { hashes.new ≤ hashes.old + 2 * SIGNING_HASHES }
+    ensures again { HasSigners bench.old root.now → hashes.new ≤ hashes.old + 2 * LEAF_HASHES }
 {
     let u = write_entries(u, b, root, room, bench, hashes)?;
     let u = write_settled(u, b, root, room)?;
@@ -159,7 +176,12 @@ pub(crate) fn settle<B: Board, L: Ledger>(
     ensures meaning { KeepsMeaning (B.seen b.old).memory (B.seen b.new).memory }
     ensures spared { SparesSectors (B.seen b.old).memory (B.seen b.new).memory }
     ensures ran { Ran 12 result (B.seen b.old) (B.seen b.new) }
+    ensures kept { (root : Root) → RootIn (B.seen b.old).memory.bbram root
+        → DeviceKeySigns (B.seen b.old).memory.flash root
+        → OnOk result (HasTree bench.new root.device) }
     ensures cost { hashes.new ≤ hashes.old + 2 * SIGNING_HASHES }
+    ensures again { (root : Root) → RootIn (B.seen b.old).memory.bbram root
+        → HasSigners bench.old root → hashes.new ≤ hashes.old + 2 * LEAF_HASHES }
 {
     let root = read_root(b, room);
     let u = apply_fates(u, b, &root, room)?;

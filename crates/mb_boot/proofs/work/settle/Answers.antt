@@ -1,5 +1,10 @@
+use Rattle.std.proofs.Common.{sym, subst}
+use Rattle.mb_model.specs.declared.stored.Root.{Root}
+use Rattle.mb_signer.specs.Benches.{HasTree}
+use Rattle.mb_boot.specs.Signers.{HasSigners}
 use Rattle.mb_boot.proofs.Settled.{live_with, only_root, finish_keeps, spared_by_writes, spared_then}
 use Rattle.mb_model_memory.proofs.HoldingLemmas.{keeps_then, contents_keep}
+use Rattle.mb_boot.proofs.Signers.{same_signs}
 use Rattle.mb_boot.proofs.work.settle.Goals as goal
 
 pub apply_fates-requires : goal.apply_fates-requires
@@ -54,3 +59,18 @@ returns-clause-spared g c =
     (spared_by_writes first (g.B.Board.seen c.apply_fates.new.b).memory written c.read_root-root.result
     (only_root first.bbram c.read_root-root.result c.read_root-root.ensures.holds c.read_root-root.ensures.root) c.apply_fates.ensures.ran.flash c.write_signed.ensures.agree)
     c.finish_root.ensures.ran.flash
+
+pub returns-clause-kept : goal.returns-clause-kept
+returns-clause-kept g c = λ root holds signs.
+    let same = c.read_root-root.ensures.root root holds in
+    subst (λ (r : Root). HasTree c.write_signed.new.bench r.device) (sym same)
+    (c.in_ok-u-2.ensures.kept (same_signs (g.B.Board.seen c.args.b.now).memory.flash (g.B.Board.seen c.apply_fates.new.b).memory.flash root c.read_root-root.result c.apply_fates.ensures.ran.flash same signs))
+
+pub returns-in_err-u-2-clause-again : goal.returns-in_err-u-2-clause-again
+returns-in_err-u-2-clause-again g c = λ root holds has. c.write_signed.ensures.again (subst (HasSigners c.args.bench.now) (c.read_root-root.ensures.root root holds) has)
+
+pub returns-in_err-w-clause-again : goal.returns-in_err-w-clause-again
+returns-in_err-w-clause-again g c = λ root holds has. c.write_signed.ensures.again (subst (HasSigners c.args.bench.now) (c.read_root-root.ensures.root root holds) has)
+
+pub returns-clause-again : goal.returns-clause-again
+returns-clause-again g c = λ root holds has. c.write_signed.ensures.again (subst (HasSigners c.args.bench.now) (c.read_root-root.ensures.root root holds) has)
