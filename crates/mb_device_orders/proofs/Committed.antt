@@ -144,7 +144,7 @@ live_committed before between after root room has done = record {
   valid = obeyed_valid has.state has.order has.draw has.commit.ready.valid has.commit.allowed has.commit.passes;
 }
 
-root_committed : (before between after : Memory) (root : Root) (room : Room) (state : State) (order : Order) (draw : List ℕ) → IsCommit before root room state order draw → IsCommitted before between after root room → RootIn after.bbram root
+pub root_committed : (before between after : Memory) (root : Root) (room : Room) (state : State) (order : Order) (draw : List ℕ) → IsCommit before root room state order draw → IsCommitted before between after root room → RootIn after.bbram root
 unfolding committed
 root_committed before between after root room state order draw is done =
     subst (RootIn after.bbram) (sym is.root_is) (holds_committed before between after root room state order draw is done.sized done.kept done.written done.commits).root

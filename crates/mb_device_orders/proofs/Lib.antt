@@ -6,3 +6,4 @@ mod Headers
 mod Planned
 mod Committed
 mod Answered
+pub mod KeptTrees

@@ -1,14 +1,17 @@
 //! The commit of an order.
 
-ghost use Rattle.std.specs.Prelude.{◌≡◌, ℕ, ◌≤◌, ◌+◌, ◌⊎◌, List, OnOk, ◌*◌};
+ghost use Rattle.std.specs.Prelude.{◌≡◌, ℕ, ◌≤◌, ◌+◌, ◌⊎◌, List, None, OnOk, ◌*◌};
 ghost use Rattle.mb_model.specs.declared.order.Order.{Order};
 ghost use Rattle.mb_model.specs.declared.state.State.{State};
 ghost use Rattle.mb_model.specs.OrderEffects.{state_after_order};
+ghost use Rattle.mb_model.specs.StoredLog.{outgoing_of};
 ghost use Rattle.mb_board.specs.Calls.{IsUp, Ran};
 ghost use Rattle.mb_model.specs.Spared.{SparesSectors};
 ghost use Rattle.mb_model_memory.specs.Holding.{Means, IsReady};
 ghost use Rattle.mb_device_orders.specs.Planning.{IsCommit, HasCommit};
-ghost use Rattle.mb_lms.specs.declared.hash_count.TheConstants.{SIGNING_HASHES};
+ghost use Rattle.mb_boot.specs.Signers.{HasSigners};
+ghost use Rattle.mb_signer.specs.Benches.{HasTree};
+ghost use Rattle.mb_lms.specs.declared.hash_count.TheConstants.{LEAF_HASHES, SIGNING_HASHES};
 
 use mb_area::{commit_root, write_public};
 use mb_board::Board;
@@ -44,7 +47,9 @@ pub fn commit<B: Board, L: Ledger>(
         ⊎ Means (B.seen b.new).memory (state_after_order state order draw) }
     ensures spared { SparesSectors (B.seen b.old).memory (B.seen b.new).memory }
     ensures ran { Ran 35 result (B.seen b.old) (B.seen b.new) }
+    ensures kept { outgoing_of root.now.pending ≡ None → OnOk result (HasTree bench.new root.now.device) }
     ensures cost { hashes.new ≤ hashes.old + 2 * SIGNING_HASHES }
+    ensures again { HasSigners bench.old root.now → hashes.new ≤ hashes.old + 2 * LEAF_HASHES }
 {
     let up = write_public(up, b, room)?;
     let unsettled = commit_root(up, b, root, room)?;

@@ -1,8 +1,9 @@
 //! How the bytes of an order are read and judged.
 
-ghost use Rattle.std.specs.Prelude.{◌≡◌, ◌≤◌, ◌+◌, IfOk, ◌*◌};
+ghost use Rattle.std.specs.Prelude.{◌≡◌, ◌≤◌, ◌+◌, false, IfOk, IfErr, ◌*◌};
 ghost use Rattle.mb_format.specs.Format.{IsBytes};
 ghost use Rattle.mb_model.specs.declared.state.State.{State};
+ghost use Rattle.mb_model.specs.Listing.{is_done};
 ghost use Rattle.mb_model.specs.OrderChecks.{view_of};
 ghost use Rattle.mb_log.specs.Additions.{IsInRange};
 ghost use Rattle.mb_orders.specs.Judging.{refusal_of};
@@ -102,6 +103,7 @@ pub fn judge_text<B: Board, L: Ledger>(
     requires remembered { IsRemembered known.now (B.seen b.now).memory }
     ensures judged { (state : State) → IsReady (B.seen b.now).memory state → Knows known.now state
         → JudgesText state text.now draw.now result }
+    ensures undone { IfErr result (λ answer. is_done answer ≡ false) }
     ensures root { IfOk result (λ judged. IsOnlyRoot (B.seen b.now).memory.bbram judged.root) }
     ensures cost { hashes.new ≤ hashes.old + 2 * TREE_HASHES }
 {

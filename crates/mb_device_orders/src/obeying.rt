@@ -1,15 +1,16 @@
 //! How an order is answered.
 
-ghost use Rattle.std.specs.Prelude.{◌≡◌, ◌≤◌, ◌+◌, ◌*◌};
+ghost use Rattle.std.specs.Prelude.{◌≡◌, ◌≤◌, ◌+◌, ◌*◌, true, IfOk, IsSome};
 ghost use Rattle.mb_format.specs.Format.{IsBytes};
 ghost use Rattle.mb_model.specs.declared.state.State.{State};
+ghost use Rattle.mb_model.specs.Listing.{is_done};
 ghost use Rattle.mb_board.specs.Calls.{IsUp, Ran};
 ghost use Rattle.mb_model.specs.Spared.{SparesSectors};
 ghost use Rattle.mb_model_memory.specs.Holding.{IsReady};
 ghost use Rattle.mb_model_memory.specs.Answering.{TellsOfWrites};
 ghost use Rattle.mb_device_orders.specs.Remembering.{Knows, IsRemembered};
-ghost use Rattle.mb_device_orders.specs.Obeying.{Obeys, LeavesKnown};
-ghost use Rattle.mb_lms.specs.declared.hash_count.TheConstants.{SIGNING_HASHES, TREE_HASHES};
+ghost use Rattle.mb_device_orders.specs.Obeying.{Obeys, LeavesKnown, LeavesDeviceKey};
+ghost use Rattle.mb_lms.specs.declared.hash_count.TheConstants.{LEAF_HASHES, SIGNING_HASHES, TREE_HASHES};
 
 use crate::committing::commit;
 use crate::judging::judge_text;
@@ -51,11 +52,17 @@ pub fn obey<B: Board, L: Ledger>(
         → Obeys state text.now draw.now known.new (B.seen b.old).memory (B.seen b.new).memory
         result }
     ensures stays { LeavesKnown result known.old known.new }
+    ensures keeps { (state : State) → IsReady (B.seen b.old).memory state → Knows known.old state
+        → LeavesDeviceKey state text.now
+        → IfOk result (λ told. is_done told.1 ≡ true → IsSome known.new.trees.value.device) }
     ensures writes { TellsOfWrites result (B.seen b.old).memory (B.seen b.new).memory
         (B.seen b.old).meter (B.seen b.new).meter }
     ensures spared { SparesSectors (B.seen b.old).memory (B.seen b.new).memory }
     ensures ran { Ran 35 result (B.seen b.old) (B.seen b.new) }
     ensures cost { hashes.new ≤ hashes.old + 2 * TREE_HASHES + 2 * SIGNING_HASHES }
+    ensures again { (state : State) → IsReady (B.seen b.old).memory state → Knows known.old state
+        → LeavesDeviceKey state text.now → IsSome known.old.trees.value.device
+        → hashes.new ≤ hashes.old + 2 * TREE_HASHES + 2 * LEAF_HASHES }
 {
     let mut bench = Bench::new();
     let judged = match judge_text(alloc, &up, b, known, text, draw, &mut bench, room, hashes) {

@@ -1,6 +1,6 @@
 //! What a device remembers of its state.
 
-ghost use Rattle.std.specs.Prelude.{◌≡◌, ◌≤◌, ◌<◌, List, length, IfSome, None, Some};
+ghost use Rattle.std.specs.Prelude.{◌≡◌, ◌≤◌, ◌<◌, List, length, IfSome, IsSome, None, Some};
 ghost use Rattle.mb_model.specs.declared.limits.TheConstants.{ENTRY_LIMIT, FILE_LIMIT};
 ghost use Rattle.mb_model.specs.declared.entry.SignedEntry.{SignedEntry};
 ghost use Rattle.mb_model.specs.declared.state.State.{State};
@@ -11,6 +11,7 @@ ghost use Rattle.mb_model.specs.Log.{figures_of, entries_of};
 ghost use Rattle.mb_model.specs.Sectors.{log_sector, BeginsAs};
 ghost use Rattle.mb_board.specs.Calls.{IsPowered, IsUp};
 ghost use Rattle.mb_model_memory.specs.Holding.{IsReady, HasReady};
+ghost use Rattle.mb_signer.specs.Benches.{HasTree};
 ghost use Rattle.mb_signer.specs.Tree.{IsTreeOf};
 ghost use Rattle.mb_device_orders.specs.Remembering.{Knows};
 
@@ -63,7 +64,9 @@ impl Known {
     /// Moves the tree of the device key to the bench, if one is kept.
     pub(crate) fn lend(&mut self, device: &KeySeed, bench: &mut Bench)
         requires { IfSome self.old.trees.value.device (λ tree. IsTreeOf device.now tree) }
-        ensures { self.new.serial ≡ self.old.serial }
+        ensures serial { self.new.serial ≡ self.old.serial }
+        ensures figures { self.new.figures ≡ self.old.figures }
+        ensures lent { IsSome self.old.trees.value.device → HasTree bench.new device.now }
     {
         if let Some(tree) = self.trees.device.take() {
             bench.put(device, tree);

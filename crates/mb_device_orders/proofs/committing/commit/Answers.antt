@@ -1,6 +1,7 @@
 use Rattle.std.proofs.Common.{inl, inr, refl, arith}
 use Rattle.std.proofs.lemmas.Result.{err_from_is_err_and}
-use Rattle.mb_device_orders.proofs.Committed.{plan_is, root_allowed, live_committed, means_old, means_either, means_committed, ready_committed, spared_before, spared_after, few_sectors, ran_then, ok_most, err_most}
+use Rattle.mb_device_orders.proofs.Committed.{IsCommitted, root_committed, plan_is, root_allowed, live_committed, means_old, means_either, means_committed, ready_committed, spared_before, spared_after, few_sectors, ran_then, ok_most, err_most}
+use Rattle.mb_device_orders.proofs.KeptTrees.{device_key_signs}
 use Rattle.mb_device_orders.proofs.committing.commit.Goals as goal
 
 pub write_public-requires-clause-plan : goal.write_public-requires-clause-plan
@@ -82,3 +83,20 @@ pub returns-clause-ran : goal.returns-clause-ran
 returns-clause-ran g c =
     let few = few_sectors c.args.room.now (plan_is (g.B.Board.seen c.args.b.now).memory c.args.root.now c.args.room.now c.requires.commit) in
     ok_most _ 35 _ _ _ _ (omega (arith, few)) (ran_then _ _ _ _ _ _ _ c.in_ok-up.ensures.ran.ran (ran_then _ _ _ _ _ _ _ c.in_ok-unsettled.ensures.ran.ran c.in_ok-up-2.ensures.ran))
+
+pub returns-in_err-up-2-clause-again : goal.returns-in_err-up-2-clause-again
+returns-in_err-up-2-clause-again g c = λ has. c.finish_order.ensures.again c.args.root.now (root_committed (g.B.Board.seen c.args.b.now).memory (g.B.Board.seen c.write_public.new.b).memory (g.B.Board.seen c.commit_root.new.b).memory c.args.root.now c.args.room.now c.requires.commit.state c.requires.commit.order c.requires.commit.draw c.requires.commit.commit (record { sized = c.requires.up.loaded; kept = c.write_public.ensures.contents; written = c.in_ok-up.ensures.written; commits = c.in_ok-unsettled.ensures.done; sized_after = c.commit_root.ensures.ran.ran.sized })) has
+
+pub returns-clause-kept : goal.returns-clause-kept
+returns-clause-kept g c = λ stays.
+    let done : IsCommitted (g.B.Board.seen c.args.b.now).memory (g.B.Board.seen c.write_public.new.b).memory (g.B.Board.seen c.commit_root.new.b).memory c.args.root.now c.args.room.now = record {
+      sized = c.requires.up.loaded;
+      kept = c.write_public.ensures.contents;
+      written = c.in_ok-up.ensures.written;
+      commits = c.in_ok-unsettled.ensures.done;
+      sized_after = c.commit_root.ensures.ran.ran.sized;
+    } in
+    c.in_ok-up-2.ensures.kept c.args.root.now (root_committed (g.B.Board.seen c.args.b.now).memory (g.B.Board.seen c.write_public.new.b).memory (g.B.Board.seen c.commit_root.new.b).memory c.args.root.now c.args.room.now c.requires.commit.state c.requires.commit.order c.requires.commit.draw c.requires.commit.commit done) (device_key_signs (g.B.Board.seen c.args.b.now).memory (g.B.Board.seen c.write_public.new.b).memory (g.B.Board.seen c.commit_root.new.b).memory c.args.root.now c.args.room.now c.requires.commit.state c.requires.commit.order c.requires.commit.draw c.requires.commit.commit done c.commit_root.ensures.ran.flash stays)
+
+pub returns-clause-again : goal.returns-clause-again
+returns-clause-again g c = λ has. c.finish_order.ensures.again c.args.root.now (root_committed (g.B.Board.seen c.args.b.now).memory (g.B.Board.seen c.write_public.new.b).memory (g.B.Board.seen c.commit_root.new.b).memory c.args.root.now c.args.room.now c.requires.commit.state c.requires.commit.order c.requires.commit.draw c.requires.commit.commit (record { sized = c.requires.up.loaded; kept = c.write_public.ensures.contents; written = c.in_ok-up.ensures.written; commits = c.in_ok-unsettled.ensures.done; sized_after = c.commit_root.ensures.ran.ran.sized })) has

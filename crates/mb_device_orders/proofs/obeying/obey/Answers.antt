@@ -1,11 +1,12 @@
 use Rattle.std.proofs.lemmas.Result.{err_from_is_err_and}
-use Rattle.std.proofs.Common.{None, refl, ◌-◌}
+use Rattle.std.proofs.Common.{None, refl, ◌-◌, arith}
 use Rattle.std.specs.Box.{with_value}
 use Rattle.mb_device_orders.specs.declared.remembering.Known.{Known}
 use Rattle.mb_device_orders.specs.declared.remembering.Trees.{Trees}
 use Rattle.mb_device_orders.proofs.Planned.{knows_next, device_committed}
 use Rattle.mb_device_orders.proofs.Remembered.{device_in_force}
 use Rattle.mb_device_orders.proofs.Answered.{has_commit, answered_same, answered_done, order_cut}
+use Rattle.mb_device_orders.proofs.KeptTrees.{key_stays, lent_signs}
 use Rattle.mb_device_orders.proofs.obeying.obey.Goals as goal
 
 pub returns-in-Err-clause-told : goal.returns-in-Err-clause-told
@@ -37,5 +38,28 @@ returns-clause-told g c = λ state ready knows.
     let known : Known = record { serial = c.lend.new.self.serial; figures = c.in-Ok-plan_commit.planned.figures; trees = with_value c.lend.new.self.trees trees } in
     answered_done (g.B.Board.seen c.args.b.now).memory (g.B.Board.seen c.commit.new.b).memory state c.args.text.now c.args.draw.now c.in-Ok.judged known passed
     (c.in_ok-up.ensures.done state c.in-Ok.judged.order c.args.draw.now commit)
-    (knows_next state c.in-Ok.judged.order c.args.draw.now c.args.known.now known knows c.lend.ensures figures refl
+    (knows_next state c.in-Ok.judged.order c.args.draw.now c.args.known.now known knows c.lend.ensures.serial figures refl
     (device_committed c.in-Ok-plan_commit.planned.root state c.in-Ok.judged.order c.args.draw.now (1 - commit.area) c.take.result commit.root_is c.take.ensures.tree))
+
+pub returns-in-Err-clause-keeps : goal.returns-in-Err-clause-keeps
+returns-in-Err-clause-keeps g c = λ state ready knows leaves done. let no = c.in-Err.ensures.undone in absurd (cc)
+
+pub returns-clause-keeps : goal.returns-clause-keeps
+returns-clause-keeps g c = λ state ready knows leaves done.
+    let passed = c.in-Ok.ensures.judged state ready knows in
+    let commit = c.in-Ok-plan_commit.ensures.commit state c.args.text.now c.args.draw.now ready passed in
+    c.take.ensures.found (c.in_ok-up.ensures.kept (key_stays (g.B.Board.seen c.args.b.now).memory state c.args.text.now c.args.draw.now c.in-Ok.judged c.in-Ok-plan_commit.planned.root c.plan_commit.new.room passed commit leaves).stays)
+
+pub returns-in_err-up-clause-again : goal.returns-in_err-up-clause-again
+returns-in_err-up-clause-again g c = λ state ready knows leaves some.
+    let passed = c.in-Ok.ensures.judged state ready knows in
+    let commit = c.in-Ok-plan_commit.ensures.commit state c.args.text.now c.args.draw.now ready passed in
+    let has = lent_signs (g.B.Board.seen c.args.b.now).memory state c.args.text.now c.args.draw.now c.in-Ok.judged c.in-Ok-plan_commit.planned.root c.plan_commit.new.room c.lend.new.bench ready c.in-Ok.ensures.root passed commit leaves (c.lend.ensures.lent some) in
+    omega (arith, c.judge_text.ensures.cost, c.commit.ensures.again has)
+
+pub returns-clause-again : goal.returns-clause-again
+returns-clause-again g c = λ state ready knows leaves some.
+    let passed = c.in-Ok.ensures.judged state ready knows in
+    let commit = c.in-Ok-plan_commit.ensures.commit state c.args.text.now c.args.draw.now ready passed in
+    let has = lent_signs (g.B.Board.seen c.args.b.now).memory state c.args.text.now c.args.draw.now c.in-Ok.judged c.in-Ok-plan_commit.planned.root c.plan_commit.new.room c.lend.new.bench ready c.in-Ok.ensures.root passed commit leaves (c.lend.ensures.lent some) in
+    omega (arith, c.judge_text.ensures.cost, c.commit.ensures.again has)
