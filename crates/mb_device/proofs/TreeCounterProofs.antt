@@ -1,8 +1,10 @@
 -- No tree is forgotten.
-use Rattle.std.proofs.Common.{refl}
+use Rattle.std.proofs.Common.{◌≡◌, true, false, Option, refl, sym, subst}
 use Rattle.mb_ratchet.specs.declared.state.Off.{Off}
 use Rattle.mb_model.specs.declared.event.Event.{Event}
 use Rattle.mb_model.specs.declared.event.Event.TheVariants as event
+use Rattle.mb_outbound.specs.declared.kept.RegionTree.{RegionTree}
+use Rattle.mb_outbound.specs.KeptTrees.{IsKeptFor}
 use Rattle.mb_device.specs.declared.device.Device.TheVariants as device
 use Rattle.mb_device.specs.KeptTrees.{HasTreeFor}
 use Rattle.mb_device.specs.TreeCounterExamples.{TreeCounterExamples}
@@ -23,9 +25,10 @@ none_off state (event.Sign M key message) has = has
 pub no_tree_forgotten : TreeCounterExamples
 no_tree_forgotten = record {
   signed = λ L key index message statement before kept. kept.signed index statement refl;
-  read = λ own name value kept. kept.stays refl own.place own.number (refl, refl);
+  read = λ trees own name value is kept. kept.region refl own.place own.number (subst (λ (t : Option RegionTree). IsKeptFor t own.place own.number) (sym is) (refl, refl));
+  device_tree = λ trees L key index message statement some kept. let gone : false ≡ true = kept.device refl some in absurd (cc);
   refused = λ own number left. let gone = left refl in absurd (cc);
   ordered = λ before after number apart left. apart (left refl);
-  other = λ own key message apart kept. apart kept.1;
+  other = λ trees own key message is apart kept. apart (subst (λ (t : Option RegionTree). IsKeptFor t own.place key) is kept).1;
   off = none_off;
 }

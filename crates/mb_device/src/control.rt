@@ -6,7 +6,7 @@ ghost use Rattle.mb_model.specs.Layers.{is_runnable};
 ghost use Rattle.mb_board.specs.Calls.{held_in, IsSwitched};
 ghost use Rattle.mb_device.specs.Sound.{HasSound, StepsFrom};
 ghost use Rattle.mb_device.specs.Stepping.{stop_told};
-ghost use Rattle.mb_device.specs.KeptTrees.{KeepsItsTree};
+ghost use Rattle.mb_device.specs.KeptTrees.{KeepsItsTrees};
 
 use crate::device::{Device, Running};
 use mb_authority::is_runnable;
@@ -29,7 +29,7 @@ impl Device {
         ensures steps { StepsFrom self (held_in (B.seen b.old)) event.Go result
             (held_in (B.seen b.new)) }
         ensures goes_on { stop_told result.1 ≡ Ok tt }
-        ensures tree { KeepsItsTree self event.Go result.1 result.0 }
+        ensures trees { KeepsItsTrees self event.Go result.1 result.0 }
         ensures switched { IsSwitched (B.seen b.old) (B.seen b.new) }
     {
         match self {

@@ -5,9 +5,10 @@ ghost use Rattle.mb_model.specs.declared.event.Event.TheVariants as event;
 ghost use Rattle.mb_model.specs.Board.{AreBytes};
 ghost use Rattle.mb_board.specs.Calls.{held_in, KeepsEvents};
 ghost use Rattle.mb_model.specs.Spared.{SparesSectors};
-ghost use Rattle.mb_device.specs.Sound.{HasSound, StepsFrom};
+ghost use Rattle.mb_model.specs.Machine.{World};
+ghost use Rattle.mb_device.specs.Sound.{HasSound, IsSoundDevice, StepsFrom};
 ghost use Rattle.mb_device.specs.Stepping.{stop_told, IfNothingTold};
-ghost use Rattle.mb_device.specs.KeptTrees.{KeepsItsTree};
+ghost use Rattle.mb_device.specs.KeptTrees.{KeepsItsTrees, LeavesKeyOf, SignsByDeviceTree};
 ghost use Rattle.mb_lms.specs.declared.hash_count.TheConstants.{SIGNING_HASHES, TREE_HASHES};
 
 use crate::device::{Device, Running};
@@ -37,8 +38,12 @@ fn take_order<B: Board, L: Ledger>(
         (B.seen b.old).meter (B.seen b.new).meter }
     ensures spared { SparesSectors (B.seen b.old).memory (B.seen b.new).memory }
     ensures events { KeepsEvents 35 (stop_told result.1) (B.seen b.old) (B.seen b.new) }
-    ensures tree { KeepsItsTree (Device.One up running) (event.Command text.now draw.now) result.1
+    ensures trees { KeepsItsTrees (Device.One up running) (event.Command text.now draw.now) result.1
         result.0 }
+    ensures order { (world : World)
+        → IsSoundDevice (Device.One up running) (held_in (B.seen b.old)) world
+        → LeavesKeyOf world (event.Command text.now draw.now)
+        → SignsByDeviceTree (Device.One up running) result.1 result.0 hashes.old hashes.new }
     ensures cost { hashes.new ≤ hashes.old + 2 * TREE_HASHES + 2 * SIGNING_HASHES }
 {
     let mut known = running.known;
@@ -67,7 +72,10 @@ impl Device {
             (B.seen b.old).meter (B.seen b.new).meter }
         ensures spared { SparesSectors (B.seen b.old).memory (B.seen b.new).memory }
         ensures events { KeepsEvents 35 (stop_told result.1) (B.seen b.old) (B.seen b.new) }
-        ensures tree { KeepsItsTree self (event.Command text.now draw.now) result.1 result.0 }
+        ensures trees { KeepsItsTrees self (event.Command text.now draw.now) result.1 result.0 }
+        ensures order { (world : World) → IsSoundDevice self (held_in (B.seen b.old)) world
+            → LeavesKeyOf world (event.Command text.now draw.now)
+            → SignsByDeviceTree self result.1 result.0 hashes.old hashes.new }
         ensures cost { hashes.new ≤ hashes.old + 2 * TREE_HASHES + 2 * SIGNING_HASHES }
     {
         match self {

@@ -7,7 +7,7 @@ ghost use Rattle.mb_model.specs.Spared.{SparesSectors};
 ghost use Rattle.mb_boot.specs.Booting.{IsQuiet};
 ghost use Rattle.mb_device.specs.Sound.{HasSound, StepsFrom};
 ghost use Rattle.mb_device.specs.Stepping.{stop_told, IfNothingTold, IsOff};
-ghost use Rattle.mb_device.specs.KeptTrees.{KeepsItsTree};
+ghost use Rattle.mb_device.specs.KeptTrees.{KeepsItsTrees};
 ghost use Rattle.mb_lms.specs.declared.hash_count.TheConstants.{SIGNING_HASHES};
 
 use crate::device::{Device, Running};
@@ -71,7 +71,7 @@ impl Device {
             (B.seen b.old).meter (B.seen b.new).meter }
         ensures spared { SparesSectors (B.seen b.old).memory (B.seen b.new).memory }
         ensures events { KeepsEvents 15 (stop_told result.1) (B.seen b.old) (B.seen b.new) }
-        ensures tree { KeepsItsTree self event.Boot result.1 result.0 }
+        ensures trees { KeepsItsTrees self event.Boot result.1 result.0 }
         ensures cost { hashes.new ≤ hashes.old + 2 * SIGNING_HASHES }
     {
         match self {

@@ -1,6 +1,6 @@
 //! How layers use their regions.
 
-ghost use Rattle.std.specs.Prelude.{◌≡◌, ◌+◌, ◌≤◌, true, IfOk};
+ghost use Rattle.std.specs.Prelude.{◌≡◌, ◌+◌, ◌≤◌, true, IfOk, Some};
 ghost use Rattle.mb_format.specs.Format.{IsBytes};
 ghost use Rattle.mb_model.specs.declared.state.State.{State};
 ghost use Rattle.mb_model.specs.Layers.{is_runnable};
@@ -13,7 +13,7 @@ ghost use Rattle.mb_device_orders.specs.Remembering.{Knows, IsRemembered};
 ghost use Rattle.mb_device.specs.Sound.{HasSound, StepsFrom};
 ghost use Rattle.mb_device.specs.Stepping.{stop_told, IfNothingTold};
 ghost use Rattle.mb_device.specs.Regions.{IsLayerEvent, region_named, layer_outcome};
-ghost use Rattle.mb_device.specs.KeptTrees.{IsKeptToSign, TreeIsKept, HasTreeFor, KeepsItsTree};
+ghost use Rattle.mb_device.specs.KeptTrees.{IsKeptToSign, TreesAreKept, HasTreeFor, KeepsItsTrees};
 ghost use Rattle.mb_lms.specs.declared.hash_count.TheConstants.{LEAF_HASHES, SIGNING_HASHES};
 
 use crate::device::{Device, Running};
@@ -49,11 +49,11 @@ fn ask<S: Reaches<L>, L: Named, B: Board, C: Ledger>(
         (B.seen b.old).meter (B.seen b.new).meter }
     ensures known { (state : State) → IsReady (B.seen b.old).memory state
         → Knows running.old.known state → Knows running.new.known state }
-    ensures tree { IfOk result (λ told. TreeIsKept L.place event.now told.1
-        running.old.known.trees.value.region running.new.known.trees.value.region) }
+    ensures trees { IfOk result (λ told. TreesAreKept L.place event.now told.1
+        (Some running.old.known.trees.value) (Some running.new.known.trees.value)) }
     ensures ran { RanOnBbram 3 result (B.seen b.old) (B.seen b.new) }
     ensures cost { hashes.new ≤ hashes.old + SIGNING_HASHES }
-    ensures again { IsKeptToSign running.old.known.trees.value.region L.place event.now
+    ensures again { IsKeptToSign (Some running.old.known.trees.value) L.place event.now
         → hashes.new ≤ hashes.old + LEAF_HASHES }
 {
     let number = running.known.figures.number;
@@ -99,7 +99,7 @@ fn use_at<S: Reaches<L> + Runs, L: Named, B: Board, C: Ledger>(
         (B.seen b.old).meter (B.seen b.new).meter }
     ensures flash { (B.seen b.new).memory.flash ≡ (B.seen b.old).memory.flash }
     ensures events { KeepsEvents 3 (stop_told result.1) (B.seen b.old) (B.seen b.new) }
-    ensures tree { KeepsItsTree (S.holder s running) event.now result.1 result.0 }
+    ensures trees { KeepsItsTrees (S.holder s running) event.now result.1 result.0 }
     ensures cost { hashes.new ≤ hashes.old + SIGNING_HASHES }
     ensures again { HasTreeFor (S.holder s running) event.now → hashes.new ≤ hashes.old + LEAF_HASHES }
 {
@@ -134,7 +134,7 @@ impl Device {
             (B.seen b.old).meter (B.seen b.new).meter }
         ensures flash { (B.seen b.new).memory.flash ≡ (B.seen b.old).memory.flash }
         ensures events { KeepsEvents 3 (stop_told result.1) (B.seen b.old) (B.seen b.new) }
-        ensures tree { KeepsItsTree self event.now result.1 result.0 }
+        ensures trees { KeepsItsTrees self event.now result.1 result.0 }
         ensures cost { hashes.new ≤ hashes.old + SIGNING_HASHES }
         ensures again { HasTreeFor self event.now → hashes.new ≤ hashes.old + LEAF_HASHES }
     {

@@ -1,13 +1,13 @@
 //! The typed states in which a layer runs.
 
 ghost use Rattle.std.proofs.Common.{refl};
-ghost use Rattle.std.specs.Prelude.{◌≡◌, ℕ};
+ghost use Rattle.std.specs.Prelude.{◌≡◌, ℕ, Some};
 ghost use Rattle.mb_model.specs.Machine.{World};
 ghost use Rattle.mb_device.specs.declared.device.Device.{Device as Whole};
 ghost use Rattle.mb_device.specs.declared.device.Device.TheVariants as device;
 ghost use Rattle.mb_device.specs.declared.device.Running.{Running as Remembered};
 ghost use Rattle.mb_device.specs.Sound.{IsRunning, Fits};
-ghost use Rattle.mb_device.specs.KeptTrees.{tree_of};
+ghost use Rattle.mb_device.specs.KeptTrees.{trees_of};
 
 use crate::device::{Device, Running};
 use mb_ratchet::{R1, R2, R3, Up};
@@ -32,9 +32,9 @@ pub(crate) trait Runs {
     ghost fits: { (state : Self) (running : Remembered) (world : World)
         → IsRunning level running world → Fits (holder state running) world };
 
-    /// The tree that the device keeps is the one that is remembered.
-    ghost tree: { (state : Self) (running : Remembered)
-        → tree_of (holder state running) ≡ running.known.trees.value.region };
+    /// The trees that the device keeps are those that are remembered.
+    ghost trees: { (state : Self) (running : Remembered)
+        → trees_of (holder state running) ≡ Some running.known.trees.value };
 }
 
 impl Runs for Up<R1> {
@@ -46,7 +46,7 @@ impl Runs for Up<R1> {
 
     ghost fits = { λ state running world is. is };
 
-    ghost tree = { λ state running. refl };
+    ghost trees = { λ state running. refl };
 
     fn into_device(self, running: Running) -> Device {
         Device::One(self, running)
@@ -62,7 +62,7 @@ impl Runs for Up<R2> {
 
     ghost fits = { λ state running world is. is };
 
-    ghost tree = { λ state running. refl };
+    ghost trees = { λ state running. refl };
 
     fn into_device(self, running: Running) -> Device {
         Device::Two(self, running)
@@ -78,7 +78,7 @@ impl Runs for Up<R3> {
 
     ghost fits = { λ state running world is. is };
 
-    ghost tree = { λ state running. refl };
+    ghost trees = { λ state running. refl };
 
     fn into_device(self, running: Running) -> Device {
         Device::Three(self, running)

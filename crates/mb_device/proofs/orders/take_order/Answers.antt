@@ -1,4 +1,4 @@
-use Rattle.std.proofs.Common.{None, refl, sym, ◌∙◌}
+use Rattle.std.proofs.Common.{None, Some, refl, sym, ◌∙◌}
 use Rattle.std.specs.Prelude.{Ok}
 use Rattle.mb_ratchet.specs.declared.state.Off.{Off}
 use Rattle.mb_model.specs.declared.event.Event.TheVariants as event
@@ -7,7 +7,7 @@ use Rattle.mb_device.specs.declared.device.Device.TheVariants as device
 use Rattle.mb_device.proofs.Uses.{is_up, running_on, metered_by}
 use Rattle.mb_device.proofs.Steps.{running_ready}
 use Rattle.mb_device.proofs.Ordered.{order_told, order_cut, order_goes_on}
-use Rattle.mb_device.proofs.Trees.{tree_goes, tree_ordered}
+use Rattle.mb_device.proofs.Trees.{trees_go, trees_ordered}
 use Rattle.mb_device.proofs.orders.take_order.Goals as goal
 
 pub obey-requires-clause-up : goal.obey-requires-clause-up
@@ -41,8 +41,20 @@ returns-in-Err-clause-steps g c = λ world sound.
     order_cut (device.One c.args.up c.args.running) c.args.running c.args.text.now c.args.draw.now (g.B.Board.seen c.args.b.now).memory (g.B.Board.seen c.args.b.now).power (g.B.Board.seen c.args.b.now).level (g.B.Board.seen c.args.b.now).meter world sound sound.fits
     c.in-Err.off (g.B.Board.seen c.obey.new.b).memory (g.B.Board.seen c.obey.new.b).power (g.B.Board.seen c.obey.new.b).level (g.B.Board.seen c.obey.new.b).meter (c.in-Err.ensures.told sound.fits.state ready sound.fits.knows) c.in-Err.ensures.ran.power c.in-Err.ensures.ran.meter.armed c.in-Err.ensures.ran.meter.cut
 
-pub returns-in-Ok-clause-tree : goal.returns-in-Ok-clause-tree
-returns-in-Ok-clause-tree g c = tree_ordered {E = Off} (Ok (c.in-Ok.up, c.in-Ok.reply)) c.args.running.known c.obey.new.known c.args.text.now c.args.draw.now c.in-Ok.ensures.stays
+pub returns-in-Ok-clause-trees : goal.returns-in-Ok-clause-trees
+returns-in-Ok-clause-trees g c = trees_ordered {E = Off} (Ok (c.in-Ok.up, c.in-Ok.reply)) c.args.running.known c.obey.new.known c.args.text.now c.args.draw.now c.in-Ok.ensures.stays
 
-pub returns-in-Err-clause-tree : goal.returns-in-Err-clause-tree
-returns-in-Err-clause-tree g c = tree_goes 0 (event.Command c.args.text.now c.args.draw.now) reply.Stopped c.args.running.known.trees.value.region None refl refl
+pub returns-in-Err-clause-trees : goal.returns-in-Err-clause-trees
+returns-in-Err-clause-trees g c = trees_go 0 (event.Command c.args.text.now c.args.draw.now) reply.Stopped (Some c.args.running.known.trees.value) None refl refl refl
+
+pub returns-in-Ok-clause-order : goal.returns-in-Ok-clause-order
+returns-in-Ok-clause-order g c = λ world sound leaves.
+    let ready = running_ready (device.One c.args.up c.args.running) 1 _ world sound.fits.state sound sound.fits.phase sound.fits.live in
+    let own = leaves sound.fits.state sound.fits.live in
+    record { kept = c.in-Ok.ensures.keeps sound.fits.state ready sound.fits.knows own; again = c.obey.ensures.again sound.fits.state ready sound.fits.knows own }
+
+pub returns-in-Err-clause-order : goal.returns-in-Err-clause-order
+returns-in-Err-clause-order g c = λ world sound leaves.
+    let ready = running_ready (device.One c.args.up c.args.running) 1 _ world sound.fits.state sound sound.fits.phase sound.fits.live in
+    let own = leaves sound.fits.state sound.fits.live in
+    record { kept = λ done. absurd (cc); again = c.obey.ensures.again sound.fits.state ready sound.fits.knows own }

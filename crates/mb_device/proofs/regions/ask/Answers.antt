@@ -1,4 +1,4 @@
-use Rattle.std.proofs.Common.{sym, subst, true}
+use Rattle.std.proofs.Common.{Some, ap, sym, subst, true}
 use Rattle.std.specs.Prelude.{IfOk}
 use Rattle.mb_model.specs.declared.event.Event.{Event}
 use Rattle.mb_model.specs.declared.event.Event.TheVariants as event
@@ -8,10 +8,10 @@ use Rattle.mb_device_regions.specs.Statements.{LeavesTree}
 use Rattle.mb_device_orders.specs.declared.remembering.Trees.{Trees}
 use Rattle.mb_device_orders.specs.Remembering.{IsDeviceTree}
 use Rattle.mb_device.specs.Regions.{layer_outcome}
-use Rattle.mb_device.specs.KeptTrees.{IsKeptToSign, TreeIsKept}
+use Rattle.mb_device.specs.KeptTrees.{IsKeptToSign, TreesAreKept}
 use Rattle.mb_device.proofs.Uses.{known_runs}
 use Rattle.mb_device.proofs.Told.{known_number}
-use Rattle.mb_device.proofs.Trees.{same_tree, tree_signed, tree_untouched}
+use Rattle.mb_device.proofs.Trees.{same_trees, trees_signed_by, trees_untouched}
 use Rattle.mb_device.proofs.regions.ask.Goals as goal
 
 pub returns-in-Put-clause-told : goal.returns-in-Put-clause-told
@@ -44,28 +44,28 @@ returns-in-Sign-clause-known g c = λ state ready knows. record {
   };
 }
 
-pub returns-in-Put-clause-tree : goal.returns-in-Put-clause-tree
-returns-in-Put-clause-tree g c =
-    subst (λ (e : Event). IfOk c.put_secret.result (λ told. TreeIsKept g.L.Place.place e told.1 c.args.running.now.known.trees.value.region c.args.running.now.known.trees.value.region)) (sym c.in-Put.is)
-    (tree_untouched c.put_secret.result g.L.Place.place (event.Put c.in-Put.region c.in-Put.name c.in-Put.value) c.args.running.now.known.trees.value.region (λ answer. tt))
+pub returns-in-Put-clause-trees : goal.returns-in-Put-clause-trees
+returns-in-Put-clause-trees g c =
+    subst (λ (e : Event). IfOk c.put_secret.result (λ told. TreesAreKept g.L.Place.place e told.1 (Some c.args.running.now.known.trees.value) (Some c.args.running.now.known.trees.value))) (sym c.in-Put.is)
+    (trees_untouched c.put_secret.result g.L.Place.place (event.Put c.in-Put.region c.in-Put.name c.in-Put.value) (Some c.args.running.now.known.trees.value) (λ answer. tt))
 
-pub returns-in-Get-clause-tree : goal.returns-in-Get-clause-tree
-returns-in-Get-clause-tree g c =
-    subst (λ (e : Event). TreeIsKept g.L.Place.place e c.get_secret-reply.result c.args.running.now.known.trees.value.region c.args.running.now.known.trees.value.region) (sym c.in-Get.is)
-    (same_tree g.L.Place.place (event.Get c.in-Get.region c.in-Get.name) c.get_secret-reply.result c.args.running.now.known.trees.value.region tt)
+pub returns-in-Get-clause-trees : goal.returns-in-Get-clause-trees
+returns-in-Get-clause-trees g c =
+    subst (λ (e : Event). TreesAreKept g.L.Place.place e c.get_secret-reply.result (Some c.args.running.now.known.trees.value) (Some c.args.running.now.known.trees.value)) (sym c.in-Get.is)
+    (same_trees g.L.Place.place (event.Get c.in-Get.region c.in-Get.name) c.get_secret-reply.result (Some c.args.running.now.known.trees.value) tt)
 
-pub returns-in-Drop-clause-tree : goal.returns-in-Drop-clause-tree
-returns-in-Drop-clause-tree g c =
-    subst (λ (e : Event). IfOk c.drop_secret.result (λ told. TreeIsKept g.L.Place.place e told.1 c.args.running.now.known.trees.value.region c.args.running.now.known.trees.value.region)) (sym c.in-Drop.is)
-    (tree_untouched c.drop_secret.result g.L.Place.place (event.Drop c.in-Drop.region c.in-Drop.name) c.args.running.now.known.trees.value.region (λ answer. tt))
+pub returns-in-Drop-clause-trees : goal.returns-in-Drop-clause-trees
+returns-in-Drop-clause-trees g c =
+    subst (λ (e : Event). IfOk c.drop_secret.result (λ told. TreesAreKept g.L.Place.place e told.1 (Some c.args.running.now.known.trees.value) (Some c.args.running.now.known.trees.value))) (sym c.in-Drop.is)
+    (trees_untouched c.drop_secret.result g.L.Place.place (event.Drop c.in-Drop.region c.in-Drop.name) (Some c.args.running.now.known.trees.value) (λ answer. tt))
 
-pub returns-in-Sign-clause-tree : goal.returns-in-Sign-clause-tree
-returns-in-Sign-clause-tree g c =
-    subst (λ (e : Event). IfOk c.sign_message.result (λ told. TreeIsKept g.L.Place.place e told.1 c.args.running.now.known.trees.value.region c.sign_message.new.kept)) (sym c.in-Sign.is)
-    (tree_signed c.sign_message.result g.L.Place.place c.in-Sign.region c.in-Sign.key c.in-Sign.message c.args.running.now.known.trees.value.region c.sign_message.new.kept c.sign_message.ensures.keeps
-    (subst (λ (trees : Trees). LeavesTree c.sign_message.result trees.region c.sign_message.new.kept) c.deref_mut.ensures.value c.sign_message.ensures.stays))
+pub returns-in-Sign-clause-trees : goal.returns-in-Sign-clause-trees
+returns-in-Sign-clause-trees g c =
+    trees_signed_by c.sign_message.result g.L.Place.place c.in-Sign.region c.in-Sign.key c.in-Sign.message c.args.event.now c.args.running.now.known.trees.value _ c.in-Sign.is c.sign_message.ensures.keeps
+    (subst (λ (trees : Trees). LeavesTree c.sign_message.result trees.region c.sign_message.new.kept) c.deref_mut.ensures.value c.sign_message.ensures.stays)
+    (ap (λ (trees : Trees). trees.device) c.deref_mut.ensures.value)
 
 pub returns-in-Sign-clause-again : goal.returns-in-Sign-clause-again
 returns-in-Sign-clause-again g c = λ own.
-    let asked : IsKeptFor c.args.running.now.known.trees.value.region g.L.Place.place c.in-Sign.key = subst (λ (e : Event). IsKeptToSign c.args.running.now.known.trees.value.region g.L.Place.place e) c.in-Sign.is own in
+    let asked : IsKeptFor c.args.running.now.known.trees.value.region g.L.Place.place c.in-Sign.key = subst (λ (e : Event). IsKeptToSign (Some c.args.running.now.known.trees.value) g.L.Place.place e) c.in-Sign.is own in
     c.sign_message.ensures.again (subst (λ (trees : Trees). IsKeptFor trees.region g.L.Place.place c.in-Sign.key) (sym c.deref_mut.ensures.value) asked)

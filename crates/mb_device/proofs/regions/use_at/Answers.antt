@@ -1,4 +1,4 @@
-use Rattle.std.proofs.Common.{◌≡◌, ℕ, ◌≤◌, ◌∙◌, true, false, refl, sym, ap, subst, inr, None}
+use Rattle.std.proofs.Common.{◌≡◌, ℕ, ◌≤◌, ◌∙◌, true, false, refl, sym, ap, subst, inr, None, Some}
 use Rattle.mb_model.specs.declared.reply.Refusal.TheVariants.{WrongLayer}
 use Rattle.mb_model.specs.declared.reply.Reply.TheVariants as reply
 use Rattle.mb_model.specs.Layers.{is_runnable}
@@ -6,9 +6,9 @@ use Rattle.mb_board.specs.Calls.{held_in, IsUp}
 use Rattle.mb_device.specs.declared.device.Device.{Device}
 use Rattle.mb_device.specs.Regions.{region_named}
 use Rattle.mb_device.specs.Sound.{Fits, Steps}
-use Rattle.mb_device.specs.KeptTrees.{tree_of, KeepsItsTree}
+use Rattle.mb_device.specs.KeptTrees.{trees_of, KeepsItsTrees}
 use Rattle.mb_device.proofs.Uses.{IsUse, is_up, remembers, use_ready, use_told, use_cut, use_refused, answer_goes_on, metered_by}
-use Rattle.mb_device.proofs.Trees.{tree_refused, tree_goes, tree_held, tree_to_sign}
+use Rattle.mb_device.proofs.Trees.{trees_refused, trees_go, trees_held, tree_to_sign}
 use Rattle.mb_device.proofs.regions.use_at.Goals as goal
 
 pub ask-requires-clause-can_answer : goal.ask-requires-clause-can_answer
@@ -82,23 +82,23 @@ returns-in-Ok-clause-events g c =
           c.in-Ok.ensures.ran.ran.meter;
     }
 
-pub returns-then-not-may_run-clause-tree : goal.returns-then-not-may_run-clause-tree
-returns-then-not-may_run-clause-tree g c =
-    subst (λ (d : Device). KeepsItsTree (g.S.Runs.holder c.args.s c.args.running) c.args.event.now c.reply.result d) (sym c.into_device.ensures)
-    (tree_refused (g.S.Runs.holder c.args.s c.args.running) (g.S.Runs.holder c.args.s c.args.running) (g.S.Runs.holder c.args.s c.args.running) c.args.event.now c.reply.result WrongLayer refl refl c.reply.ensures)
+pub returns-then-not-may_run-clause-trees : goal.returns-then-not-may_run-clause-trees
+returns-then-not-may_run-clause-trees g c =
+    subst (λ (d : Device). KeepsItsTrees (g.S.Runs.holder c.args.s c.args.running) c.args.event.now c.reply.result d) (sym c.into_device.ensures)
+    (trees_refused (g.S.Runs.holder c.args.s c.args.running) (g.S.Runs.holder c.args.s c.args.running) (g.S.Runs.holder c.args.s c.args.running) c.args.event.now c.reply.result WrongLayer refl refl c.reply.ensures)
 
-pub returns-in-Ok-clause-tree : goal.returns-in-Ok-clause-tree
-returns-in-Ok-clause-tree g c =
-    tree_held g.L.Place.place c.args.event.now c.in-Ok.reply (g.S.Runs.holder c.args.s c.args.running) c.into_device-in-Ok.result c.args.running.known.trees.value.region c.ask.new.running.known.trees.value.region
-    c.requires.region (g.met.S.Runs.tree c.args.s c.args.running) (ap tree_of c.into_device-in-Ok.ensures ∙ g.met.S.Runs.tree c.in-Ok.s c.ask.new.running) c.in-Ok.ensures.tree
+pub returns-in-Ok-clause-trees : goal.returns-in-Ok-clause-trees
+returns-in-Ok-clause-trees g c =
+    trees_held g.L.Place.place c.args.event.now c.in-Ok.reply (g.S.Runs.holder c.args.s c.args.running) c.into_device-in-Ok.result (Some c.args.running.known.trees.value) (Some c.ask.new.running.known.trees.value)
+    c.requires.region (g.met.S.Runs.trees c.args.s c.args.running) (ap trees_of c.into_device-in-Ok.ensures ∙ g.met.S.Runs.trees c.in-Ok.s c.ask.new.running) c.in-Ok.ensures.trees
 
-pub returns-in-Err-clause-tree : goal.returns-in-Err-clause-tree
-returns-in-Err-clause-tree g c = tree_goes (region_named c.args.event.now) c.args.event.now reply.Stopped (tree_of (g.S.Runs.holder c.args.s c.args.running)) None refl refl
+pub returns-in-Err-clause-trees : goal.returns-in-Err-clause-trees
+returns-in-Err-clause-trees g c = trees_go (region_named c.args.event.now) c.args.event.now reply.Stopped (trees_of (g.S.Runs.holder c.args.s c.args.running)) None refl refl refl
 
 pub returns-in-Ok-clause-again : goal.returns-in-Ok-clause-again
 returns-in-Ok-clause-again g c = λ own.
-    c.ask.ensures.again (tree_to_sign g.L.Place.place c.args.event.now (g.S.Runs.holder c.args.s c.args.running) c.args.running.known.trees.value.region c.requires.region (g.met.S.Runs.tree c.args.s c.args.running) own)
+    c.ask.ensures.again (tree_to_sign g.L.Place.place c.args.event.now (g.S.Runs.holder c.args.s c.args.running) (Some c.args.running.known.trees.value) c.requires.region (g.met.S.Runs.trees c.args.s c.args.running) own)
 
 pub returns-in-Err-clause-again : goal.returns-in-Err-clause-again
 returns-in-Err-clause-again g c = λ own.
-    c.ask.ensures.again (tree_to_sign g.L.Place.place c.args.event.now (g.S.Runs.holder c.args.s c.args.running) c.args.running.known.trees.value.region c.requires.region (g.met.S.Runs.tree c.args.s c.args.running) own)
+    c.ask.ensures.again (tree_to_sign g.L.Place.place c.args.event.now (g.S.Runs.holder c.args.s c.args.running) (Some c.args.running.known.trees.value) c.requires.region (g.met.S.Runs.trees c.args.s c.args.running) own)

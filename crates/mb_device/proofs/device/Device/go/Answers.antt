@@ -10,7 +10,7 @@ use Rattle.mb_device.proofs.Worlds.{awake_off, awake_dead, awake_at, go_refused,
 use Rattle.mb_device.proofs.Steps.{refuses_as}
 use Rattle.mb_device.proofs.Told.{goes_on, second_runs, third_runs, no_second, no_third}
 use Rattle.mb_device.proofs.Uses.{running_on}
-use Rattle.mb_device.proofs.Trees.{tree_refused, tree_stays}
+use Rattle.mb_device.proofs.Trees.{trees_refused, trees_stay}
 use Rattle.mb_device.proofs.device.Device.go.Goals as goal
 
 pub returns-in-Off-clause-steps : goal.returns-in-Off-clause-steps
@@ -82,23 +82,23 @@ advance-requires-then-may_run-2-clause-level g c =
     subst (λ (d : Device). IsSoundDevice d (held_by (g.B.Board.seen c.args.b.now).memory (g.B.Board.seen c.args.b.now).power (g.B.Board.seen c.args.b.now).level (g.B.Board.seen c.args.b.now).meter) world) c.in-Two.is c.requires.sound.sound in
     sym (g.met.B.Board.sees_level c.args.b.now) ∙ (running_on (device.Two c.in-Two.up c.in-Two.running) 2 (g.B.Board.seen c.args.b.now).memory (g.B.Board.seen c.args.b.now).power (g.B.Board.seen c.args.b.now).level (g.B.Board.seen c.args.b.now).meter world own own.fits.phase).1
 
-pub returns-in-Off-clause-tree : goal.returns-in-Off-clause-tree
-returns-in-Off-clause-tree g c = tree_refused c.args.self (device.Off c.in-Off.off) (device.Off c.in-Off.off) event.Go c.reply.result PoweredOff c.in-Off.is refl c.reply.ensures
+pub returns-in-Off-clause-trees : goal.returns-in-Off-clause-trees
+returns-in-Off-clause-trees g c = trees_refused c.args.self (device.Off c.in-Off.off) (device.Off c.in-Off.off) event.Go c.reply.result PoweredOff c.in-Off.is refl c.reply.ensures
 
-pub returns-in-Dead-clause-tree : goal.returns-in-Dead-clause-tree
-returns-in-Dead-clause-tree g c = tree_refused c.args.self (device.Dead c.in-Dead.dead) (device.Dead c.in-Dead.dead) event.Go c.reply-in-Dead.result Zeroised c.in-Dead.is refl c.reply-in-Dead.ensures
+pub returns-in-Dead-clause-trees : goal.returns-in-Dead-clause-trees
+returns-in-Dead-clause-trees g c = trees_refused c.args.self (device.Dead c.in-Dead.dead) (device.Dead c.in-Dead.dead) event.Go c.reply-in-Dead.result Zeroised c.in-Dead.is refl c.reply-in-Dead.ensures
 
-pub returns-else-may_run-clause-tree : goal.returns-else-may_run-clause-tree
-returns-else-may_run-clause-tree g c = tree_refused c.args.self (device.One c.in-One.up c.in-One.running) (device.One c.in-One.up c.in-One.running) event.Go c.reply-else-may_run.result WrongLayer c.in-One.is refl c.reply-else-may_run.ensures
+pub returns-else-may_run-clause-trees : goal.returns-else-may_run-clause-trees
+returns-else-may_run-clause-trees g c = trees_refused c.args.self (device.One c.in-One.up c.in-One.running) (device.One c.in-One.up c.in-One.running) event.Go c.reply-else-may_run.result WrongLayer c.in-One.is refl c.reply-else-may_run.ensures
 
-pub returns-else-may_run-2-clause-tree : goal.returns-else-may_run-2-clause-tree
-returns-else-may_run-2-clause-tree g c = tree_refused c.args.self (device.Two c.in-Two.up c.in-Two.running) (device.Two c.in-Two.up c.in-Two.running) event.Go c.reply-else-may_run-2.result WrongLayer c.in-Two.is refl c.reply-else-may_run-2.ensures
+pub returns-else-may_run-2-clause-trees : goal.returns-else-may_run-2-clause-trees
+returns-else-may_run-2-clause-trees g c = trees_refused c.args.self (device.Two c.in-Two.up c.in-Two.running) (device.Two c.in-Two.up c.in-Two.running) event.Go c.reply-else-may_run-2.result WrongLayer c.in-Two.is refl c.reply-else-may_run-2.ensures
 
-pub returns-in-Three-clause-tree : goal.returns-in-Three-clause-tree
-returns-in-Three-clause-tree g c = tree_refused c.args.self (device.Three c.in-Three.up c.in-Three.running) (device.Three c.in-Three.up c.in-Three.running) event.Go c.reply-in-Three.result WrongPhase c.in-Three.is refl c.reply-in-Three.ensures
+pub returns-in-Three-clause-trees : goal.returns-in-Three-clause-trees
+returns-in-Three-clause-trees g c = trees_refused c.args.self (device.Three c.in-Three.up c.in-Three.running) (device.Three c.in-Three.up c.in-Three.running) event.Go c.reply-in-Three.result WrongPhase c.in-Three.is refl c.reply-in-Three.ensures
 
-pub returns-then-may_run-clause-tree : goal.returns-then-may_run-clause-tree
-returns-then-may_run-clause-tree g c = tree_stays c.args.self (device.One c.in-One.up c.in-One.running) (device.Two c.advance.result c.in-One.running) event.Go (reply.At 2) c.in-One.is refl tt
+pub returns-then-may_run-clause-trees : goal.returns-then-may_run-clause-trees
+returns-then-may_run-clause-trees g c = trees_stay c.args.self (device.One c.in-One.up c.in-One.running) (device.Two c.advance.result c.in-One.running) event.Go (reply.At 2) c.in-One.is refl tt
 
-pub returns-then-may_run-2-clause-tree : goal.returns-then-may_run-2-clause-tree
-returns-then-may_run-2-clause-tree g c = tree_stays c.args.self (device.Two c.in-Two.up c.in-Two.running) (device.Three c.advance-then-may_run-2.result c.in-Two.running) event.Go (reply.At 3) c.in-Two.is refl tt
+pub returns-then-may_run-2-clause-trees : goal.returns-then-may_run-2-clause-trees
+returns-then-may_run-2-clause-trees g c = trees_stay c.args.self (device.Two c.in-Two.up c.in-Two.running) (device.Three c.advance-then-may_run-2.result c.in-Two.running) event.Go (reply.At 3) c.in-Two.is refl tt

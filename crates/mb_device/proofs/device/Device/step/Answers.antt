@@ -1,15 +1,17 @@
-use Rattle.std.proofs.Common.{◌≡◌, sym, subst, refl}
+use Rattle.std.proofs.Common.{◌≡◌, ℕ, List, Some, sym, subst, refl}
 use Rattle.mb_model.specs.declared.event.Event.{Event}
 use Rattle.mb_model.specs.declared.event.Event.TheVariants as event
 use Rattle.mb_model.specs.declared.reply.Reply.TheVariants as reply
+use Rattle.mb_model.specs.declared.state.State.{State}
 use Rattle.mb_model.specs.Board.{Held}
-use Rattle.mb_board.specs.Calls.{held_by}
+use Rattle.mb_board.specs.Calls.{held_by, held_in}
+use Rattle.mb_device_orders.specs.Obeying.{LeavesDeviceKey}
 use Rattle.mb_device.specs.Sound.{IsSoundDevice, taken, Steps}
-use Rattle.mb_device.specs.KeptTrees.{tree_of, HasTreeFor, KeepsItsTree}
+use Rattle.mb_device.specs.KeptTrees.{trees_of, HasTreeFor, KeepsItsTrees, LeavesKeyOf}
 use Rattle.mb_device.proofs.Steps.{stays}
 use Rattle.mb_device.proofs.Taken.{goes_off, is_tampered, is_armed, off_same}
 use Rattle.mb_device.proofs.Uses.{unmetered}
-use Rattle.mb_device.proofs.Trees.{tree_goes, tree_stays}
+use Rattle.mb_device.proofs.Trees.{trees_go, trees_stay}
 use Rattle.mb_device.proofs.device.Device.step.Goals as goal
 
 pub returns-in-Off-clause-steps : goal.returns-in-Off-clause-steps
@@ -46,28 +48,65 @@ returns-in-Status-clause-events g c = record { ledger = refl; meter = unmetered 
 pub returns-in-Go-clause-events : goal.returns-in-Go-clause-events
 returns-in-Go-clause-events g c = record { ledger = c.go.ensures.switched.ledger; meter = unmetered 35 c.go.result.1 _ _ c.go.ensures.goes_on c.go.ensures.switched.meter }
 
-pub returns-in-Off-clause-tree : goal.returns-in-Off-clause-tree
-returns-in-Off-clause-tree g c =
-    subst (λ (e : Event). KeepsItsTree c.args.self e reply.Off c.power_off.result) (sym c.in-Off.is)
-    (tree_goes 0 event.Off reply.Off (tree_of c.args.self) (tree_of c.power_off.result) refl refl)
+pub returns-in-Off-clause-trees : goal.returns-in-Off-clause-trees
+returns-in-Off-clause-trees g c =
+    subst (λ (e : Event). KeepsItsTrees c.args.self e reply.Off c.power_off.result) (sym c.in-Off.is)
+    (trees_go 0 event.Off reply.Off (trees_of c.args.self) (trees_of c.power_off.result) refl refl refl)
 
-pub returns-in-Tamper-clause-tree : goal.returns-in-Tamper-clause-tree
-returns-in-Tamper-clause-tree g c =
-    subst (λ (e : Event). KeepsItsTree c.args.self e reply.Tampered c.power_off-in-Tamper.result) (sym c.in-Tamper.is)
-    (tree_goes 0 event.Tamper reply.Tampered (tree_of c.args.self) (tree_of c.power_off-in-Tamper.result) refl refl)
+pub returns-in-Tamper-clause-trees : goal.returns-in-Tamper-clause-trees
+returns-in-Tamper-clause-trees g c =
+    subst (λ (e : Event). KeepsItsTrees c.args.self e reply.Tampered c.power_off-in-Tamper.result) (sym c.in-Tamper.is)
+    (trees_go 0 event.Tamper reply.Tampered (trees_of c.args.self) (trees_of c.power_off-in-Tamper.result) refl refl refl)
 
-pub returns-in-Cut-clause-tree : goal.returns-in-Cut-clause-tree
-returns-in-Cut-clause-tree g c =
-    subst (λ (e : Event). KeepsItsTree c.args.self e reply.Armed c.args.self) (sym c.in-Cut.is)
-    (tree_stays c.args.self c.args.self c.args.self (event.Cut c.in-Cut.count c.in-Cut.tear) reply.Armed refl refl tt)
+pub returns-in-Cut-clause-trees : goal.returns-in-Cut-clause-trees
+returns-in-Cut-clause-trees g c =
+    subst (λ (e : Event). KeepsItsTrees c.args.self e reply.Armed c.args.self) (sym c.in-Cut.is)
+    (trees_stay c.args.self c.args.self c.args.self (event.Cut c.in-Cut.count c.in-Cut.tear) reply.Armed refl refl tt)
 
-pub returns-in-Status-clause-tree : goal.returns-in-Status-clause-tree
-returns-in-Status-clause-tree g c =
-    subst (λ (e : Event). KeepsItsTree c.args.self e c.status-reply.result c.args.self) (sym c.in-Status.is)
-    (tree_stays c.args.self c.args.self c.args.self event.Status c.status-reply.result refl refl tt)
+pub returns-in-Status-clause-trees : goal.returns-in-Status-clause-trees
+returns-in-Status-clause-trees g c =
+    subst (λ (e : Event). KeepsItsTrees c.args.self e c.status-reply.result c.args.self) (sym c.in-Status.is)
+    (trees_stay c.args.self c.args.self c.args.self event.Status c.status-reply.result refl refl tt)
 
 pub returns-in-Boot-clause-again : goal.returns-in-Boot-clause-again
 returns-in-Boot-clause-again g c = λ own. absurd (subst (λ (e : Event). HasTreeFor c.args.self e) c.in-Boot.is own)
 
 pub returns-in-Command-clause-again : goal.returns-in-Command-clause-again
 returns-in-Command-clause-again g c = λ own. absurd (subst (λ (e : Event). HasTreeFor c.args.self e) c.in-Command.is own)
+
+pub returns-in-Boot-clause-order : goal.returns-in-Boot-clause-order
+returns-in-Boot-clause-order g c = λ before world sound same leaves. absurd (subst (LeavesKeyOf world) c.in-Boot.is leaves)
+
+pub returns-in-Off-clause-order : goal.returns-in-Off-clause-order
+returns-in-Off-clause-order g c = λ before world sound same leaves. absurd (subst (LeavesKeyOf world) c.in-Off.is leaves)
+
+pub returns-in-Tamper-clause-order : goal.returns-in-Tamper-clause-order
+returns-in-Tamper-clause-order g c = λ before world sound same leaves. absurd (subst (LeavesKeyOf world) c.in-Tamper.is leaves)
+
+pub returns-in-Cut-clause-order : goal.returns-in-Cut-clause-order
+returns-in-Cut-clause-order g c = λ before world sound same leaves. absurd (subst (LeavesKeyOf world) c.in-Cut.is leaves)
+
+pub returns-in-Status-clause-order : goal.returns-in-Status-clause-order
+returns-in-Status-clause-order g c = λ before world sound same leaves. absurd (subst (LeavesKeyOf world) c.in-Status.is leaves)
+
+pub returns-in-Go-clause-order : goal.returns-in-Go-clause-order
+returns-in-Go-clause-order g c = λ before world sound same leaves. absurd (subst (LeavesKeyOf world) c.in-Go.is leaves)
+
+pub returns-in-Put-clause-order : goal.returns-in-Put-clause-order
+returns-in-Put-clause-order g c = λ before world sound same leaves. absurd (subst (LeavesKeyOf world) c.in-Put.is leaves)
+
+pub returns-in-Get-clause-order : goal.returns-in-Get-clause-order
+returns-in-Get-clause-order g c = λ before world sound same leaves. absurd (subst (LeavesKeyOf world) c.in-Get.is leaves)
+
+pub returns-in-Drop-clause-order : goal.returns-in-Drop-clause-order
+returns-in-Drop-clause-order g c = λ before world sound same leaves. absurd (subst (LeavesKeyOf world) c.in-Drop.is leaves)
+
+pub returns-in-Sign-clause-order : goal.returns-in-Sign-clause-order
+returns-in-Sign-clause-order g c = λ before world sound same leaves. absurd (subst (LeavesKeyOf world) c.in-Sign.is leaves)
+
+pub returns-in-Command-clause-order : goal.returns-in-Command-clause-order
+returns-in-Command-clause-order g c = λ before world sound same leaves.
+    let at : held_in (g.B.Board.seen c.args.b.now) ≡ before = subst (λ (e : Event). held_in (g.B.Board.seen c.args.b.now) ≡ taken e before) c.in-Command.is same in
+    let own : IsSoundDevice c.args.self (held_in (g.B.Board.seen c.args.b.now)) world = subst (λ (h : Held). IsSoundDevice c.args.self h world) (sym at) sound in
+    c.command.ensures.order world own
+    (subst (λ (text : List ℕ). (state : State) → world.state ≡ Some state → LeavesDeviceKey state text) (sym c.as_slice.ensures) (subst (LeavesKeyOf world) c.in-Command.is leaves))

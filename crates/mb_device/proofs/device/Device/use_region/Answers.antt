@@ -7,7 +7,7 @@ use Rattle.mb_device.specs.Sound.{IsSoundDevice}
 use Rattle.mb_device.proofs.Worlds.{awake_off, awake_dead}
 use Rattle.mb_device.proofs.Steps.{refuses_as}
 use Rattle.mb_device.proofs.Uses.{use_asleep, use_refused, named_three}
-use Rattle.mb_device.proofs.Trees.{tree_refused}
+use Rattle.mb_device.proofs.Trees.{trees_refused}
 use Rattle.mb_device.proofs.device.Device.use_region.Goals as goal
 
 pub returns-in-Off-clause-steps : goal.returns-in-Off-clause-steps
@@ -33,11 +33,11 @@ use_at-requires-else-region-eq2-2-clause-region g c = named_three c.args.event.n
 pub use_at-requires-else-region-eq2-3-clause-region : goal.use_at-requires-else-region-eq2-3-clause-region
 use_at-requires-else-region-eq2-3-clause-region g c = named_three c.args.event.now c.args.region c.requires.event c.requires.script c.requires.region c.if-region-eq2-3.false
 
-pub returns-in-Off-clause-tree : goal.returns-in-Off-clause-tree
-returns-in-Off-clause-tree g c = tree_refused c.args.self (device.Off c.in-Off.off) (device.Off c.in-Off.off) c.args.event.now c.reply.result PoweredOff c.in-Off.is refl c.reply.ensures
+pub returns-in-Off-clause-trees : goal.returns-in-Off-clause-trees
+returns-in-Off-clause-trees g c = trees_refused c.args.self (device.Off c.in-Off.off) (device.Off c.in-Off.off) c.args.event.now c.reply.result PoweredOff c.in-Off.is refl c.reply.ensures
 
-pub returns-in-Dead-clause-tree : goal.returns-in-Dead-clause-tree
-returns-in-Dead-clause-tree g c = tree_refused c.args.self (device.Dead c.in-Dead.dead) (device.Dead c.in-Dead.dead) c.args.event.now c.reply-in-Dead.result Zeroised c.in-Dead.is refl c.reply-in-Dead.ensures
+pub returns-in-Dead-clause-trees : goal.returns-in-Dead-clause-trees
+returns-in-Dead-clause-trees g c = trees_refused c.args.self (device.Dead c.in-Dead.dead) (device.Dead c.in-Dead.dead) c.args.event.now c.reply-in-Dead.result Zeroised c.in-Dead.is refl c.reply-in-Dead.ensures
 
-pub returns-then-region-eq2-3-clause-tree : goal.returns-then-region-eq2-3-clause-tree
-returns-then-region-eq2-3-clause-tree g c = tree_refused c.args.self (device.Three c.in-Three.up c.in-Three.running) (device.Three c.in-Three.up c.in-Three.running) c.args.event.now c.reply-then-region-eq2-3.result WrongLayer c.in-Three.is refl c.reply-then-region-eq2-3.ensures
+pub returns-then-region-eq2-3-clause-trees : goal.returns-then-region-eq2-3-clause-trees
+returns-then-region-eq2-3-clause-trees g c = trees_refused c.args.self (device.Three c.in-Three.up c.in-Three.running) (device.Three c.in-Three.up c.in-Three.running) c.args.event.now c.reply-then-region-eq2-3.result WrongLayer c.in-Three.is refl c.reply-then-region-eq2-3.ensures
