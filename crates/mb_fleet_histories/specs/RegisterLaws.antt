@@ -112,8 +112,8 @@ HashesTellOfEntries =
     (one other : List Entry) → AgreeSoFar (map entry_hash one) (map entry_hash other)
     → AgreeSoFar (spelled_entries one) (spelled_entries other) ⊎ Collision
 
--- So a log that has parted from one that was shown, as after the use of an old image, is answered as a fork, or here
--- are two texts with one hash.
+-- A log that has parted from one that was shown, as after the use of an old image, is answered as a fork, or here are
+-- two texts with one hash.
 abbrev pub PartedLogsAreCaught : Type 0
 PartedLogsAreCaught =
     (maker : PublicKey) (one other : Row) (answer : Answer) (shown parted : List Entry) → IsRowOf shown one

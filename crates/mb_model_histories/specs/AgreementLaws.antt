@@ -95,7 +95,7 @@ NothingIsOfNoDevice =
     (maker : PublicKey) → AreGood maker [] × IsHonestAmong [] maker []
     × ((log : List SignedEntry) → Contains [] log → ⊥)
 
--- For one device alone, this is what it means that no entry was forged.
+-- For one device alone, `IsHonestAmong` says the same as `Honest`.
 abbrev pub HonestAmongOneIsHonest : Type 0
 HonestAmongOneIsHonest =
     (log : List SignedEntry) (maker : PublicKey) (entries : List SignedEntry)
@@ -116,8 +116,8 @@ UnruledLivesMayNot =
     (log more : List Entry) × (key_number : ℕ)
     × ((rest : List Configuration) → lives_of (log ++ more) key_number ≡ lives_of log key_number ++ rest → ⊥)
 
--- So of two accepted chains, one of which is a prefix of the other, the shorter has the first of the configurations
--- listed that the longer has, and no other.
+-- Of two accepted chains, one of which is a prefix of the other, the shorter has the first of the configurations listed
+-- that the longer has, and no other.
 abbrev pub ShortenedChainsListLess : Type 0
 ShortenedChainsListLess =
     (maker root : PublicKey) (short long : List ℕ) (key_number : ℕ) (one other : Report)

@@ -139,7 +139,7 @@ AreInTurn first (turn ∷ turns) last =
     × ((next : Image) × IsNextImage (image_of turn.final.memory) next.bytes
     × IsWellFormed next.bytes next.state × AreInTurn next turns last)
 
--- Such calls are a history, from the state of the first image to that of the last.
+-- Calls of the program one after another are a history, from the state of the first image to that of the last.
 abbrev pub TurnsAreHistories : Type 0
 TurnsAreHistories =
     (first last : Image) (turns : List Turn) → AreInTurn first turns last

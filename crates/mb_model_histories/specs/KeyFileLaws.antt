@@ -51,7 +51,8 @@ SigningUsesUpItsIndex =
     after
     ending.status
 
--- So it is with a call of `countersign`.
+-- A call of `countersign` leaves KEY as it was and signs nothing, or uses up one index of it before the signature is
+-- written, or KEY could not be written.
 abbrev pub CountersigningUsesUpItsIndex : Type 0
 CountersigningUsesUpItsIndex =
     (names : CountersignNames) (ending : Ended) (before after : Files) (bytes : List ℕ) (key : Keyfile)
@@ -73,7 +74,7 @@ AreIndicesInTurn first [] last = last ≡ first
 AreIndicesInTurn first (index ∷ indices) last =
     (index ≡ first.next) × AreIndicesInTurn (keyfile_after_use first) indices last
 
--- They ascend, so that no two calls sign at one index.
+-- The indices of calls one after another ascend, so that no two calls sign at one index.
 abbrev pub IndicesInTurnDiffer : Type 0
 IndicesInTurnDiffer =
     (first last : Keyfile) (indices : List ℕ) → AreIndicesInTurn first indices last

@@ -59,7 +59,8 @@ pub record HasDerivedKeys (state : State) : Type 0 where
   pub two : All (IsDerived state.serial) state.two.keys
   pub three : All (IsDerived state.serial) state.three.keys
 
--- So it is with each key of a device, whatever its history from its birth on.
+-- Each key in a region of a device was derived from a draw, the device's serial and its own number, whatever the
+-- history from the birth on.
 abbrev pub KeysAreDerived : Type 0
 KeysAreDerived =
     (maker : KeySeed) (index : ℕ) (owner : PublicKey) (code noise : List ℕ) (runs : List (List Answered)) (live : State)

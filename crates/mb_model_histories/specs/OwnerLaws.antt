@@ -37,7 +37,7 @@ OnlyOrdersChange =
     → here.state ≡ Some before → next.state ≡ Some after
     → KeepsAllButRegions before after ⊎ ((order : Order) × ObeysAt here this next order)
 
--- Never both: an order that is obeyed makes the log longer.
+-- An order that is obeyed makes the log longer. So no step both keeps all but the regions and obeys an order.
 abbrev pub ObeyedOrdersAreLogged : Type 0
 ObeyedOrdersAreLogged =
     (here next : World) (this : Event) (order : Order) (before after : State) → ObeysAt here this next order
@@ -163,8 +163,8 @@ ValuesAreAdmitted =
     (here next : World) (layer : ℕ) (name value : List ℕ) → Valid here.state
     → Step here (Get layer name) (reply.Value value) next → ReadsSecret here layer name value
 
--- Of a state that no device can have this does not hold: there is one in which a `get` answers the value of a secret
--- that was kept over a change which its layer did not admit.
+-- There is a state, one that no device can have, in which a `get` answers the value of a secret that was kept over a
+-- change which its layer did not admit.
 abbrev pub InvalidStatesReadMore : Type 0
 InvalidStatesReadMore =
     (here : World) × (layer : ℕ) × (name : List ℕ) × (value : List ℕ)

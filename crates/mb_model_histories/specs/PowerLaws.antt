@@ -100,7 +100,7 @@ OneChoiceACut =
     × ((left : World) → Step world this reply.Stopped left
     ↔ ((left ≡ opening_world world.state) ⊎ (left ≡ opening_world whole.state)))
 
--- Both do come: a `put` into an empty region at which power fails has been done or not.
+-- Both worlds of a power loss do come: a `put` into an empty region at which power fails has been done, or has not.
 abbrev pub EitherIsLeft : Type 0
 EitherIsLeft =
     (state : State) (name value : List ℕ) → is_runnable state.layers 2 ≡ true

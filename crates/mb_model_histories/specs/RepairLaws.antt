@@ -113,7 +113,8 @@ LayersCanAlwaysBeRecovered =
     → HasKeyOf state (layer - 1) keyfile → CanBeLoaded payload → length state.log + 2 ≤ ENTRY_LIMIT
     → CanBeGiven here state (plain_order keyfile layer (act.Emergency payload)) draw
 
--- It can give layer 2 or 3 an owner, if it has none, as long as the log has room for two entries.
+-- The owner of the layer beneath can give layer 2 or 3 an owner, if it has none, as long as the log has room for two
+-- entries.
 abbrev pub LayersCanAlwaysBeGiven : Type 0
 LayersCanAlwaysBeGiven =
     (here : World) (state : State) (layer : ℕ) (keyfile : Keyfile) (owner : PublicKey) (trust : Trusts)

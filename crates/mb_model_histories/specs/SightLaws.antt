@@ -142,7 +142,7 @@ ChainsTellOfTheLogAlone =
     (names : ChainNames) (one other : State) (past : Past) (ending : Ended) → one.log ≡ other.log
     → CommandEnds (chain_of names (Some one)) past ending → CommandEnds (chain_of names (Some other)) past ending
 
--- Of the log it tells all: two devices with one chain have one log.
+-- A chain tells all of the log: two devices with one chain have one log.
 abbrev pub ChainsTellOfTheWholeLog : Type 0
 ChainsTellOfTheWholeLog =
     (one other : State) (chain : Chain) → IsChainOf one chain → IsChainOf other chain → one.log ≡ other.log

@@ -73,13 +73,13 @@ FullLogsObeyNothing =
 
 -- ---- loads without targets
 
--- an order that passes now: a load without targets
+-- the order is a load without targets, ordinary or emergency, and passes in this state
 pub record IsFreeLoad (state : State) (order : Order) : Type 0 where
   pub passes : Passes (view_of state) order
   pub free : order.targets ≡ []
   pub load : IsTrue (is_load (change_by order))
 
--- The load of layer 1 by its owner is one, unless the owner gives it a target.
+-- The load of layer 1 that its owner signs without targets is such an order.
 abbrev pub PlainLoadsAreFree : Type 0
 PlainLoadsAreFree =
     (state : State) (keyfile : Keyfile) (payload : Payload) → IsValidState state → HasKeyOf state 1 keyfile
@@ -99,8 +99,8 @@ pub record IsFilledFor (order : Order) (state : State) : Type 0 where
   pub nearly : ENTRY_LIMIT ≤ length state.log + 1
   pub wholly : renews (change_by order) order.layer ≡ true → ENTRY_LIMIT ≤ length state.log
 
--- So the bytes of one such order, given again and again, fill the log until it has no room for the order. Whoever holds
--- them can see to it that the device obeys at most one order more, and none if it is an ordinary load of layer 1.
+-- The bytes of one load without targets, given again and again, fill the log until it has no room for the load. Whoever
+-- holds them can see to it that the device obeys at most one order more, and none if it is an ordinary load of layer 1.
 abbrev pub OneFreeLoadFillsTheLog : Type 0
 OneFreeLoadFillsTheLog =
     (here : World) (state : State) (order : Order) (text draw : List ℕ) → here.phase ≡ ratchet 1

@@ -23,7 +23,7 @@ looks_at_end key_lives = true
 looks_at_end has_message = true
 looks_at_end _ = false
 
--- no test of the item does
+-- no test of the item depends on the end of the chain
 abbrev pub IsBlindToEnd : PolicyItem → Type 0
 IsBlindToEnd (set_item set) = Unit {0}
 IsBlindToEnd (rule_item rule) = looks_at_end rule.test ≡ false
@@ -34,7 +34,7 @@ pub record IsShortened (short long : Report) : Type 0 where
   pub rest : List Configuration
   pub lives : long.lives ≡ short.lives ++ rest
 
--- What such a policy allows by a report, it allows by each shortened one.
+-- What a policy allows by a report, it allows by each shortened one, if no test of it depends on the end.
 abbrev pub ShortenedReportsStayAllowed : Type 0
 ShortenedReportsStayAllowed =
     (items : List PolicyItem) (short long : Report) → All IsBlindToEnd items → IsShortened short long
@@ -47,7 +47,7 @@ ShortenedChainsShortenReports =
     → (accepts : Accepts maker short key_number one) (accepts_long : Accepts root long key_number other)
     → IsPrefixOf (entries_of accepts.chain.entries) (entries_of accepts_long.chain.entries) → IsShortened one other
 
--- That no test looks at the end cannot be left out: a policy with `last` allows a report of two configurations, and
+-- That no test depends on the end cannot be left out: a policy with `last` allows a report of two configurations, and
 -- denies that of the first alone.
 abbrev pub EndsMatter : Type 0
 EndsMatter =
@@ -57,7 +57,8 @@ EndsMatter =
     IsShortened short small_report × IsJudged items small_report judgement.Allowed
     × (IsJudged items short judgement.Allowed → ⊥)
 
--- Nor does it hold the other way round: a host can have a key allowed by leaving out a configuration that is denied.
+-- A host can have a key allowed by leaving out a configuration that is denied: what a policy allows by a shortened
+-- report, it need not allow by the whole.
 abbrev pub ShorteningCanAllow : Type 0
 ShorteningCanAllow =
     let items : List PolicyItem = allow_rule (codes "birth") comes_first ∷ [] in

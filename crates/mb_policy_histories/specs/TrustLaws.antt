@@ -44,7 +44,7 @@ pub record AllowsKey (names : TrustNames) (before after : Outside) : Type 0 wher
   pub judged : IsJudged items report judgement.Allowed
   pub printed : Prints (line_with_lf (codes "allowed")) (read_once (read_once (read_once before))) after
 
--- At status 0 `trust` has read and printed this.
+-- At status 0 `trust` has read a chain that is accepted and a policy that allows its report, and has printed `allowed`.
 abbrev pub DoneTrustAllows : Type 0
 DoneTrustAllows =
     (names : TrustNames) (ending : Ended) → CommandEnds (trust names) at_first ending → ending.status ≡ 0
