@@ -1,13 +1,15 @@
 #!/usr/bin/env bash
-# Tries the program on files and an output that fail, and compares its lines and statuses: run.sh [PROGRAM]. With no
-# PROGRAM it proves and builds the program first. Works from any current folder; beside that build it writes in a
-# temporary folder alone, which it removes, or in the new folder that KEEP_IN names. It needs Linux, for /dev/full.
+# Tries the program on files and an output that fail, and on files that are locked or left behind, and compares its
+# lines and statuses and what it tells on standard error: run.sh [PROGRAM]. With no PROGRAM it proves and builds the
+# program first. Works from any current folder; beside that build it writes in a temporary folder alone, which it
+# removes, or in the new folder that KEEP_IN names. It needs Linux, for /dev/full and flock.
 set -euo pipefail
 export LC_ALL=C
 
 here=$(cd "$(dirname "${BASH_SOURCE[0]}")" && pwd)
 # shellcheck source=../begin.sh
 . "$here/../begin.sh"
+need flock stat
 find_or_build "$@"
 cd "$work"
 
@@ -25,14 +27,25 @@ compare() {
     fi
 }
 
-# Runs the program with these words, and compares its status and what it printed.
+# Runs the program with these words, and compares its status and what it printed. A read or a write that failed, and
+# nothing else, is told on standard error, on one line.
 try() {
-    local name=$1 status=$2 line=$3 found=0
+    local name=$1 status=$2 line=$3 found=0 lines=0
     shift 3
-    "$program" "$@" >printed || found=$?
+    "${before[@]}" "$program" "$@" >printed 2>told || found=$?
     compare "$name, status" "$found" "$status"
     compare "$name, line" "$(cat printed)" "$line"
+    case $status in 4 | 5) lines=1 ;; esac
+    compare "$name, lines told" "$(wc -l <told)" "$lines"
 }
+
+# Compares what was told last.
+compare_told() {
+    compare "$1, what is told" "$(cat told)" "miniboot: $2"
+}
+
+# what runs the program
+before=()
 
 # Whether the key of 32 bytes of zeros and its public key are there. The public key's hash is the one that was printed.
 compare_key() {
@@ -61,11 +74,14 @@ compare_key 'the longest noise'
 try 'noise that is too long' 3 'input noise too long' keygen too-long key public
 try 'noise that is too short' 3 'input noise length' keygen short key public
 try 'no file of the name' 4 'read failed noise' keygen none key public
+compare_told 'no file of the name' 'none: No such file or directory'
 try 'a folder as the noise' 4 'read failed noise' keygen folder key public
+compare_told 'a folder as the noise' 'folder: Is a directory'
 compare 'no output' "$(ls -d key public 2>/dev/null || true)" ''
 
 # Outputs. Those before the one that fails are written.
 try 'a full device as the key' 5 'write failed key' keygen noise /dev/full public
+compare_told 'a full device as the key' '/dev/full: No space left on device'
 try 'a folder as the key' 5 'write failed key' keygen noise folder public
 try 'no folder for the key' 5 'write failed key' keygen noise none/key public
 compare 'no public key' "$(ls -d public 2>/dev/null || true)" ''
@@ -113,22 +129,51 @@ try 'over the order itself' 0 'index 5' countersign key 3 both both
 compare 'the last index' "$(next_of key)" 00000006
 rm -f key
 
+# A key that another command has read, or is replacing, and one that is the output too.
+cp first-key key
+before=(flock -s key)
+try 'a key that is being read' 5 'write failed key' sign key surrender order
+compare_told 'a key that is being read' 'key: in use by another command'
+before=(flock key)
+try 'a key that is being replaced' 4 'read failed key' sign key surrender order
+compare_told 'a key that is being replaced' 'key: in use by another command'
+before=()
+compare 'no index is used' "$(next_of key)" 00000000
+try 'the key as the order' 5 'write failed out' sign key surrender key
+compare_told 'the key as the order' 'key: moved or replaced since it was read'
+compare 'one index is lost, and not the key' "$(next_of key)" 00000001
+
+# What a killed command has left is removed. A file keeps its mode, and a new one is its owner's alone.
+echo half >key.miniboot-new
+chmod 640 key
+rm -f order
+umask 022
+try 'a key with a draft beside it' 0 'index 1' sign key surrender order
+compare 'no draft' "$(ls -d ./*.miniboot-new 2>/dev/null || true)" ''
+compare 'the modes' "$(stat -c %a key) $(stat -c %a order)" '640 600'
+ln key second-name
+try 'a key with two names' 5 'write failed key' sign key surrender order
+compare 'no index is used of either' "$(next_of key)$(next_of second-name)" 0000000200000002
+rm -f key second-name
+
 # Standard output that takes nothing, and one that is closed. The outputs are written before the line.
 status=0
-"$program" keygen noise key public >/dev/full || status=$?
+"$program" keygen noise key public >/dev/full 2>told || status=$?
 compare 'a full standard output, status' "$status" 5
+compare_told 'a full standard output' 'standard output: No space left on device'
 compare_key 'a full standard output'
 status=0
-"$program" keygen noise key public >&- || status=$?
+"$program" keygen noise key public >&- 2>told || status=$?
 compare 'a closed standard output, status' "$status" 5
+compare_told 'a closed standard output' 'standard output: Bad file descriptor'
 compare_key 'a closed standard output'
 status=0
-"$program" --version >/dev/full || status=$?
+"$program" --version >/dev/full 2>told || status=$?
 compare 'the version to a full device, status' "$status" 5
 cp first-key key
 rm -f order
 status=0
-"$program" sign key surrender order >/dev/full || status=$?
+"$program" sign key surrender order >/dev/full 2>told || status=$?
 compare 'an index to a full device, status' "$status" 5
 compare 'the key and the order before it' "$(next_of key)$(wc -l <order)" 000000011
 
