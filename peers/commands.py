@@ -81,12 +81,13 @@ class Call:
     """A command at work over a folder."""
 
     def __init__(self, folder, workloads):
-        self.folder, self.workloads, self.written = folder, workloads, {}
+        self.folder, self.workloads, self.written, self.names_read = folder, workloads, {}, set()
 
     def read(self, role, name):
         bytes_ = self.folder.content(name)
         if bytes_ is None:
             raise Ended(4, f"read failed {role}")
+        self.names_read.add(name)
         if len(bytes_) > LONGEST_FILE:
             raise Ended(3, f"input {role} too long")
         return bytes_
@@ -126,7 +127,9 @@ class Call:
         return bytes_
 
     def write(self, role, name, bytes_):
-        """Writes an output; after a failed one its file may hold anything."""
+        """Writes an output; after a failed one its file may hold anything. A file that was read is replaced once."""
+        if name in self.names_read and name in self.written:
+            raise Ended(5, f"write failed {role}")
         if not self.folder.takes(name, bytes_):
             self.written[name] = None
             raise Ended(5, f"write failed {role}")

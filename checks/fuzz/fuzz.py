@@ -107,7 +107,7 @@ class Untold(Exception):
 def wrong_in(case, answer, found, after, folders):
     """What is wrong with a call, or None."""
     status, printed, errors = found
-    if errors:
+    if not is_told(case, status, errors.splitlines()):
         return f"on standard error: {errors}"
     if folders != case.folders:
         return f"there are the folders {sorted(folders)}, and not {sorted(case.folders)}"
@@ -116,6 +116,12 @@ def wrong_in(case, answer, found, after, folders):
     if status != answer.status or not (case.is_full or answer.prints(printed)):
         return f"status {status}, {printed!r}, and not {answer.status}, {texts_of(answer)}"
     return wrong_files(case, answer.written, after)
+
+
+def is_told(case, status, lines):
+    """Whether a read or a write that failed is told on one line, and a print that failed on one more."""
+    least, most = int(status in (4, 5)), int(status in (4, 5)) + int(case.is_full)
+    return least <= len(lines) <= most and all(line.startswith("miniboot: ") for line in lines)
 
 
 def texts_of(answer):

@@ -389,7 +389,8 @@ class Worker:
                 timeout=GIVEN_UP,
                 preexec_fn=None if trial.limit is None else begin,
             )
-        return done.returncode, ((done.stdout or b"") + done.stderr).decode(errors="replace")
+        texts = [(text or b"").decode(errors="replace") for text in (done.stdout, done.stderr)]
+        return (done.returncode, texts[0]), texts[1].splitlines()
 
     def usual(self, trial):
         """The files that the command of a trial writes if no call fails: as peers/commands.py says, but for `run`,
@@ -425,7 +426,7 @@ class Worker:
         usual = self.usual(trial) if trial.done else {}
         before = self.before(trial.changes)
         try:
-            found = self.run(trial)
+            found, told = self.run(trial)
         except subprocess.TimeoutExpired:
             return f"{trial.command.words}: no end after {GIVEN_UP} s"
         finally:
@@ -443,6 +444,9 @@ class Worker:
             ends, wanted = (answer.status, answer.text), wanted | answer.written
         if found != ends and (ends or found[0] != 0):
             return f"{self.told(trial)}: {found[0]}, {found[1][:100]!r}, and not {ends or 0}"
+        # a call of the host that failed is told on one line of standard error
+        if len(told) != (found[0] in (4, 5)) or not all(line.startswith("miniboot: ") for line in told):
+            return f"{self.told(trial)}: on standard error {told}"
         other = {name for name in after | wanted if name not in free and after.get(name) != wanted.get(name)}
         return f"{self.told(trial)}: {sorted(other)} are not what they should be" if other else None
 
