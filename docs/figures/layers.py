@@ -21,7 +21,7 @@ ROWS = [
         "mb_cert", "mb_script", "mb_command", "mb_segments", "mb_layout_edits", "mb_layout"]),
     ("signatures", "#f4f5f7", ["mb_hss", "mb_signer", "mb_lms"]),
     ("fields and words", "#f4f5f7", ["mb_words", "mb_bytes"]),
-    ("the world outside", "#f1e7f2", ["mb_host", "mb_board", "mb_ratchet"]),
+    ("the world outside", "#f1e7f2", ["mb_files", "mb_host", "mb_board", "mb_ratchet"]),
     ("definitions", "#f1e7f2", ["mb_model", "mb_format"]),
 ]
 LEMMAS, TESTS, LAWS = "mb_model_", "mb_test_", "_histories"
