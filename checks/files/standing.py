@@ -11,7 +11,7 @@ import time
 from world import DRAFT, HSS_SIGNATURE, SIGN, Wrong
 
 # for how long a lock is held that is shorter than a command tries
-MOMENT = 0.3
+MOMENT = 0.1
 NOBODY = 65_534
 # the files that a case may make
 MADE = "key kept other moved out made public piped target printed nowhere folder load".split()
