@@ -6,8 +6,9 @@
 # with how often it was tried, and a line for each part that cannot be tried here: at each call needs strace, and a
 # power cut needs a loop device and leave to mount. The last line counts what was tried, the indices that two signatures
 # got, and the files that were lost: empty, short, unreadable or older than what was handed out. Fails if there is one,
-# or if a command ends or leaves a file otherwise than it should. With --short it tries a few of each, which takes less
-# than 20 seconds. With -j N it works on N worlds at a time.
+# or if a command ends or leaves a file otherwise than it should. With --short it runs a few commands at once, kills a
+# few at random moments, and tries all that stands in the way, which takes less than 20 seconds. With -j N it works on N
+# worlds at a time.
 set -euo pipefail
 export LC_ALL=C
 

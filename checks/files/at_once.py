@@ -27,6 +27,8 @@ def at_once(world, kinds):
         world.take(kind, number, end)
         judge(world, kind, end)
     done = sum(end.status == 0 for end in ended)
+    if done == 0:
+        world.tally.wrong.append(f"{kinds[0].name} at once: each of {len(kinds)} was refused")
     world.tally.tried += 1
     world.tally.end(f"{done} of {len(kinds)}")
 

@@ -23,8 +23,8 @@ import standing  # noqa: E402
 import stopped  # noqa: E402
 from world import KINDS, Tally, World, Wrong  # noqa: E402
 
-# how often each is tried, in full and with --short
-PAIRS, CROWDS, KILLS, CUTS = (200, 6), (40, 1), (420, 6), (20, 0)
+# how often each is tried, in full and with --short; power cuts are tried in full alone
+PAIRS, CROWDS, KILLS, CUTS = (200, 6), (40, 1), (420, 6), 20
 ROOM = 24 << 20
 
 
@@ -40,15 +40,15 @@ class Task:
 
 def tasks_of(is_short, shares):
     """The tasks, and the parts that cannot be tried here with the reasons."""
-    one = 1 if is_short else 0
+    which = 1 if is_short else 0
     lacks, tasks = {}, []
     for first, second in at_once.PAIRS:
         part = f"{first.name} and {second.name} at once"
-        tasks += [Task(part, ("pairs", first, second, share)) for share in shared(PAIRS[one], shares)]
-    tasks += [Task("eight at once sign", ("crowds", share)) for share in shared(CROWDS[one], shares)]
+        tasks += [Task(part, ("pairs", first, second, share)) for share in shared(PAIRS[which], shares)]
+    tasks += [Task("eight at once sign", ("crowds", share)) for share in shared(CROWDS[which], shares)]
     for kind in KINDS:
         part = f"{kind.name} killed at a random moment"
-        tasks += [Task(part, ("kills", kind, share)) for share in shared(KILLS[one], shares)]
+        tasks += [Task(part, ("kills", kind, share)) for share in shared(KILLS[which], shares)]
     tasks.append(Task("what stands in the way", ("cases",)))
     if is_short:
         return tasks, lacks
@@ -78,7 +78,7 @@ def of_disks():
     for kind in KINDS:
         yield Task("a full disk", ("full_disks", kind), True)
     for kind in power.KINDS:
-        yield Task(f"power lost after {kind.name}", ("cuts", kind, CUTS[0]))
+        yield Task(f"power lost after {kind.name}", ("cuts", kind, CUTS))
 
 
 # ---- one task
