@@ -1,4 +1,4 @@
-//! Which file of the system it is, whatever its name.
+//! Files of the system told apart, whatever their names.
 
 use std::fs::{File, Metadata};
 use std::os::unix::fs::MetadataExt;

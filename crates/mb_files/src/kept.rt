@@ -31,7 +31,8 @@ struct ReadName {
     identity: Identity,
 }
 
-/// The files that this process has read. Each lock is shared with other readers, and held until the process ends.
+/// The files that this process has read. Each lock is shared with other readers, and held until this value is dropped,
+/// at the latest at the end of the process.
 #[derive(Drop)]
 pub(crate) struct KeptFiles {
     files: Vec<KeptFile>,

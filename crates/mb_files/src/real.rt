@@ -15,8 +15,9 @@ use std::io;
 
 /// The files and the standard output of a runtime. Contracts see its counts alone, and none of its contents.
 ///
-/// What the system says of each read and write that fails, and of the first print, is told on standard error, on one
-/// line.
+/// A file that was read stays locked until the host is dropped. A file is replaced whole, and is on the disk once its
+/// write is Ok; a pipe, a terminal and a device are written as they stand. What the system says of each read and write
+/// that fails, and of the first print that fails, is told on standard error, on one line.
 #[derive(Drop)]
 pub struct RealHost<'a, R> {
     runtime: &'a R,
