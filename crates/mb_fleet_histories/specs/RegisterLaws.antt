@@ -132,6 +132,7 @@ IsHonestChain maker log bytes =
     (chain : Chain) → Spells chain_format bytes chain → AreGood maker chain.entries
     → serial_of (entries_of chain.entries) ≡ serial_of (entries_of log) → Honest chain.entries maker (entries_of log)
 
+-- if the item shows a chain with the serial of this log, no entry of the chain was forged; a question shows none
 abbrev pub IsHonestItem : PublicKey → List SignedEntry → Item → Type 0
 IsHonestItem maker log (Show bytes) = IsHonestChain maker log bytes
 IsHonestItem maker log (Find layer hash) = Unit {0}

@@ -54,7 +54,7 @@ OneNoiseMakesOneKey =
 abbrev pub IsDerived : List ℕ → RegionKey → Type 0
 IsDerived serial key = (draw : List ℕ) × (key.seed ≡ born_key draw serial key.number)
 
--- each key of a region was
+-- each key in a region of the state was derived from a draw, the state's serial and its own number
 pub record HasDerivedKeys (state : State) : Type 0 where
   pub two : All (IsDerived state.serial) state.two.keys
   pub three : All (IsDerived state.serial) state.three.keys

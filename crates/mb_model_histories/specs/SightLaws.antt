@@ -69,9 +69,11 @@ HiddenSecrets = ℕ → List ℕ → Bool
 abbrev pub veiled_value : Bool → List ℕ → List ℕ
 veiled_value hidden value = if hidden then [] else value
 
+-- the secret, with an empty value if it is hidden by its name
 abbrev pub veiled_secret : (List ℕ → Bool) → Secret → Secret
 veiled_secret hidden secret = record secret { value = veiled_value (hidden secret.name) secret.value }
 
+-- the region, with empty values in place of those that are hidden by their names
 abbrev pub veiled_region : (List ℕ → Bool) → Region → Region
 veiled_region hidden region = record region { secrets = map (veiled_secret hidden) region.secrets }
 
@@ -82,10 +84,11 @@ veiled_state hidden state = record state {
   three = veiled_region (hidden 3) state.three;
 }
 
+-- the world, with empty values in place of the hidden ones in its state
 abbrev pub veiled_world : HiddenSecrets → World → World
 veiled_world hidden world = with_changed_state (veiled_state hidden) world
 
--- the event: a `put` of a hidden secret has an empty value
+-- the event, with an empty value if it is a `put` of a hidden secret
 abbrev pub veiled_event : HiddenSecrets → Event → Event
 veiled_event hidden (event.Put layer name value) = event.Put layer name (veiled_value (hidden layer name) value)
 veiled_event hidden other = other
@@ -103,6 +106,7 @@ HiddenValuesAreNotSeen =
     → Step world this answer next
     → Step (veiled_world hidden world) (veiled_event hidden this) answer (veiled_world hidden next)
 
+-- the answered event, with an empty value if it is a `put` of a hidden secret
 abbrev pub veiled_answered : HiddenSecrets → Answered → Answered
 veiled_answered hidden this = record this { event = veiled_event hidden this.event }
 

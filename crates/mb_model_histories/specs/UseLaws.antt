@@ -70,7 +70,8 @@ KeysCanBeMade =
 -- ---- a statement
 
 -- After this world the device made a statement of the message, and its chain is accepted with it. No entry was forged,
--- and neither was the statement. This is all that a statement needs to have been made by the laws.
+-- and neither was the statement. With a first state that a device can have, which a factory image means, this is all
+-- that `AcceptedStatementsWereMade` asks for.
 pub record ShowsStatement (maker : PublicKey) (first : World) (message : List ℕ) : Type 0 where
   pub last : World
   pub live : State

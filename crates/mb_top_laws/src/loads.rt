@@ -3,8 +3,9 @@
 ghost use Rattle.mb_model.specs.Commands.{Ended};
 ghost use Rattle.mb_top_laws.specs.LoadLaws.{NothingIsLoaded, LoadsOnce, LoadsTwice};
 
-/// A command that serves no device loads no board. `run` and `generate` load one once, and `cutat` twice, if they are
-/// done; how often they have loaded it at each other status.
+/// A command that serves no device loads no board. If they are done, `run` and `generate` have loaded one once, and
+/// `cutat` twice. At status 3 and 4 they have loaded none; at a higher status none, or as often as if they were done,
+/// and `cutat` at status 6 also once.
 pub fn loads_are_counted()
     ensures none { (e : Ended) → NothingIsLoaded e }
     ensures once { (e : Ended) → LoadsOnce e }
