@@ -148,8 +148,8 @@ echo half >key.miniboot-new
 chmod 640 key
 rm -f order
 umask 022
-try 'a key with a draft beside it' 0 'index 1' sign key surrender order
-compare 'no draft' "$(ls -d ./*.miniboot-new 2>/dev/null || true)" ''
+try 'a key with a new file left beside it' 0 'index 1' sign key surrender order
+compare 'no new file left' "$(ls -d ./*.miniboot-new 2>/dev/null || true)" ''
 compare 'the modes' "$(stat -c %a key) $(stat -c %a order)" '640 600'
 ln key second-name
 try 'a key with two names' 5 'write failed key' sign key surrender order
