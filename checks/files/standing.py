@@ -18,7 +18,8 @@ MADE = "key kept other moved out made public piped target printed nowhere folder
 
 
 def wanted(ended, status, line, told=None):
-    """A call ended like this: what is told begins with the name and ends with these words, and is nothing without."""
+    """A call ended with this status and line. It told one line, which begins like this behind the program's name, or is
+    this with its LF; and nothing if this is None."""
     lines = ended.told.splitlines()
     is_told = not lines if told is None else len(lines) == 1 and f"{lines[0]}\n".startswith(f"miniboot: {told}")
     if ended.status != status or (line is not None and ended.line != line) or not is_told:

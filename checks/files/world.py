@@ -166,7 +166,7 @@ class World:
     # ---- the sample
 
     def make(self):
-        """Two officers, a maker, a device whose layer 2 has a key, chains of six devices, and an empty register."""
+        """Two officers, a maker, a device whose layer 2 has a key, chains of six devices, and a register of others."""
         for who in "one", "two", "maker":
             self.make_key(who)
         self.write("root", self.read("maker.public"))
