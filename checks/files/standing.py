@@ -1,4 +1,4 @@
-"""Links, devices, pipes, modes, names, locks and drafts that stand where a command reads or writes."""
+"""Links, devices, pipes, modes, names, locks and new files that stand where a command reads or writes."""
 
 import contextlib
 import fcntl
@@ -8,7 +8,7 @@ import subprocess
 import threading
 import time
 
-from world import DRAFT, HSS_SIGNATURE, SIGN, Wrong
+from world import HSS_SIGNATURE, NEW_FILE, SIGN, Wrong
 
 # for how long a lock is held that is shorter than a command tries
 MOMENT = 0.1
@@ -176,7 +176,7 @@ def close(streams):
         os.close(number)
 
 
-# ---- locks, drafts, and files that are moved meanwhile
+# ---- locks, new files, and files that are moved meanwhile
 
 
 @contextlib.contextmanager
@@ -202,32 +202,32 @@ def locks_are_tried_for_a_while(world):
     wanted(world.end(process), 0, "index 0\n")
 
 
-def left_drafts_are_removed(world):
-    world.write("key" + DRAFT, "half a key")
+def left_new_files_are_removed(world):
+    world.write("key" + NEW_FILE, "half a key")
     wanted(signs(world), 0, "index 0\n")
-    equal("the draft", world.read("key" + DRAFT), None)
+    equal("the new file", world.read("key" + NEW_FILE), None)
 
 
-def other_drafts_are_refused(world):
-    draft, words = world.path("key" + DRAFT), "what stands at its name with .miniboot-new is no regular file\n"
+def taken_names_are_refused(world):
+    taken, words = world.path("key" + NEW_FILE), "what stands at its name with .miniboot-new is no regular file\n"
     for make, remove in (
-        (lambda: draft.symlink_to("target"), draft.unlink),
-        (draft.mkdir, draft.rmdir),
-        (lambda: os.mkfifo(draft), draft.unlink),
+        (lambda: taken.symlink_to("target"), taken.unlink),
+        (taken.mkdir, taken.rmdir),
+        (lambda: os.mkfifo(taken), taken.unlink),
     ):
         world.write("target", "as it was")
         make()
         wanted(signs(world), 5, "write failed key\n", f"key: {words}")
         remove()
         equal("the next index and the target", (following(world), world.read("target")), (0, b"as it was"))
-    world.write("key" + DRAFT, "")
-    with locked(world, "key" + DRAFT, fcntl.LOCK_EX):
+    world.write("key" + NEW_FILE, "")
+    with locked(world, "key" + NEW_FILE, fcntl.LOCK_EX):
         wanted(signs(world), 5, "write failed key\n", "key: in use by another command\n")
 
 
 @contextlib.contextmanager
 def paused(world):
-    """A command that has read its key and waits for its draft. It goes on when the block ends."""
+    """A command that has read its key and waits for its draft, a pipe. It goes on when the block ends."""
     os.mkfifo(world.path("piped"))
     process = world.start(["sign", "key", "piped", "out"])
     with open(writer_of(world.path("piped")), "wb") as pipe:
@@ -290,8 +290,8 @@ CASES = (
     closed_streams_harm_no_file,
     locked_files_are_refused,
     locks_are_tried_for_a_while,
-    left_drafts_are_removed,
-    other_drafts_are_refused,
+    left_new_files_are_removed,
+    taken_names_are_refused,
     moved_keys_are_not_made_anew,
     replaced_keys_are_not_replaced,
     kept_keys_are_refused_to_others,
@@ -324,4 +324,4 @@ def clear(world):
             path.rmdir()
         else:
             path.unlink(missing_ok=True)
-        world.path(name + DRAFT).unlink(missing_ok=True)
+        world.path(name + NEW_FILE).unlink(missing_ok=True)

@@ -9,7 +9,7 @@ import signal
 import subprocess
 import time
 
-from world import DRAFT, KINDS, Wrong
+from world import KINDS, NEW_FILE, Wrong
 
 # the calls of the system that open, read, write, lock, sync, rename and close files; and those of memory among them
 TRACED, OF_MEMORY = "%file,%desc", {"execve", "mmap"}
@@ -50,7 +50,10 @@ def at_each_call(world, kind, how):
     for name, count in sorted(calls_of(world, kind).items()):
         for when in range(1, count + 1):
             number = world.prepare(kind)
-            after(world, kind, number, traced(world, kind, number, f"--inject={name}:{how}:when={when}"))
+            ended = traced(world, kind, number, f"--inject={name}:{how}:when={when}")
+            if name == "fsync" and how.startswith("error") and ended.status == 0:
+                raise Wrong(f"{kind.name} is done though its {when}. fsync failed")
+            after(world, kind, number, ended)
 
 
 def calls_of(world, kind):
@@ -99,8 +102,8 @@ def full_disks(world, kind):
         filler.unlink()
         if ended.line == f"write failed {kind.role}\n" and world.read(kind.state) != before:
             world.lose(f"{kind.name} on a full disk: {kind.state} is not as it was")
-        if world.path(kind.state + DRAFT).exists():
-            raise Wrong(f"{kind.name} on a full disk has left {kind.state + DRAFT}")
+        if world.path(kind.state + NEW_FILE).exists():
+            raise Wrong(f"{kind.name} on a full disk has left {kind.state + NEW_FILE}")
         world.tally.tried += 1
         world.take(kind, number, ended)
         world.call(kind)

@@ -18,7 +18,7 @@ IMAGE = chains.FLASH + chains.BBRAM
 SIGNATURE, PUBLIC = 2_348, 56
 HSS_SIGNATURE = 4 + 2 * SIGNATURE + PUBLIC
 # what stands behind the name of a file while a new one is written
-DRAFT = ".miniboot-new"
+NEW_FILE = ".miniboot-new"
 # how often a file is used before it is made anew, how many calls there are at once, how many devices are shown to a
 # register, and after how many seconds a call is given up
 MOST_USES, CALLS, DEVICES, GIVEN_UP = 24, 16, 6, 60
@@ -160,8 +160,8 @@ class World:
         number = self.prepare(kind)
         ended = self.succeed(*kind.call(number))
         self.take(kind, number, ended)
-        if self.path(kind.state + DRAFT).exists():
-            raise Wrong(f"{kind.name} has left {kind.state + DRAFT}")
+        if self.path(kind.state + NEW_FILE).exists():
+            raise Wrong(f"{kind.name} has left {kind.state + NEW_FILE}")
 
     # ---- the sample
 

@@ -14,7 +14,7 @@ pub(crate) enum Obstacle {
     /// The file system has no locks.
     NoLocks,
     /// Where the new file would be written, something stands that is no regular file.
-    DraftInTheWay,
+    NameTaken,
 }
 
 impl Obstacle {
@@ -25,8 +25,7 @@ impl Obstacle {
             Obstacle::Replaced => "moved or replaced since it was read",
             Obstacle::SecondName => "not replaced, since it has a second name (a hard link)",
             Obstacle::NoLocks => "not replaced, since its file system has no locks",
-            Obstacle::DraftInTheWay =>
-                "what stands at its name with .miniboot-new is no regular file",
+            Obstacle::NameTaken => "what stands at its name with .miniboot-new is no regular file",
         }
     }
 }

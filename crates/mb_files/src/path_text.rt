@@ -5,8 +5,8 @@ use crate::system::System;
 use arrayvec::ArrayString;
 use std::{fs, io};
 
-// The ending of a draft, and the length of the longest path of the system with it.
-const DRAFT: &str = ".miniboot-new";
+// The ending of a new file's name until it takes its place, and the length of the longest path of the system with it.
+const NEW_FILE: &str = ".miniboot-new";
 
 const LONGEST: usize = 4_096 + 13;
 
@@ -25,8 +25,8 @@ pub(crate) fn path_of<R: System>(runtime: &R, name: &str) -> io::Result<PathText
 }
 
 // Where the new file for this path is written.
-pub(crate) fn draft_of(path: &str) -> io::Result<PathText> {
-    path_text(path, DRAFT)
+pub(crate) fn new_file_of(path: &str) -> io::Result<PathText> {
+    path_text(path, NEW_FILE)
 }
 
 // The path with this ending. An error if it is longer than any path of the system.

@@ -1,12 +1,12 @@
 //! New files, each of which takes its place whole once its bytes are on the disk.
 //!
-//! The bytes are written to a draft beside the file that they replace. So at each moment, also after a kill or a power
-//! loss, the name stands for the old file or for the new one.
+//! The bytes are written to a new file beside the old one. So at each moment, also after a kill or a power loss, the
+//! name stands for the old file or for the new one.
 
 use crate::identity::{Identity, standing_at, stands_at};
 use crate::obstacle::Obstacle;
 use crate::opened::{create, open_to_write};
-use crate::path_text::draft_of;
+use crate::path_text::new_file_of;
 use crate::system::System;
 use std::fs::{File, Metadata, Permissions, TryLockError};
 use std::os::unix::fs::{MetadataExt, PermissionsExt, fchown};
@@ -29,7 +29,7 @@ impl<'a, 'b, R: System> Replacement<'a, 'b, R> {
     pub(crate) fn of_nothing(runtime: &'a R, path: &'b str) -> io::Result<Replacement<'a, 'b, R>> {
         Ok(Replacement {
             runtime,
-            file: create_locked(runtime, draft_of(path)?.as_str())?,
+            file: create_locked(runtime, new_file_of(path)?.as_str())?,
             place: path,
             replaced: None,
             is_placed: false,
@@ -61,7 +61,7 @@ impl<'a, 'b, R: System> Replacement<'a, 'b, R> {
         if !self.is_place_as_found()? {
             return Err(Obstacle::Replaced.into());
         }
-        fs::rename(self.runtime, draft_of(self.place)?.as_str(), self.place)?;
+        fs::rename(self.runtime, new_file_of(self.place)?.as_str(), self.place)?;
         self.is_placed = true;
         folder.sync_all()
     }
@@ -70,9 +70,9 @@ impl<'a, 'b, R: System> Replacement<'a, 'b, R> {
     pub(crate) fn remove_unless_placed(&self) {
         if !self.is_placed {
             // (if this fails, the next command that writes here removes it)
-            let _ = draft_of(self.place).and_then(|draft| fs::remove_file(
+            let _ = new_file_of(self.place).and_then(|path| fs::remove_file(
                 self.runtime,
-                draft.as_str(),
+                path.as_str(),
             ));
         }
     }
@@ -84,7 +84,7 @@ impl<'a, 'b, R: System> Replacement<'a, 'b, R> {
     }
 }
 
-// Makes a draft and locks it. One that was left there by a process that was killed is removed first.
+// Makes a new file and locks it. One that was left there by a process that was killed is removed first.
 fn create_locked<R: System>(runtime: &R, path: &str) -> io::Result<File> {
     let file = match create(runtime, path) {
         Err(error) if error.kind() == io::ErrorKind::AlreadyExists => {
@@ -102,10 +102,10 @@ fn create_locked<R: System>(runtime: &R, path: &str) -> io::Result<File> {
     Ok(file)
 }
 
-// Removes a draft that no process is writing. Anything else that stands at the path stays, and is an error.
+// Removes a new file that no process is writing any more. Anything else that stands at the path stays, and is an error.
 fn remove_left<R: System>(runtime: &R, path: &str) -> io::Result<()> {
     if !fs::symlink_metadata(runtime, path)?.is_file() {
-        return Err(Obstacle::DraftInTheWay.into());
+        return Err(Obstacle::NameTaken.into());
     }
     let left = open_to_write(runtime, path)?;
     let is_written = matches!(left.try_lock(), Err(TryLockError::WouldBlock));
