@@ -1,11 +1,9 @@
 -- Registers that are shown many chains.
-use Rattle.std.proofs.Common.{◌≡◌, ◌≢◌, ◌<◌, ℕ, List, [], ◌∷◌, ◌++◌, length, inl, inr, Some, Bool, true, false, true≢false, refl, sym, ap, ◌∙◌, subst, arith, append_assoc, append-nil}
+use Rattle.std.proofs.Common.{◌≡◌, ◌≢◌, ◌<◌, ℕ, List, [], ◌∷◌, ◌++◌, length, inl, inr, Some, refl, sym, ap, ◌∙◌, subst, arith, append_assoc, append-nil}
 use Rattle.std.specs.Prelude.{◌⊎◌, zero, suc, All, Contains, map, slice_get}
 use Rattle.std.proofs.lemmas.List.{map-append}
 use Rattle.std.proofs.lemmas.List.Elements.{All-head, All-tail, All-contains, Contains-append_left, Contains-append_right, Contains-append_cases}
-use Rattle.mb_format.specs.Combinators.{same_bytes}
 use Rattle.mb_format.proofs.Whole.{IsClearWhole-from_exact}
-use Rattle.mb_format.proofs.Fields.{same_bytes-refl, same_bytes-true}
 use Rattle.mb_model.specs.declared.entry.Entry.{Entry}
 use Rattle.mb_model.specs.declared.entry.SignedEntry.{SignedEntry}
 use Rattle.mb_model.specs.declared.key.PublicKey.{PublicKey}
@@ -18,7 +16,8 @@ use Rattle.mb_model.proofs.EntryFormatLaws.{chain_exact}
 use Rattle.mb_model_lemmas.proofs.ChainLemmas.{honest_is_front}
 use Rattle.mb_model_lemmas.proofs.Splits.{some_same}
 use Rattle.mb_verifier.specs.Entries.{IsOfEntries}
-use Rattle.mb_model_histories.specs.KeyLaws.{Collision}
+use Rattle.mb_model_histories.specs.KeyLaws.{Collide}
+use Rattle.mb_model_histories.proofs.KeyLemmas.{same_or_collide}
 use Rattle.mb_fleet.specs.declared.row.CodeHashes.{CodeHashes}
 use Rattle.mb_fleet.specs.declared.item.Item.{Item}
 use Rattle.mb_fleet.specs.declared.item.Item.TheVariants.{Show, Find, Codes}
@@ -28,7 +27,7 @@ use Rattle.mb_fleet.specs.Serving.{FleetStep, FleetRun}
 use Rattle.mb_fleet.specs.Showing.{Answer, forked, IsNewDevice, DifferAt, Meets, is_added, is_full, is_same, is_extended, is_older, is_forked, IsShown, IsChainAnswered, is_chain_refused, is_shown}
 use Rattle.mb_fleet.proofs.Ascending.{ascending_between, ascending_instead, before_differs}
 use Rattle.mb_fleet.proofs.Each.{all_of_each}
-use Rattle.mb_fleet_histories.specs.RegisterLaws.{IsHashPrefix, AgreeSoFar, GoesOnFrom, RowsOnlyGrow, RegistersStayOrdered, DoubledRowsStay, GoodChainsMeet, IsTaken, ForksAreCaught, TwoRowsHideAFork, spelled_entries, HashesTellOfEntries, PartedLogsAreCaught, IsTrueTo, IsHonestChain, IsHonestItem, HonestDevicesAreNotAccused, ForgedRowsAccuse, AccusedRowsDiffer}
+use Rattle.mb_fleet_histories.specs.RegisterLaws.{IsHashPrefix, AgreeSoFar, GoesOnFrom, RowsOnlyGrow, RegistersStayOrdered, DoubledRowsStay, GoodChainsMeet, IsTaken, ForksAreCaught, TwoRowsHideAFork, spelled_entries, SpellingsCollide, HashesTellOfEntries, PartedLogsAreCaught, IsTrueTo, IsHonestChain, IsHonestItem, HonestDevicesAreNotAccused, ForgedRowsAccuse, AccusedRowsDiffer}
 use Rattle.mb_format.specs.Format.{IsBytes, Spells, IsClearWhole}
 use Rattle.mb_model.specs.declared.entry.Chain.{Chain}
 use Rattle.mb_fleet.specs.Rows.{entry_hash, IsRowOf, AreOrdered, serial_of_row}
@@ -232,35 +231,55 @@ forks_are_caught maker one other answer later =
 two_parts : (p q : List ℕ) (xs ys : List (List ℕ)) → p ∷ xs ≡ q ∷ ys → (p ≡ q) × (xs ≡ ys)
 two_parts p q xs ys e = (cc, cc)
 
+-- one pair of entries more
+one_more : (entry that : Entry) (one other : List Entry) → SpellingsCollide one other → SpellingsCollide (entry ∷ one) (that ∷ other)
+one_more entry that one other both = record {
+  entry = both.entry;
+  that = both.that;
+  in_one = behind entry both.entry one both.in_one;
+  in_other = behind that both.that other both.in_other;
+  collide = both.collide;
+}
+
+swapped : (one other : List Entry) → SpellingsCollide other one → SpellingsCollide one other
+swapped one other both = record {
+  entry = both.that;
+  that = both.entry;
+  in_one = both.in_other;
+  in_other = both.in_one;
+  collide = (λ equal. both.collide.0 (sym equal), sym both.collide.1);
+}
+
 start_or_collision : (one other : List Entry) (rest : List (List ℕ)) → map entry_hash other ≡ map entry_hash one ++ rest
-    → IsHashPrefix (spelled_entries one) (spelled_entries other) ⊎ Collision
+    → IsHashPrefix (spelled_entries one) (spelled_entries other) ⊎ SpellingsCollide one other
 start_or_collision [] other rest same_hashes = inl (spelled_entries other, refl)
 start_or_collision (entry ∷ one) [] rest same_hashes = absurd (grind (arith, same_hashes))
 start_or_collision (entry ∷ one) (that ∷ other) rest same_hashes =
     let parts = two_parts (entry_hash that) (entry_hash entry) (map entry_hash other) (map entry_hash one ++ rest) same_hashes in
-    by (same_bytes (entry_format.spelling that) (entry_format.spelling entry)) refl parts.0 (start_or_collision one other rest parts.1)
+    by (same_or_collide (entry_format.spelling entry) (entry_format.spelling that) (sym parts.0)) (start_or_collision one other rest parts.1)
   where
-    by : (b : Bool) → same_bytes (entry_format.spelling that) (entry_format.spelling entry) ≡ b → entry_hash that ≡ entry_hash entry
-        → IsHashPrefix (spelled_entries one) (spelled_entries other) ⊎ Collision → IsHashPrefix (spelled_entries (entry ∷ one)) (spelled_entries (that ∷ other)) ⊎ Collision
-    by true is hashed (inl start) =
-        let equal : entry_format.spelling that ≡ entry_format.spelling entry = same_bytes-true (entry_format.spelling that) (entry_format.spelling entry) is in
-        inl (start.0, ap (λ (l : List (List ℕ)). entry_format.spelling that ∷ l) start.1 ∙ ap (λ (h : List ℕ). h ∷ spelled_entries one ++ start.0) equal)
-    by true is hashed (inr collision) = inr collision
-    by false is hashed more = inr (record {
-      one = entry_format.spelling that;
-      other = entry_format.spelling entry;
-      differ = λ equal. true≢false (sym (ap (λ (x : List ℕ). same_bytes x (entry_format.spelling entry)) equal ∙ same_bytes-refl (entry_format.spelling entry)) ∙ is);
-      hashed = hashed;
+    by : (entry_format.spelling entry ≡ entry_format.spelling that) ⊎ Collide (entry_format.spelling entry) (entry_format.spelling that)
+        → IsHashPrefix (spelled_entries one) (spelled_entries other) ⊎ SpellingsCollide one other
+        → IsHashPrefix (spelled_entries (entry ∷ one)) (spelled_entries (that ∷ other)) ⊎ SpellingsCollide (entry ∷ one) (that ∷ other)
+    by (inl equal) (inl start) =
+        inl (start.0, ap (λ (l : List (List ℕ)). entry_format.spelling that ∷ l) start.1 ∙ ap (λ (h : List ℕ). h ∷ spelled_entries one ++ start.0) (sym equal))
+    by (inl equal) (inr both) = inr (one_more entry that one other both)
+    by (inr collide) more = inr (record {
+      entry = entry;
+      that = that;
+      in_one = in_front entry one;
+      in_other = in_front that other;
+      collide = collide;
     })
 
 pub hashes_tell_of_entries : HashesTellOfEntries
 hashes_tell_of_entries one other (inl start) = elim (start_or_collision one other start.0 start.1) [
   | inl front ↦ inl (inl front)
-  | inr collision ↦ inr collision
+  | inr both ↦ inr both
 ]
 hashes_tell_of_entries one other (inr start) = elim (start_or_collision other one start.0 start.1) [
   | inl front ↦ inl (inr front)
-  | inr collision ↦ inr collision
+  | inr both ↦ inr (swapped one other both)
 ]
 
 pub parted_logs_are_caught : PartedLogsAreCaught
@@ -271,7 +290,7 @@ parted_logs_are_caught maker one other answer shown parted row_one row_other apa
           subst (λ (l : List (List ℕ)). AgreeSoFar l (map entry_hash parted)) row_one.hashes (subst (AgreeSoFar one.hashes) row_other.hashes agree) in
           elim (hashes_tell_of_entries shown parted hashes) [
             | inl entries ↦ absurd (apart entries)
-            | inr collision ↦ inr collision
+            | inr both ↦ inr both
           ]
       | inr caught ↦ inl caught
     ]

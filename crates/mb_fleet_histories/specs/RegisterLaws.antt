@@ -10,7 +10,7 @@ use Rattle.mb_model.specs.ChainFormat.{chain_format}
 use Rattle.mb_model.specs.EntryFormat.{entry_format}
 use Rattle.mb_model.specs.Log.{entries_of, serial_of}
 use Rattle.mb_model.specs.Valid.{EachFollows}
-use Rattle.mb_model_histories.specs.KeyLaws.{Collision}
+use Rattle.mb_model_histories.specs.KeyLaws.{Collide}
 use Rattle.mb_fleet.specs.declared.item.Item.{Item}
 use Rattle.mb_fleet.specs.declared.item.Item.TheVariants.{Show, Find, Codes}
 use Rattle.mb_fleet.specs.declared.row.Row.{Row}
@@ -106,19 +106,28 @@ TwoRowsHideAFork =
 abbrev pub spelled_entries : List Entry → List (List ℕ)
 spelled_entries entries = map entry_format.spelling entries
 
--- Where the hashes of entries agree, the entries do, or here are two texts with one hash.
+-- an entry of the first list and one of the second are spelled by two texts that have one hash
+pub record SpellingsCollide (one other : List Entry) : Type 0 where
+  pub entry : Entry
+  pub that : Entry
+  pub in_one : Contains one entry
+  pub in_other : Contains other that
+  pub collide : Collide (entry_format.spelling entry) (entry_format.spelling that)
+
+-- Where the hashes of entries agree, the entries do, or else two of them are spelled by texts that have one hash.
 abbrev pub HashesTellOfEntries : Type 0
 HashesTellOfEntries =
     (one other : List Entry) → AgreeSoFar (map entry_hash one) (map entry_hash other)
-    → AgreeSoFar (spelled_entries one) (spelled_entries other) ⊎ Collision
+    → AgreeSoFar (spelled_entries one) (spelled_entries other) ⊎ SpellingsCollide one other
 
--- A log that has parted from one that was shown, as after the use of an old image, is answered as a fork, or here are
--- two texts with one hash.
+-- A log that has parted from one that was shown, as after the use of an old image, is answered as a fork, or else an
+-- entry of each are spelled by texts that have one hash.
 abbrev pub PartedLogsAreCaught : Type 0
 PartedLogsAreCaught =
     (maker : PublicKey) (one other : Row) (answer : Answer) (shown parted : List Entry) → IsRowOf shown one
     → IsRowOf parted other → (AgreeSoFar (spelled_entries shown) (spelled_entries parted) → ⊥)
-    → MeetsLater maker one other answer → ((place : ℕ) × (answer ≡ forked other.serial place)) ⊎ Collision
+    → MeetsLater maker one other answer
+    → ((place : ℕ) × (answer ≡ forked other.serial place)) ⊎ SpellingsCollide shown parted
 
 -- ---- honest devices
 

@@ -15,7 +15,7 @@ pub fn registers_only_grow()
 
 /// A good chain is answered as its row is. If two rows of one device are shown to a register whose serials ascend,
 /// whatever items come between, either the hashes of one are a prefix of the other's, or the second is answered as a
-/// fork. Where hashes agree, the entries do, or two texts with one hash are at hand.
+/// fork. Where hashes agree, the entries do, or else two of them are spelled by texts that have one hash.
 pub fn registers_catch_forks()
     ensures chains { GoodChainsMeet }
     ensures forks { ForksAreCaught }

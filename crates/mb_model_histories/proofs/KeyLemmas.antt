@@ -1,5 +1,5 @@
 -- Keys that have one seed were derived from one text, or two texts have one hash.
-use Rattle.std.proofs.Common.{◌≡◌, ◌≢◌, ◌≤◌, ◌<◌, ◌⊎◌, ℕ, ◌+◌, ◌^◌, List, [], ◌∷◌, ◌++◌, length, inl, inr, Option, None, Some, Bool, true, false, true≢false, refl, sym, ap, ◌∙◌, subst, arith, length-append}
+use Rattle.std.proofs.Common.{◌≡◌, ◌≤◌, ◌<◌, ◌⊎◌, ℕ, ◌+◌, ◌^◌, List, [], ◌∷◌, ◌++◌, length, inl, inr, Option, None, Some, Bool, true, false, true≢false, refl, sym, ap, ◌∙◌, subst, arith, length-append}
 use Rattle.std.specs.Prelude.{◌==◌, nat_lt, All, Contains, filter, if◌then◌else◌}
 use Rattle.std.specs.Int.{w32, to_be_bytes}
 use Rattle.sha2.specs.Sha256.{sha256}
@@ -37,32 +37,22 @@ use Rattle.mb_model_lemmas.proofs.LogLemmas.{made-le-length, length-entries_of}
 use Rattle.mb_model_lemmas.proofs.ValidStates.{valid_is_ruled, region_is_valid}
 use Rattle.mb_model_runs.proofs.KeptByRuns.{IsKept, run_kept}
 use Rattle.mb_model_histories.specs.Histories.{History}
-use Rattle.mb_model_histories.specs.KeyLaws.{Collision, DeviceKeysDiffer, OfficersKeysDiffer, KeysOfDevicesAreNoOfficers, OneNoiseMakesOneKey, IsDerived, HasDerivedKeys, KeysAreDerived, KeysOfOneDeviceDiffer}
+use Rattle.mb_model_histories.specs.KeyLaws.{Collide, device_key_text, officer_key_text, DeviceKeysDiffer, OfficersKeysDiffer, KeysOfDevicesAreNoOfficers, OneNoiseMakesOneKey, IsDerived, HasDerivedKeys, KeysAreDerived, KeysOfOneDeviceDiffer}
 use Rattle.mb_model_histories.proofs.HistoryLemmas.{histories_stay_valid}
 use Rattle.mb_model_histories.proofs.SinceLemmas.{key_upper}
 
 -- ---- texts and hashes
 
 -- two texts with one hash are one, or collide
-pub same_or_collide : (one other : List ℕ) → sha256 one ≡ sha256 other → (one ≡ other) ⊎ Collision
+pub same_or_collide : (one other : List ℕ) → sha256 one ≡ sha256 other → (one ≡ other) ⊎ Collide one other
 same_or_collide one other hashed = by (same_bytes one other) refl
   where
-    by : (b : Bool) → same_bytes one other ≡ b → (one ≡ other) ⊎ Collision
+    by : (b : Bool) → same_bytes one other ≡ b → (one ≡ other) ⊎ Collide one other
     by true is = inl (same_bytes-true one other is)
-    by false is = inr (record {
-      one = one;
-      other = other;
-      differ = λ equal. true≢false (sym (ap (λ (x : List ℕ). same_bytes x other) equal ∙ same_bytes-refl other) ∙ is);
-      hashed = hashed;
-    })
-
--- what the seed of a device's key is the hash of
-key_text : List ℕ → List ℕ → ℕ → List ℕ
-key_text draw serial n = KEY_SECRET ∷ draw ++ serial ++ to_be_bytes w32 n
+    by false is = inr (λ equal. true≢false (sym (ap (λ (x : List ℕ). same_bytes x other) equal ∙ same_bytes-refl other) ∙ is), hashed)
 
 key_text_same : (draw other_draw serial other_serial : List ℕ) (n m : ℕ) → length serial ≡ length other_serial → n < 2 ^ 32 → m < 2 ^ 32
-    → key_text draw serial n ≡ key_text other_draw other_serial m → (draw ≡ other_draw) × (serial ≡ other_serial) × (n ≡ m)
-unfolding key_text
+    → device_key_text draw serial n ≡ device_key_text other_draw other_serial m → (draw ≡ other_draw) × (serial ≡ other_serial) × (n ≡ m)
 key_text_same draw other_draw serial other_serial n m long few few_other e =
     let inner = (cons_same KEY_SECRET KEY_SECRET (draw ++ serial ++ to_be_bytes w32 n) (other_draw ++ other_serial ++ to_be_bytes w32 m) e).1 in
     let whole : length draw + length serial + 4 ≡ length other_draw + length other_serial + 4 = sym (lengths draw serial n) ∙ ap length inner ∙ lengths other_draw other_serial m in
@@ -74,28 +64,27 @@ key_text_same draw other_draw serial other_serial n m long few few_other e =
     lengths a b k = length-append (a ++ b) (to_be_bytes w32 k) ∙ ap (λ l. l + 4) (length-append a b)
 
 pub device_keys_differ : DeviceKeysDiffer
-unfolding born_key key_text
+unfolding born_key
 device_keys_differ draw other_draw serial other_serial n m long few few_other same =
-    elim (same_or_collide (key_text draw serial n) (key_text other_draw other_serial m) (ap (λ (k : KeySeed). k.seed) same)) [
+    elim (same_or_collide (device_key_text draw serial n) (device_key_text other_draw other_serial m) (ap (λ (k : KeySeed). k.seed) same)) [
       | inl text ↦ inl (key_text_same draw other_draw serial other_serial n m long few few_other text)
-      | inr collision ↦ inr collision
+      | inr collide ↦ inr collide
     ]
 
 pub officers_keys_differ : OfficersKeysDiffer
 unfolding officer_key
 officers_keys_differ noise other same =
-    elim (same_or_collide (OFFICER_SECRET ∷ noise) (OFFICER_SECRET ∷ other) (ap (λ (k : KeySeed). k.seed) same)) [
+    elim (same_or_collide (officer_key_text noise) (officer_key_text other) (ap (λ (k : KeySeed). k.seed) same)) [
       | inl text ↦ inl (cons_same OFFICER_SECRET OFFICER_SECRET noise other text).1
-      | inr collision ↦ inr collision
+      | inr collide ↦ inr collide
     ]
 
 pub keys_of_devices_are_no_officers : KeysOfDevicesAreNoOfficers
 unfolding born_key officer_key
 keys_of_devices_are_no_officers draw serial noise n same =
-    let text : List ℕ = draw ++ serial ++ to_be_bytes w32 n in
-    elim (same_or_collide (KEY_SECRET ∷ text) (OFFICER_SECRET ∷ noise) (ap (λ (k : KeySeed). k.seed) same)) [
-      | inl equal ↦ absurd (omega (arith, (cons_same KEY_SECRET OFFICER_SECRET text noise equal).0))
-      | inr collision ↦ collision
+    elim (same_or_collide (device_key_text draw serial n) (officer_key_text noise) (ap (λ (k : KeySeed). k.seed) same)) [
+      | inl equal ↦ absurd (omega (arith, (cons_same KEY_SECRET OFFICER_SECRET (draw ++ serial ++ to_be_bytes w32 n) noise equal).0))
+      | inr collide ↦ collide
     ]
 
 pub one_noise_makes_one_key : OneNoiseMakesOneKey
@@ -234,5 +223,11 @@ keys_of_one_device_differ maker index owner code noise runs live layer other_lay
     let second = derived_in live other_layer other has within_other in
     elim (device_keys_differ first.0 second.0 live.serial live.serial key.number other.number refl (small_number live layer key valid short within) (small_number live other_layer other valid short within_other) (sym first.1 ∙ same ∙ second.1)) [
       | inl all ↦ inl all.2
-      | inr collision ↦ inr collision
+      | inr collide ↦ inr (record {
+        draw = first.0;
+        other_draw = second.0;
+        derived = first.1;
+        other_derived = second.1;
+        collide = collide;
+      })
     ]

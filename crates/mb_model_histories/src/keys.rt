@@ -3,9 +3,9 @@
 ghost use Rattle.mb_model_histories.specs.KeyFileLaws.{SigningUsesUpItsIndex, CountersigningUsesUpItsIndex, IndicesInTurnDiffer, OldKeysSignAgain};
 ghost use Rattle.mb_model_histories.specs.KeyLaws.{DeviceKeysDiffer, OfficersKeysDiffer, KeysOfDevicesAreNoOfficers, OneNoiseMakesOneKey, KeysAreDerived, KeysOfOneDeviceDiffer};
 
-/// Keys differ if what they were derived from does, or two texts with one hash are at hand: those of devices, those of
-/// officers, and a device's from an officer's. So two keys in regions of one device differ, if their numbers do. Two
-/// devices that are made of one noise have one key.
+/// Keys differ if what they were derived from does, or else the two texts that were hashed for them have one hash: those
+/// of devices, those of officers, and a device's from an officer's. So two keys in regions of one device differ, if their
+/// numbers do. Two devices that are made of one noise have one key.
 pub fn keys_differ()
     ensures device { DeviceKeysDiffer }
     ensures officer { OfficersKeysDiffer }
