@@ -1,6 +1,6 @@
 -- What a call of `sign` or `countersign` leaves of the files.
-use Rattle.std.proofs.Common.{◌≡◌, ◌≢◌, ◌<◌, ◌⊎◌, ℕ, List, [], ◌∷◌, inl, inr, Option, Some, true, false, true≢false, refl, sym, ap, ◌∙◌, subst, arith}
-use Rattle.std.specs.Prelude.{All}
+use Rattle.std.proofs.Common.{◌≡◌, ◌≢◌, ◌<◌, ◌≤◌, ◌⊎◌, ℕ, ◌+◌, List, [], ◌∷◌, ◌++◌, Bool, inl, inr, Option, Some, true, false, true≢false, refl, sym, ap, ◌∙◌, subst, arith}
+use Rattle.std.specs.Prelude.{◌==◌, if◌then◌else◌, All, AllPairs}
 use Rattle.std.proofs.lemmas.List.Elements.{All-nil, All-cons, All-head}
 use Rattle.std.proofs.lemmas.List.Kept.{AllPairs-cons}
 use Rattle.mb_format.specs.Format.{Spells, IsClearWhole}
@@ -20,7 +20,7 @@ use Rattle.mb_model.specs.Texts.{line_with_lf}
 use Rattle.mb_model.proofs.KeyFormatLaws.{keyfile_exact}
 use Rattle.mb_model_lemmas.proofs.FateLemmas.{pairs_head}
 use Rattle.mb_model_lemmas.proofs.Splits.{some_same}
-use Rattle.mb_model_histories.specs.KeyFileLaws.{Files, LeavesKey, nothing_is_written, key_is_not_written, index_is_used, SigningUsesUpItsIndex, CountersigningUsesUpItsIndex, AreIndicesInTurn, IndicesInTurnDiffer, OldKeysSignAgain}
+use Rattle.mb_model_histories.specs.KeyFileLaws.{Files, LeavesKey, nothing_is_written, key_is_not_written, index_is_used, SigningUsesUpItsIndex, CountersigningUsesUpItsIndex, KeyCommand, by_sign, by_countersign, key_name_of, out_name_of, EndsSo, KeyCall, NothingIsSignedWithoutAnIndex, CallsInTurn, indices_used, IndicesInTurnDiffer, OldKeysSignAgain}
 
 -- ---- ends without a write
 
@@ -81,16 +81,16 @@ module _ (key_name out_name : List ℕ) (key : Keyfile) (Made : Order → Type 0
   unfolding keyfile_format
   next_allowed left = (allowed.0, (allowed.1.0, (omega arith, omega (arith, allowed.1.1.1, left))))
 
-  index_used : (order : Order) (ending : Ended) → Made order → key.next ≢ 32 → ending.before.files ≡ Some before → ending.after.files ≡ Some after
+  use_leaves : (order : Order) (ending : Ended) → Made order → key.next ≢ 32 → ending.before.files ≡ Some before → ending.after.files ≡ Some after
       → CommandEnds (use_index key_name out_name key order) at_first ending → LeavesKey key_name out_name key Made before after ending.status
   unfolding CommandEnds use_index
-  index_used order ending made left is_before is_after (inl ends) =
+  use_leaves order ending made left is_before is_after (inl ends) =
       let kept = ends.fails.others before is_before in
       let same : after ≡ kept.0 = some_same after kept.0 (sym is_after ∙ stopped_files _ 5 at_first _ ends.stops ∙ kept.1) in
       key_is_not_written (λ name other. ap (λ (f : Files). f name) same ∙ kept.2 name other) ends.stops.status_is
-  index_used order ending made left is_before is_after (inr (inr wants)) =
+  use_leaves order ending made left is_before is_after (inr (inr wants)) =
       nothing_is_written (same_files before after ending.before.files ending.after.files is_before is_after (stopped_files _ 6 at_first ending wants.stops))
-  index_used order ending made left is_before is_after (inr (inl (mid, writes, rest))) =
+  use_leaves order ending made left is_before is_after (inr (inl (mid, writes, rest))) =
       let kept = writes.others before is_before in
       let now : List ℕ = keyfile_format.spelling (keyfile_after_use key) in
       let out = out_left out_name (index_text key.next) (line_with_lf (order_line order)) role.Out kept.0 after (end_seen_from mid ending) kept.1 is_after rest in
@@ -105,7 +105,7 @@ module _ (key_name out_name : List ℕ) (key : Keyfile) (Made : Order → Type 0
       nothing_is_written (same_files before after ending.before.files ending.after.files is_before is_after (stopped_files _ 7 at_first ending stops))
   signed_by order ending made is_before is_after (inl (spent, inr wants)) =
       nothing_is_written (same_files before after ending.before.files ending.after.files is_before is_after (stopped_files _ 6 at_first ending wants.stops))
-  signed_by order ending made is_before is_after (inr (inl (left, used))) = index_used order ending made left is_before is_after used
+  signed_by order ending made is_before is_after (inr (inl (left, used))) = use_leaves order ending made left is_before is_after used
   signed_by order ending made is_before is_after (inr (inr wants)) =
       nothing_is_written (same_files before after ending.before.files ending.after.files is_before is_after (stopped_files _ 6 at_first ending wants.stops))
 
@@ -152,8 +152,8 @@ countersigned_by names key Made allowed apart before after order ending made is_
     nothing_is_written (same_files before after ending.before.files ending.after.files is_before is_after (stopped_files _ 7 at_first ending stops))
 countersigned_by names key Made allowed apart before after order ending made is_before is_after (inl (not_so, inr wants)) =
     nothing_is_written (same_files before after ending.before.files ending.after.files is_before is_after (stopped_files _ 6 at_first ending wants.stops))
-countersigned_by names key Made allowed apart before after order ending made is_before is_after (inr (inl (so, signs))) =
-    signed_by names.key names.out key Made allowed apart before after (countersigned_order key names.layer order) ending made is_before is_after signs
+countersigned_by names key Made allowed apart before after order ending made is_before is_after (inr (inl (so, rest))) =
+    signed_by names.key names.out key Made allowed apart before after (countersigned_order key names.layer order) ending made is_before is_after rest
 countersigned_by names key Made allowed apart before after order ending made is_before is_after (inr (inr wants)) =
     nothing_is_written (same_files before after ending.before.files ending.after.files is_before is_after (stopped_files _ 6 at_first ending wants.stops))
 
@@ -169,24 +169,102 @@ countersigning_uses_up_its_index names ending before after bytes key (inr (found
     (λ order mid at_before at_after. countersigned_by names key Made spelled.allowed apart before after order mid (order, refl) at_before at_after)
     (subst (λ k. CommandEnds (countersign_order names k) at_first (end_seen_from (read_once ending.before) ending)) one ends)
 
--- ---- in turn
+-- ---- calls one after another
+
+same_number : (n m : ℕ) → (n == m) ≡ true → n ≡ m
+same_number n m is = grind (arith, is)
+
+other_number : (n m : ℕ) → (n == m) ≡ false → n ≡ m → ⊥
+other_number n m is same = grind (arith, is, same)
+
+-- what a call leaves of the files
+call_leaves : (key_name : List ℕ) (found left : Keyfile) (call : KeyCall key_name found left)
+    → (Made : Order → Type 0) × LeavesKey key_name (out_name_of call.command) found Made call.before call.after call.ending.status
+call_leaves key_name found left call = by call.command call.is_key call.is_not_out call.ends
+  where
+    by : (command : KeyCommand) → key_name_of command ≡ key_name → out_name_of command ≢ key_name → EndsSo command call.ending
+        → (Made : Order → Type 0) × LeavesKey key_name (out_name_of command) found Made call.before call.after call.ending.status
+    by (by_sign names) is apart ends =
+        let holds : call.before names.key ≡ Some call.bytes = ap call.before is ∙ call.holds in (
+          _,
+          subst (λ n. LeavesKey n names.out found (λ made. (order : Order) × (made ≡ signed_order found order)) call.before call.after call.ending.status) is
+              (signing_uses_up_its_index names call.ending call.before call.after call.bytes found ends call.shows_before call.shows_after holds call.spelled (λ same. apart (same ∙ is))),
+        )
+    by (by_countersign names) is apart ends =
+        let holds : call.before names.key ≡ Some call.bytes = ap call.before is ∙ call.holds in (
+          _,
+          subst (λ n. LeavesKey n names.out found (λ made. (order : Order) × (made ≡ countersigned_order found names.layer order)) call.before call.after call.ending.status) is
+              (countersigning_uses_up_its_index names call.ending call.before call.after call.bytes found ends call.shows_before call.shows_after holds call.spelled (λ same. apart (same ∙ is))),
+        )
+
+-- a call leaves the key that it found, and then nothing but KEY is written; or the key with one index more used
+one_call : (key_name : List ℕ) (found left : Keyfile) (call : KeyCall key_name found left)
+    → ((left ≡ found) × ((name : List ℕ) → name ≢ key_name → call.after name ≡ call.before name)) ⊎ (left ≡ keyfile_after_use found)
+one_call key_name found left call = by (call_leaves key_name found left call).1
+  where
+    spelled_so : (bytes : List ℕ) (key : Keyfile) → call.after key_name ≡ Some bytes → Spells keyfile_format bytes key → left ≡ key
+    spelled_so bytes key holds spelled =
+        key_clear.one_value call.left_bytes left key call.are_bytes call.then_spelled
+        (subst (λ b. Spells keyfile_format b key) (some_same bytes call.left_bytes (sym holds ∙ call.then_holds)) spelled)
+
+    by : {Made : Order → Type 0} → LeavesKey key_name (out_name_of call.command) found Made call.before call.after call.ending.status
+        → ((left ≡ found) × ((name : List ℕ) → name ≢ key_name → call.after name ≡ call.before name)) ⊎ (left ≡ keyfile_after_use found)
+    by (nothing_is_written stays) = inl (spelled_so call.bytes found (stays key_name ∙ call.holds) call.spelled, λ name apart. stays name)
+    by (key_is_not_written stays status) = elim (call.whole status) [
+      | inl same ↦ inl (same, stays)
+      | inr used ↦ inr used
+    ]
+    by (index_is_used room now holds spelled stays made) = inr (spelled_so now (keyfile_after_use found) holds spelled)
+
+pub nothing_is_signed_without_an_index : NothingIsSignedWithoutAnIndex
+nothing_is_signed_without_an_index key_name found left call same = elim (one_call key_name found left call) [
+  | inl stays ↦ stays.1
+  | inr used ↦
+      let more : found.next ≡ found.next + 1 = ap (λ (k : Keyfile). k.next) (sym same ∙ used) in
+      absurd (omega (arith, more))
+]
+
+-- no call goes back
+goes_on : (key_name : List ℕ) (found left : Keyfile) → KeyCall key_name found left → found.next ≤ left.next
+goes_on key_name found left call = elim (one_call key_name found left call) [
+  | inl stays ↦ let same : left.next ≡ found.next = ap (λ (k : Keyfile). k.next) stays.0 in omega (arith, same)
+  | inr used ↦ let more : left.next ≡ found.next + 1 = ap (λ (k : Keyfile). k.next) used in omega (arith, more)
+]
+
+-- the indices that are used up from a key on are above those before
+all_above : (key_name : List ℕ) (first : Keyfile) (left : List Keyfile) (bound : ℕ) → bound < first.next → CallsInTurn key_name first left
+    → All (λ later. bound < later) (indices_used first left)
+all_above key_name first [] bound less turn = All-nil (λ later. bound < later)
+all_above key_name first (left ∷ more) bound less turn =
+    let on = goes_on key_name first left turn.0 in
+    by (left.next == first.next) (all_above key_name left more bound (omega (arith, less, on)) turn.1)
+  where
+    by : (b : Bool) → All (λ later. bound < later) (indices_used left more)
+        → All (λ later. bound < later) ((if b then [] else first.next ∷ []) ++ indices_used left more)
+    by true rest = rest
+    by false rest = All-cons (λ later. bound < later) first.next (indices_used left more) less rest
 
 pub indices_in_turn_differ : IndicesInTurnDiffer
-indices_in_turn_differ first last [] turn = λ i j d less within. absurd (omega (arith, within))
-indices_in_turn_differ first last (index ∷ indices) turn =
-    AllPairs-cons (λ sooner later. sooner < later) index indices (all_above (keyfile_after_use first) last indices index (omega (arith, turn.0)) turn.1)
-    (indices_in_turn_differ (keyfile_after_use first) last indices turn.1)
+indices_in_turn_differ key_name first [] turn = λ i j d less within. absurd (omega (arith, within))
+indices_in_turn_differ key_name first (left ∷ more) turn =
+    by (left.next == first.next) refl (goes_on key_name first left turn.0) (indices_in_turn_differ key_name left more turn.1)
   where
-    all_above : (first last : Keyfile) (indices : List ℕ) (bound : ℕ) → bound < first.next → AreIndicesInTurn first indices last → All (λ later. bound < later) indices
-    all_above first last [] bound less turn = All-nil (λ later. bound < later)
-    all_above first last (index ∷ indices) bound less turn =
-        All-cons (λ later. bound < later) index indices (omega (arith, less, turn.0)) (all_above (keyfile_after_use first) last indices bound (omega (arith, less)) turn.1)
+    by : (b : Bool) → (left.next == first.next) ≡ b → first.next ≤ left.next → AllPairs (λ sooner later. sooner < later) (indices_used left more)
+        → AllPairs (λ sooner later. sooner < later) ((if b then [] else first.next ∷ []) ++ indices_used left more)
+    by true is on rest = rest
+    by false is on rest =
+        let apart : left.next ≡ first.next → ⊥ = other_number left.next first.next is in
+        AllPairs-cons (λ sooner later. sooner < later) first.next (indices_used left more)
+        (all_above key_name left more first.next (omega (arith, on, apart)) turn.1) rest
 
 pub old_keys_sign_again : OldKeysSignAgain
 old_keys_sign_again key = (
-  (refl, refl),
-  (refl, refl),
+  ap (λ (used : List ℕ). used ++ used) (by (key.next + 1 == key.next) refl),
   λ differ.
       let less : key.next < key.next = All-head (λ later. key.next < later) key.next [] (pairs_head (λ sooner later. sooner < later) key.next (key.next ∷ []) differ) in
       omega (arith, less),
 )
+  where
+    by : (b : Bool) → (key.next + 1 == key.next) ≡ b → (if b then [] else key.next ∷ []) ++ [] ≡ key.next ∷ []
+    by true is = let same : key.next + 1 ≡ key.next = same_number (key.next + 1) key.next is in absurd (omega (arith, same))
+    by false is = refl

@@ -1,6 +1,6 @@
 -- Laws of an officer's key file. Does a key sign two texts at one index, whatever becomes of a call that signs with it?
-use Rattle.std.specs.Prelude.{◌≡◌, ◌≢◌, ◌<◌, ◌⊎◌, ℕ, List, [], ◌∷◌, AllPairs, Option, Some}
-use Rattle.mb_format.specs.Format.{Spells}
+use Rattle.std.specs.Prelude.{◌≡◌, ◌≢◌, ◌<◌, ◌⊎◌, ◌==◌, if◌then◌else◌, ℕ, List, [], ◌∷◌, ◌++◌, AllPairs, Option, Some}
+use Rattle.mb_format.specs.Format.{IsBytes, Spells}
 use Rattle.mb_model.specs.declared.order.Order.{Order}
 use Rattle.mb_model.specs.declared.tools.Keyfile.{Keyfile}
 use Rattle.mb_model.specs.Commands.{Ended, CommandEnds, at_first}
@@ -68,22 +68,79 @@ CountersigningUsesUpItsIndex =
     after
     ending.status
 
--- The indices at which calls sign that come one after another: each finds the key that the one before left.
-abbrev pub AreIndicesInTurn : Keyfile → List ℕ → Keyfile → Type 0
-AreIndicesInTurn first [] last = last ≡ first
-AreIndicesInTurn first (index ∷ indices) last =
-    (index ≡ first.next) × AreIndicesInTurn (keyfile_after_use first) indices last
+-- ---- calls one after another
 
--- The indices of calls one after another ascend, so that no two calls sign at one index.
+-- a call of one of the two commands that sign with an officer's key
+pub data KeyCommand : Type 0 where
+  by_sign : SignNames → KeyCommand
+  by_countersign : CountersignNames → KeyCommand
+
+-- the names of KEY and OUT
+abbrev pub key_name_of : KeyCommand → List ℕ
+key_name_of (by_sign names) = names.key
+key_name_of (by_countersign names) = names.key
+
+abbrev pub out_name_of : KeyCommand → List ℕ
+out_name_of (by_sign names) = names.out
+out_name_of (by_countersign names) = names.out
+
+-- the command ends so
+abbrev pub EndsSo : KeyCommand → Ended → Type 0
+EndsSo (by_sign names) ending = CommandEnds (sign names) at_first ending
+EndsSo (by_countersign names) ending = CommandEnds (countersign names) at_first ending
+
+-- A call that finds one key in the file KEY and leaves another there, over a host that shows its files. If a write
+-- failed, KEY holds the key that it held, or the one with an index more used.
+pub record KeyCall (key_name : List ℕ) (found left : Keyfile) : Type 0 where
+  pub command : KeyCommand
+  pub ending : Ended
+  pub before : Files
+  pub after : Files
+  pub bytes : List ℕ
+  pub left_bytes : List ℕ
+  pub ends : EndsSo command ending
+  pub shows_before : ending.before.files ≡ Some before
+  pub shows_after : ending.after.files ≡ Some after
+  pub is_key : key_name_of command ≡ key_name
+  pub is_not_out : out_name_of command ≢ key_name
+  pub holds : before key_name ≡ Some bytes
+  pub spelled : Spells keyfile_format bytes found
+  pub then_holds : after key_name ≡ Some left_bytes
+  pub are_bytes : IsBytes left_bytes
+  pub then_spelled : Spells keyfile_format left_bytes left
+  pub whole : ending.status ≡ 5 → (left ≡ found) ⊎ (left ≡ keyfile_after_use found)
+
+-- A call that leaves the key that it found has written nothing but to KEY, so that no signature has left the program.
+abbrev pub NothingIsSignedWithoutAnIndex : Type 0
+NothingIsSignedWithoutAnIndex =
+    (key_name : List ℕ) (found left : Keyfile) (call : KeyCall key_name found left) → left ≡ found
+    → (name : List ℕ) → name ≢ key_name → call.after name ≡ call.before name
+
+-- Calls come one after another, and leave these keys in turn: each finds the key that the one before left.
+abbrev pub CallsInTurn : List ℕ → Keyfile → List Keyfile → Type 0
+CallsInTurn key_name first [] = Unit {0}
+CallsInTurn key_name first (left ∷ more) = KeyCall key_name first left × CallsInTurn key_name left more
+
+-- the index that a call used up, unless it left the key that it found
+abbrev pub index_used : Keyfile → Keyfile → List ℕ
+index_used found left = if left.next == found.next then [] else found.next ∷ []
+
+-- the indices that calls have used up which left these keys in turn
+abbrev pub indices_used : Keyfile → List Keyfile → List ℕ
+indices_used first [] = []
+indices_used first (left ∷ more) = index_used first left ++ indices_used left more
+
+-- The indices that calls one after another use up ascend, so that no two calls sign at one index.
 abbrev pub IndicesInTurnDiffer : Type 0
 IndicesInTurnDiffer =
-    (first last : Keyfile) (indices : List ℕ) → AreIndicesInTurn first indices last
-    → AllPairs (λ sooner later. sooner < later) indices
+    (key_name : List ℕ) (first : Keyfile) (left : List Keyfile) → CallsInTurn key_name first left
+    → AllPairs (λ sooner later. sooner < later) (indices_used first left)
 
--- An old copy of KEY that is put back makes two calls sign at one index: that each finds the key that the one before
--- left cannot be left out.
+-- Where an old copy of KEY is put back, two calls use up one index: that each finds the key that the one before left
+-- cannot be left out.
 abbrev pub OldKeysSignAgain : Type 0
 OldKeysSignAgain =
-    (key : Keyfile) → AreIndicesInTurn key (key.next ∷ []) (keyfile_after_use key)
-    × AreIndicesInTurn key (key.next ∷ []) (keyfile_after_use key)
+    (key : Keyfile)
+    → (indices_used key (keyfile_after_use key ∷ []) ++ indices_used key (keyfile_after_use key ∷ [])
+    ≡ key.next ∷ key.next ∷ [])
     × (AllPairs (λ sooner later. sooner < later) (key.next ∷ key.next ∷ []) → ⊥)
