@@ -22,3 +22,4 @@ pub mod UseLemmas
 pub mod KeyLemmas
 pub mod RegionEventLemmas
 pub mod KeyFileLemmas
+pub mod NoiseLemmas

@@ -12,3 +12,4 @@ pub mod AgreementLaws
 pub mod UseLaws
 pub mod KeyLaws
 pub mod KeyFileLaws
+pub mod NoiseLaws

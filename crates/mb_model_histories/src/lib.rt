@@ -8,6 +8,7 @@ mod acceptance;
 mod agreement;
 mod histories;
 mod keys;
+mod noise;
 mod owners;
 mod power;
 mod repair;
@@ -25,6 +26,7 @@ pub use histories::{
     replayed_images_sign_again,
 };
 pub use keys::{key_files_sign_once, keys_differ};
+pub use noise::noise_matters_to_keys_alone;
 pub use owners::{only_owners_decide, owners_stay, regions_keep_their_owner, values_are_admitted};
 pub use power::{power_losses_reach_nothing_new, runs_are_determined};
 pub use repair::{live_devices_come_to_layer_one, owners_beneath_can_always_act};
