@@ -1,1 +1,3 @@
 pub mod LoadLemmas
+pub mod FileLemmas
+pub mod EndorsementLemmas

@@ -3,6 +3,8 @@
 //! This crate owns what holds of each row of the table of `mb_top`, by its definition alone. No command calls it.
 #![tactic(auto)]
 
+mod endorsements;
 mod loads;
 
+pub use endorsements::{endorsements_are_accepted, makers_endorse_once};
 pub use loads::loads_are_counted;
