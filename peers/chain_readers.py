@@ -11,6 +11,7 @@ import types
 
 import chains
 import fleet
+import images
 import policies  # noqa: F401, among the commands of chains.py from here on
 from life import Living
 from lms import sha256, u8, u16
@@ -127,6 +128,8 @@ class World(Host):
             return status, printed
         if command == "factory":
             return 0, self.factory(*names)
+        if command == "migrate":
+            return 0, self.migrate(*names)
         if command == "run":
             return 0, self.run(*names)
         printed = self.does(command, *names)
@@ -141,6 +144,12 @@ class World(Host):
         new, old = (Living(self.files[noise], maker, self.files[owner], self.files[code], each) for each in (2, 1))
         self.devices[image], self.old[sha256(old.image())] = new, old
         return f"serial {self.devices[image].serial.hex()}\n"
+
+    def migrate(self, image, out):
+        """The hash of the current form of an image. That of an old device means that device."""
+        bytes_ = images.image_of(images.migrated(self.content(image)))
+        self.devices[out] = copy.deepcopy(self.old[sha256(bytes_)])
+        return f"migrated {sha256(bytes_).hex()}\n"
 
     def run(self, image, script, noise):
         """What a device prints that serves the script, or None if its power is cut, after which it is dead."""
@@ -173,13 +182,9 @@ class World(Host):
             self.files[name] = b"".join(map(self.part, parts))
 
     def gives(self, name, content):
-        """Makes a file of what is given; the image of an old device means that device."""
-        bytes_ = given_bytes(*content)
+        """Makes a file of what is given."""
         self.devices.pop(name, None)
-        if sha256(bytes_) in self.old:
-            self.devices[name] = copy.deepcopy(self.old[sha256(bytes_)])
-        else:
-            self.files[name] = bytes_
+        self.files[name] = given_bytes(*content)
 
     def part(self, part):
         kind, what, *numbers = part
