@@ -6,13 +6,14 @@
 # row of a crate's page, its README.md, names public calls of the crate, and clauses that these calls have, and so does
 # what the page has that they do not say; each clause of each public call has a row there, but for those that the table
 # of common clauses in docs/believe/crates.md has; the table of crates in docs/change/architecture.md has a row for each
-# crate and for nothing else, and names those on which each stands as crates.txt does; the commands that
-# docs/use/commands.md lists first are those of --help, in its order; each block of a tutorial in docs/start/ stands in
-# an example, and each line in its tables is listed, with its status, in docs/use/commands.md or docs/use/formats.md;
-# the figure of the layers of crates is that of crates.txt; each file of definitions that a clause of `top` reaches is
-# named in a section of docs/believe/definitions.md, and the counts of such files and their lines there and in
-# docs/believe/theorem.md are right within a tenth. A method of a trait is a call of the type that implements it if it
-# has clauses of its own there. Prints a line for each that is wrong, and nothing if none is.
+# crate and for nothing else, and names those on which each stands as crates.txt does; the first block of
+# docs/use/commands.md is the text that a test expects of --help, and the version that CHANGELOG.md names is the one that
+# it expects of --version; each block of a tutorial in docs/start/ stands in an example, and each line in its tables is
+# listed, with its status, in docs/use/commands.md or docs/use/formats.md; the figure of the layers of crates is that of
+# crates.txt; each file of definitions that a clause of `top` reaches is named in a section of
+# docs/believe/definitions.md, and the counts of such files and their lines there and in docs/believe/theorem.md are
+# right within a tenth. A method of a trait is a call of the type that implements it if it has clauses of its own there.
+# Prints a line for each that is wrong, and nothing if none is.
 set -u
 cd "$(dirname "$0")/.." || exit 2
 
@@ -276,30 +277,24 @@ def check_layers(script, figure):
         report(figure, 1, f"{script} draws another figure")
 
 
-# ---- the list of commands
+# ---- what --help and --version print
 
-def commands_of(path, begins):
-    """The lines of a list of commands, which begin with these words: the words of each, up to two spaces."""
-    return [
-        re.split(r" {2,}", line[len(begins):])[0]
-        for line in path.read_text().splitlines()
-        if line.startswith(begins)
-    ]
+def block_of(text):
+    """The lines of the first indented block of a page."""
+    block = re.search(r"^    .*\n(?:(?:    .*)?\n)*", text, re.M)[0]
+    return [line[4:] for line in block.rstrip().splitlines()]
 
 
-def commands_in_table(path):
-    """The commands of the program's table, each with the words after its name."""
-    rows = re.findall(r'\(\s*Command::\w+,\s*"(\w+)",\s*&\[([\w\s,]*)\]', path.read_text())
-    return [" ".join([name, *re.findall(r"\w+", words)]) for name, words in rows]
-
-
-def check_commands(path):
-    usage = commands_in_table(pathlib.Path("crates/mb_top/src/table.rt"))
-    usage += ["--help", "--version"]
-    listed = commands_of(path, "    miniboot ")[: len(usage)]
-    for said, printed in itertools.zip_longest(listed, usage):
-        if said != printed:
-            report(path, 1, f"--help has {printed}, and the list {said}")
+def check_help(page, changes, test):
+    """Whether a page shows the text, and the changes name the version, that the test expects the program to print."""
+    expected = dict(re.findall(r'^const ([A-Z]+): &str = "([^"]*)";', test.read_text(), re.M))
+    for shown, printed in itertools.zip_longest(block_of(page.read_text()), expected["HELP"].splitlines()):
+        if shown != printed:
+            report(page, 1, f"--help prints the line {printed!r}, and the page shows {shown!r}")
+            break
+    version = re.search(r"The current version is ([\d.]+),", changes.read_text())
+    if not version or f"miniboot {version[1]}\\n" != expected["VERSION"]:
+        report(changes, 1, f"--version prints {expected['VERSION']}, and the current version is another")
 
 
 documents = [page for folder in (".", "peers") for page in sorted(pathlib.Path(folder).glob("*.md"))]
@@ -309,7 +304,11 @@ for document in documents:
 check_proved(pathlib.Path("docs/believe/crates.md"))
 check_crates(pathlib.Path("docs/change/architecture.md"))
 check_layers(pathlib.Path("docs/figures/layers.py"), pathlib.Path("docs/figures/layers.svg"))
-check_commands(pathlib.Path("docs/use/commands.md"))
+check_help(
+    pathlib.Path("docs/use/commands.md"),
+    pathlib.Path("CHANGELOG.md"),
+    pathlib.Path("crates/mb_test_commands/src/tests/help.rt"),
+)
 for tutorial in sorted(set(pathlib.Path("docs/start").glob("*.md")) - {pathlib.Path("docs/start/kit.md")}):
     for number, what in tutorials.faults_of(tutorial.read_text()):
         report(tutorial, number, what)

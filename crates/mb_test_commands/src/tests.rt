@@ -5,6 +5,7 @@ mod devices;
 mod endorsements;
 mod failures;
 mod fleet;
+mod help;
 mod keys;
 mod limits;
 mod policies;

@@ -19,7 +19,7 @@ pub trait Program {
     fn alloc(&self) -> Global;
 
     /// The status with which the words end.
-    fn answer(&self, words: &[String], host: &mut MemoryHost) -> u8;
+    fn answer(&self, words: Vec<String>, host: &mut MemoryHost) -> u8;
 }
 
 /// Each play goes as it says, over a host of its own with these files.
@@ -92,7 +92,7 @@ pub(crate) fn status_of(
     words: &str,
 ) -> Result<u8, NoMemory> {
     let words = words_of(program.alloc(), words)?;
-    Ok(program.answer(&words, host))
+    Ok(program.answer(words, host))
 }
 
 /// The words end with this status and print these lines.

@@ -1,4 +1,4 @@
-//! The program goes through plays: `top`, over the simulated board on which nothing was loaded.
+//! The program goes through plays: `program` of `mb_top`, over the simulated board on which nothing was loaded.
 //!
 //! This crate is for tests alone. What plays are is `mb_test_plays`.
 #![tactic(auto)]

@@ -3,7 +3,6 @@
 use mb_board::SimBoard;
 use mb_host::MemoryHost;
 use mb_test_plays::{Given, Play, Program, Step};
-use mb_top::top;
 use std::alloc::Global;
 use std::test::Fail;
 
@@ -18,8 +17,9 @@ impl Program for Miniboot {
         self.alloc
     }
 
-    fn answer(&self, words: &[String], host: &mut MemoryHost) -> u8 {
-        top(self.alloc, words, host, &mut SimBoard::new(self.alloc))
+    fn answer(&self, words: Vec<String>, host: &mut MemoryHost) -> u8 {
+        let mut board = SimBoard::new(self.alloc);
+        mb_top::program(self.alloc, Ok(words), host, &mut board)
     }
 }
 
