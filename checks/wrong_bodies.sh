@@ -138,9 +138,8 @@ def try_by_prover(own):
 
 def try_by_test(room, crate, test):
     """What a test says of the edited crate."""
-    ran = subprocess.run(
-        ["rt", "try", "--test"], cwd=room / "crates" / crate, capture_output=True, text=True, errors="replace"
-    )
+    words, own = ["rt", "try", "--test", "--", test], room / "crates" / crate
+    ran = subprocess.run(words, cwd=own, capture_output=True, text=True, errors="replace")
     ended = re.search(rf"^test (?:\S+::)?{test} \.\.\. (ok|FAILED)", ran.stdout + ran.stderr, re.M)
     if not ended:
         return "not judged", f"{crate} ran no test {test}"
