@@ -1,3 +1,16 @@
 pub mod LoadLemmas
 pub mod FileLemmas
 pub mod EndorsementLemmas
+pub mod AlikeSteps
+pub mod InputsOnce
+pub mod AlikeCommands
+pub mod StoredCodes
+pub mod FleetOnce
+pub mod ListingOnce
+pub mod AlikeTools
+pub mod EventBytes
+pub mod AlikeRuns
+pub mod FreshHosts
+pub mod EndExamples
+pub mod DeadRuns
+pub mod EndLemmas

@@ -4,7 +4,9 @@
 #![tactic(auto)]
 
 mod endorsements;
+mod ends;
 mod loads;
 
 pub use endorsements::{endorsements_are_accepted, makers_endorse_once};
+pub use ends::ends_are_determined;
 pub use loads::loads_are_counted;

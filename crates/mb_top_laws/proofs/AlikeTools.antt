@@ -1,0 +1,165 @@
+-- Two ends of a command that serves no device are alike: the commands above the model.
+use Rattle.std.proofs.Common.{◌≡◌, ℕ, ◌==◌, if◌then◌else◌, Bool, true, false, List, Option, None, Some, refl, sym, ◌∙◌, ap, subst}
+use Rattle.std.specs.List.{AllByRecursion}
+use Rattle.mb_format.specs.Format.{IsBytes}
+use Rattle.mb_format.proofs.Whole.{IsClearWhole-from_exact}
+use Rattle.mb_model.specs.declared.key.PublicKey.{PublicKey}
+use Rattle.mb_model.specs.declared.role.Place.TheVariants as fault
+use Rattle.mb_model.specs.declared.state.Codes.{Codes}
+use Rattle.mb_model.specs.declared.state.State.{State}
+use Rattle.mb_model.specs.Acceptance.{Verdict, chain_acceptance, chain_rejection}
+use Rattle.mb_model.specs.Inputs.{fault_place}
+use Rattle.mb_model.specs.Meaning.{IsWellFormed}
+use Rattle.mb_model.specs.MigrateCommand.{MigrateNames, old_image_input, migrate}
+use Rattle.mb_model_lemmas.proofs.FaultLemmas.{one_fault}
+use Rattle.mb_migrate.proofs.Migrations.{migrates_to_one, migrates_or_cannot}
+use Rattle.mb_hss.specs.declared.maker.Maker.{Maker}
+use Rattle.mb_hss.specs.ExactFormats.{hss_key_exact, maker_exact}
+use Rattle.mb_tools_hss.specs.MakerInputs.{maker_input, hss_key_input}
+use Rattle.mb_tools_hss.specs.HssKeygen.{HsskeygenNames, hsskeygen, write_maker_key}
+use Rattle.mb_tools_hss.specs.Endorse.{EndorseNames, endorse, endorse_root, use_number}
+use Rattle.mb_tools_hss.specs.Endorsed.{EndorsedNames, endorsed, judge_endorsement}
+use Rattle.mb_policy.specs.declared.judging.Judgement.{Judgement}
+use Rattle.mb_policy.specs.declared.judging.Judgement.TheVariants as judgement
+use Rattle.mb_policy.specs.Policies.{PolicyItem}
+use Rattle.mb_policy.proofs.Clearness.{policies_clear, judgements_clear}
+use Rattle.mb_tools_policy.specs.Inputs.{policy_input}
+use Rattle.mb_tools_policy.specs.TrustCommand.{TrustNames, trust, tell_judgement, judge_verdict}
+use Rattle.mb_appvm.specs.declared.running.AppEnd.{AppEnd}
+use Rattle.mb_appvm.specs.declared.running.AppEnd.TheVariants as app_end
+use Rattle.mb_appvm.specs.Runs.{readable_secrets, AppRun}
+use Rattle.mb_appvm.proofs.Determined.{runs_end_once}
+use Rattle.mb_tools_app.specs.AppCommand.{AppNames, code_of_layer, RunsStoredCode, app, run_stored_code, tell_end}
+use Rattle.mb_tools_app.specs.AssemblyCommands.{AsmNames, DisasmNames, asm, disasm}
+use Rattle.mb_fleet.specs.declared.row.Row.{Row}
+use Rattle.mb_fleet.specs.declared.item.Item.{Item}
+use Rattle.mb_fleet.specs.Rows.{AreOrdered}
+use Rattle.mb_tools_fleet.specs.FleetCommand.{FleetNames, FleetOutcome, all_served, text_too_long, ServingComesTo, keep_register, fleet}
+use Rattle.mb_top_laws.proofs.AlikeSteps.{IsReadOnce, Alike, alike_read, alike_find, alike_found, alike_either, alike_write, alike_print, alike_refuse, lack_never}
+use Rattle.mb_top_laws.proofs.InputsOnce.{binary_once, leading_once, whole_once, root_once, image_once}
+use Rattle.mb_top_laws.proofs.AlikeCommands.{one_verdict, whole_bytes}
+use Rattle.mb_top_laws.proofs.StoredCodes.{AreCodesBytes, image_codes}
+use Rattle.mb_top_laws.proofs.ListingOnce.{listing_once, assembly_once}
+use Rattle.mb_top_laws.proofs.FleetOnce.{IsOfBytes, items_bytes, served_same, register_once, register_ordered, items_once}
+
+-- ---- `migrate`
+
+old_image_once : (name : List ℕ) → IsReadOnce (old_image_input name)
+old_image_once name = record {
+  one_value = λ bytes a b are is also. migrates_to_one bytes a b are is.0 also.0;
+  one_place = λ bytes p q are is also. is.1 ∙ ap fault_place (one_fault bytes is.0 also.0 are is.2.told also.2.told) ∙ sym also.1;
+  never_both = λ bytes value place are is wrong. migrates_or_cannot bytes value wrong.0 are is.0 wrong.2;
+}
+
+pub migrate_alike : (names : MigrateNames) → Alike (migrate names) (migrate names)
+unfolding migrate
+migrate_alike names = alike_read _ _ (old_image_once _) (λ bytes image are is. alike_write _ _ (alike_print _))
+
+-- ---- a maker's HSS key
+
+maker_once : (name : List ℕ) → IsReadOnce (maker_input name)
+maker_once name = binary_once _ _ name (IsClearWhole-from_exact maker_exact)
+
+hss_key_once : (name : List ℕ) → IsReadOnce (hss_key_input name)
+hss_key_once name = binary_once _ _ name (IsClearWhole-from_exact hss_key_exact)
+
+pub hsskeygen_alike : (names : HsskeygenNames) → Alike (hsskeygen names) (hsskeygen names)
+unfolding hsskeygen write_maker_key
+hsskeygen_alike names = alike_read _ _ (leading_once _ _ _) (λ bytes noise are is. alike_write _ _ (alike_write _ _ (alike_print _)))
+
+use_number_alike : (names : EndorseNames) (maker : Maker) (root : PublicKey) → Alike (use_number names maker root) (use_number names maker root)
+unfolding use_number
+use_number_alike names maker root = alike_write _ _ (alike_write _ _ (alike_print _))
+
+pub endorse_alike : (names : EndorseNames) → Alike (endorse names) (endorse names)
+unfolding endorse endorse_root
+endorse_alike names = alike_read _ _ (maker_once _) (λ bytes maker are is. alike_read _ _ (root_once _) (λ text root are is.
+    alike_either _ _ _ (λ spent. alike_refuse _) (λ left. use_number_alike names maker root)))
+
+pub endorsed_alike : (names : EndorsedNames) → Alike (endorsed names) (endorsed names)
+unfolding endorsed judge_endorsement
+endorsed_alike names = alike_read _ _ (hss_key_once _) (λ bytes key are is. alike_read _ _ (root_once _) (λ text root are is.
+    alike_read _ _ (whole_once _ _) (λ signed endorsement are is. alike_either _ _ _ (λ verifies. alike_print _) (λ not. alike_refuse _))))
+
+-- ---- `trust`
+
+policy_once : (name : List ℕ) → IsReadOnce (policy_input name)
+policy_once name = record {
+  one_value = λ bytes a b are is also. policies_clear.one_policy bytes a b is also;
+  one_place = λ bytes p q are is also. is.1 ∙ ap (λ (n : ℕ). fault.Line n) (policies_clear.one_line bytes is.0 also.0 is.2 also.2) ∙ sym also.1;
+  never_both = λ bytes value place are is wrong. policies_clear.never_both bytes value wrong.0 is wrong.2;
+}
+
+judgement_alike : (judged : Judgement) → Alike (tell_judgement judged) (tell_judgement judged)
+judgement_alike judgement.Allowed = alike_print _
+judgement_alike (judgement.Denied number rule) = alike_refuse _
+
+judged_alike : (listed : List PolicyItem) (verdict : Verdict) → Alike (judge_verdict listed verdict) (judge_verdict listed verdict)
+judged_alike listed (chain_acceptance report) = alike_found _ _ (λ a b is also. judgements_clear.one_judgement listed report a b is also) (λ judged is. judgement_alike judged)
+judged_alike listed (chain_rejection why) = alike_refuse _
+
+pub trust_alike : (names : TrustNames) → Alike (trust names) (trust names)
+unfolding trust
+trust_alike names = alike_read _ _ (root_once _) (λ bytes maker are is. alike_read _ _ (whole_once _ _) (λ text chain given held.
+    alike_read _ _ (policy_once _) (λ lines listed are is.
+    alike_found _ _ (λ a b one other. one_verdict maker chain names.key a b (whole_bytes text chain given held) one other) (λ verdict told. judged_alike listed verdict))))
+
+-- ---- the code of applications
+
+ending_alike : (ending : AppEnd) → Alike (tell_end ending) (tell_end ending)
+ending_alike (app_end.Halted steps output) = alike_print _
+ending_alike (app_end.Trap cause place output) = alike_refuse _
+ending_alike (app_end.OutOfSteps output) = alike_refuse _
+
+layer_bytes : (codes : Codes) (layer : ℕ) (code : List ℕ) → AreCodesBytes codes → code_of_layer codes layer ≡ Some code → IsBytes code
+layer_bytes codes layer code are is = by (layer == 2) refl
+  where
+    by : (b : Bool) → (layer == 2) ≡ b → IsBytes code
+    by true at = are.two code (sym (ap (λ (c : Bool). if c then codes.two else codes.three) at) ∙ is)
+    by false at = are.three code (sym (ap (λ (c : Bool). if c then codes.two else codes.three) at) ∙ is)
+
+some_code : (a b : List ℕ) → Some a ≡ Some b → a ≡ b
+some_code a b same = cc
+
+one_ending : (state : State) (layer : ℕ) (input : List ℕ) (steps : ℕ) (a b : AppEnd) → AreCodesBytes state.codes → RunsStoredCode state layer input steps a → RunsStoredCode state layer input steps b
+    → a ≡ b
+one_ending state layer input steps a b are one other =
+    let same : other.code ≡ one.code = some_code other.code one.code (sym other.stored ∙ one.stored) in
+    let run = subst (λ (c : List ℕ). AppRun c input (readable_secrets state.layers layer state.two state.three) steps b) same other.run in
+    runs_end_once one.code input (readable_secrets state.layers layer state.two state.three) steps a b (layer_bytes state.codes layer one.code are one.stored) one.run run
+
+stored_alike : (names : AppNames) (bytes : List ℕ) (state : Option State) (input : List ℕ) → IsBytes bytes → IsWellFormed bytes state
+    → Alike (run_stored_code names state input) (run_stored_code names state input)
+stored_alike names bytes None input are formed = alike_refuse _
+stored_alike names bytes (Some state) input are formed = alike_either _ _ _
+    (λ runs. alike_found _ _ (λ a b is also. one_ending state names.layer input names.steps a b (image_codes bytes state are formed) is also) (λ ending is. ending_alike ending))
+    (λ not. alike_refuse _)
+
+pub app_alike : (names : AppNames) → Alike (app names) (app names)
+unfolding app
+app_alike names = alike_read _ _ (image_once _) (λ bytes image are is. alike_read _ _ (whole_once _ _) (λ text input given held. stored_alike names bytes image.state input are is.1))
+
+pub asm_alike : (names : AsmNames) → Alike (asm names) (asm names)
+unfolding asm
+asm_alike names = alike_read _ _ (assembly_once _) (λ bytes code are is. alike_write _ _ (alike_print _))
+
+pub disasm_alike : (names : DisasmNames) → Alike (disasm names) (disasm names)
+unfolding disasm
+disasm_alike names = alike_read _ _ (listing_once _) (λ bytes listed are is. alike_write _ _ (alike_print _))
+
+-- ---- `fleet`
+
+kept_alike : (name : List ℕ) (maker : PublicKey) (rows : List Row) (listed : List Item) (a b : FleetOutcome) → AreOrdered rows → AllByRecursion IsOfBytes listed
+    → ServingComesTo maker rows listed a → ServingComesTo maker rows listed b → Alike (keep_register name a) (keep_register name b)
+kept_alike name maker rows listed (all_served text after) (all_served line later) ordered are is also =
+    let same = served_same maker rows after later listed text line ordered are is also in
+    subst (λ (t : List ℕ). Alike (keep_register name (all_served text after)) (keep_register name (all_served t later))) same.0
+    (subst (λ (r : List Row). Alike (keep_register name (all_served text after)) (keep_register name (all_served text r))) same.1 (alike_write _ _ (alike_print _)))
+kept_alike name maker rows listed (all_served text after) text_too_long ordered are is also = λ past files printed e f goes lacks. absurd (lack_never past files printed f lacks)
+kept_alike name maker rows listed text_too_long b ordered are is also = λ past files printed e f lacks goes. absurd (lack_never past files printed e lacks)
+
+pub fleet_alike : (names : FleetNames) → Alike (fleet names) (fleet names)
+unfolding fleet
+fleet_alike names = alike_read _ _ (root_once _) (λ bytes maker are is. alike_read _ _ (register_once _) (λ held rows given in_form.
+    alike_read _ _ (items_once _) (λ asked listed read spelled.
+    alike_find _ _ (λ a b one other. kept_alike names.register maker rows listed a b (register_ordered held rows names.register in_form) (items_bytes asked listed read spelled) one other))))
