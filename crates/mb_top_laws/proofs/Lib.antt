@@ -14,3 +14,4 @@ pub mod FreshHosts
 pub mod EndExamples
 pub mod DeadRuns
 pub mod EndLemmas
+pub mod AppImageLemmas

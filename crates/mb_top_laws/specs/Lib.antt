@@ -1,3 +1,4 @@
 pub mod LoadLaws
 pub mod EndorsementLaws
 pub mod EndLaws
+pub mod AppImageLaws

@@ -6,7 +6,9 @@
 mod endorsements;
 mod ends;
 mod loads;
+mod sight;
 
 pub use endorsements::{endorsements_are_accepted, makers_endorse_once};
 pub use ends::ends_are_determined;
 pub use loads::loads_are_counted;
+pub use sight::app_tells_no_more_of_images;
