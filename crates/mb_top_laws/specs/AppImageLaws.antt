@@ -33,42 +33,44 @@ with_files files outside = record outside { files = Some files }
 
 -- the end, with these files before and after it
 abbrev pub over_files : (List ℕ → Option (List ℕ)) → Ended → Ended
-over_files files e = record e { before = with_files files e.before; after = with_files files e.after }
+over_files files ending =
+    record ending { before = with_files files ending.before; after = with_files files ending.after }
 
 -- Each end of `app` over an image is one over each other image that agrees on what the layer sees, with the same status
 -- and the same printed bytes. It leaves all files as they were.
 abbrev pub ImagesAlikeHaveEqualEnds : Type 0
 ImagesAlikeHaveEqualEnds =
-    (names : AppNames) (past : Past) (e : Ended) (files now : List ℕ → Option (List ℕ)) (image other : List ℕ)
-    → e.before.files ≡ Some files → HoldImages names files now image other → AreAlikeFor names.layer image other
-    → CommandEnds (app names) past e
-    → CommandEnds (app names) past (over_files now e) × (e.after.files ≡ Some files)
+    (names : AppNames) (past : Past) (ending : Ended) (files now : List ℕ → Option (List ℕ)) (image other : List ℕ)
+    → ending.before.files ≡ Some files → HoldImages names files now image other → AreAlikeFor names.layer image other
+    → CommandEnds (app names) past ending
+    → CommandEnds (app names) past (over_files now ending) × (ending.after.files ≡ Some files)
 
--- Two ends of `app` over two images that agree on what the layer sees, if both show what they print, print the same, with
--- the same status.
+-- Two ends of `app` over two images that agree on what the layer sees, if both show what they print, print the same,
+-- with the same status.
 abbrev pub ImagesAlikeHaveEqualLines : Type 0
 ImagesAlikeHaveEqualLines =
-    (names : AppNames) (past other_past : Past) (e f : Ended) (files now : List ℕ → Option (List ℕ))
-    (image other text line : List ℕ) → e.before.files ≡ Some files → f.before.files ≡ Some now
+    (names : AppNames) (past other_past : Past) (ending other_ending : Ended) (files now : List ℕ → Option (List ℕ))
+    (image other text line : List ℕ) → ending.before.files ≡ Some files → other_ending.before.files ≡ Some now
     → HoldImages names files now image other → AreAlikeFor names.layer image other
-    → CommandEnds (app names) past e → ShowsPrinted e text
-    → CommandEnds (app names) other_past f → ShowsPrinted f line
-    → (text ≡ line) × (e.status ≡ f.status)
+    → CommandEnds (app names) past ending → ShowsPrinted ending text
+    → CommandEnds (app names) other_past other_ending → ShowsPrinted other_ending line
+    → (text ≡ line) × (ending.status ≡ other_ending.status)
 
 -- The layers are seen: over an image in whose state the layer may run, and one in whose state it may not, the command
 -- prints different lines, even if nothing else differs.
 abbrev pub LayersAreSeen : Type 0
 LayersAreSeen =
-    (names : AppNames) (past other_past : Past) (e f : Ended) (files now : List ℕ → Option (List ℕ))
-    (image other text line : List ℕ) (state twin : State) → e.before.files ≡ Some files → f.before.files ≡ Some now
+    (names : AppNames) (past other_past : Past) (ending other_ending : Ended) (files now : List ℕ → Option (List ℕ))
+    (image other text line : List ℕ) (state twin : State)
+    → ending.before.files ≡ Some files → other_ending.before.files ≡ Some now
     → HoldImages names files now image other
     → IsWellFormed image (Some state) → Runnable state.layers names.layer
     → IsWellFormed other (Some twin) → (Runnable twin.layers names.layer → ⊥)
-    → CommandEnds (app names) past e → ShowsPrinted e text
-    → CommandEnds (app names) other_past f → ShowsPrinted f line → text ≢ line
+    → CommandEnds (app names) past ending → ShowsPrinted ending text
+    → CommandEnds (app names) other_past other_ending → ShowsPrinted other_ending line → text ≢ line
 
--- A code that copies the secret `a` of region 2 to the end of the memory, where only an empty value has room, and halts:
--- `push 1024`, `push 2`, `get a`, `halt`.
+-- A code that copies the secret `a` of region 2 to the end of the memory, where only an empty value has room, and
+-- halts: `push 1024`, `push 2`, `get a`, `halt`.
 abbrev pub copying_code : List ℕ
 copying_code =
     0x01 ∷ 0x00 ∷ 0x00 ∷ 0x04 ∷ 0x00 ∷ 0x01 ∷ 0x00 ∷ 0x00 ∷ 0x00 ∷ 0x02 ∷ 0x43 ∷ 0x01 ∷ 0x61 ∷ 0x00 ∷ []
@@ -82,15 +84,15 @@ pub record HasCopyingCode (image value : List ℕ) (state : State) : Type 0 wher
   pub found : find (has_name (codes "a")) state.two.secrets ≡ Some secret
   pub value_is : secret.value ≡ value
 
--- Secrets of a region that the layer may read are seen: over an image where the value is empty, and one where it is not,
--- the command prints different lines, even if nothing else differs.
+-- Secrets of a region that the layer may read are seen: over an image where the value is empty, and one where it is
+-- not, the command prints different lines, even if nothing else differs.
 abbrev pub SecretsAreSeen : Type 0
 SecretsAreSeen =
     (image_name input_name : List ℕ)
     → let names : AppNames = record { image = image_name; layer = 2; input = input_name; steps = 4 } in
-    (past other_past : Past) (e f : Ended) (files now : List ℕ → Option (List ℕ))
-    (image other text line value : List ℕ) (state twin : State) → e.before.files ≡ Some files
-    → f.before.files ≡ Some now → HoldImages names files now image other
+    (past other_past : Past) (ending other_ending : Ended) (files now : List ℕ → Option (List ℕ))
+    (image other text line value : List ℕ) (state twin : State) → ending.before.files ≡ Some files
+    → other_ending.before.files ≡ Some now → HoldImages names files now image other
     → HasCopyingCode image [] state → HasCopyingCode other value twin → 1 ≤ length value
-    → CommandEnds (app names) past e → ShowsPrinted e text
-    → CommandEnds (app names) other_past f → ShowsPrinted f line → text ≢ line
+    → CommandEnds (app names) past ending → ShowsPrinted ending text
+    → CommandEnds (app names) other_past other_ending → ShowsPrinted other_ending line → text ≢ line

@@ -23,30 +23,31 @@ pub record ShowsAll (outside : Outside) (files : Files) (printed : List ℕ) : T
   pub files_are : outside.files ≡ Some files
   pub printed_is : outside.printed ≡ Some printed
 
--- A command has ended so. Before it the host showed these files, and these bytes as printed; no call of the host failed,
--- and the command did not end for lack of memory.
-pub record EndsUndisturbed (does : Does) (files : Files) (printed : List ℕ) (e : Ended) : Type 0 where
-  pub ends : CommandEnds does at_first e
-  pub shown : ShowsAll e.before files printed
-  pub faultless : IsFaultless e.before e.after
-  pub found : e.status ≢ 6
+-- A command has ended so. Before it the host showed these files, and these bytes as printed; no call of the host
+-- failed, and the command did not end for lack of memory.
+pub record EndsUndisturbed (does : Does) (files : Files) (printed : List ℕ) (one : Ended) : Type 0 where
+  pub ends : CommandEnds does at_first one
+  pub shown : ShowsAll one.before files printed
+  pub faultless : IsFaultless one.before one.after
+  pub found : one.status ≢ 6
 
 -- Two ends are alike: they have the same status, and the hosts show the same files and the same printed bytes.
-pub record AreAlike (e f : Ended) : Type 0 where
-  pub status : e.status ≡ f.status
+pub record AreAlike (one other : Ended) : Type 0 where
+  pub status : one.status ≡ other.status
   pub files : Files
   pub printed : List ℕ
-  pub shown : ShowsAll e.after files printed
-  pub also : ShowsAll f.after files printed
+  pub shown : ShowsAll one.after files printed
+  pub also : ShowsAll other.after files printed
 
 -- ---- commands that serve no device
 
 -- Two undisturbed ends of such a command, with the same arguments and from the same files, are alike.
 abbrev pub CommandsAreDetermined : Type 0
 CommandsAreDetermined =
-    (called : Command) (given : List Argument) (files : Files) (printed : List ℕ) (e f : Ended) → serves called ≡ false
-    → EndsUndisturbed (command_of called given) files printed e
-    → EndsUndisturbed (command_of called given) files printed f → AreAlike e f
+    (called : Command) (given : List Argument) (files : Files) (printed : List ℕ) (one other : Ended)
+    → serves called ≡ false
+    → EndsUndisturbed (command_of called given) files printed one
+    → EndsUndisturbed (command_of called given) files printed other → AreAlike one other
 
 -- each file is empty
 abbrev pub empty_files : Files
@@ -54,7 +55,7 @@ empty_files name = Some []
 
 -- the command ends so over these files, whatever disturbs it
 abbrev pub EndsFrom : Does → Files → List ℕ → Ended → Type 0
-EndsFrom does files printed e = CommandEnds does at_first e × ShowsAll e.before files printed
+EndsFrom does files printed one = CommandEnds does at_first one × ShowsAll one.before files printed
 
 -- `disasm` of an empty file can end in three ways that are not alike.
 pub record DisturbedEndsDiffer (given : List Argument) (printed : List ℕ) : Type 0 where
@@ -81,28 +82,29 @@ pub data HoldAlike (one other : Option (List ℕ)) : Type 0 where
   hold_images : (image changed : List ℕ) (state : Option State) → one ≡ Some image → other ≡ Some changed
       → IsWellFormed image state → IsWellFormed changed state → HoldAlike one other
 
--- Two ends of `run` are alike but for the bytes of their images: they have the same status and the same answers, and the
--- hosts show the same printed bytes and the same files, except that their images may be two that mean the same state. If
--- no answer tells of a change, and no event is a tamper, the images are the same too.
-pub record AreRunsAlike (image : List ℕ) (e f : Ended) : Type 0 where
-  pub status : e.status ≡ f.status
-  pub answers : e.used.answered ≡ f.used.answered
+-- Two ends of `run` are alike but for the bytes of their images: they have the same status and the same answers, and
+-- the hosts show the same printed bytes and the same files, except that their images may be two that mean the same
+-- state. If no answer tells of a change, and no event is a tamper, the images are the same too.
+pub record AreRunsAlike (image : List ℕ) (one other : Ended) : Type 0 where
+  pub status : one.status ≡ other.status
+  pub answers : one.used.answered ≡ other.used.answered
   pub files : Files
   pub changed : Files
   pub printed : List ℕ
-  pub shown : ShowsAll e.after files printed
-  pub also : ShowsAll f.after changed printed
+  pub shown : ShowsAll one.after files printed
+  pub also : ShowsAll other.after changed printed
   pub others : (name : List ℕ) → name ≢ image → files name ≡ changed name
   pub images : HoldAlike (files image) (changed image)
-  pub untouched : All LeavesMemory e.used.answered → files image ≡ changed image
+  pub untouched : All LeavesMemory one.used.answered → files image ≡ changed image
 
 -- Two undisturbed ends of `run`, with the same names and from the same files, are so alike, if each answer is the
 -- machine's own: memory was found at each event, and power held.
 abbrev pub RunsAgree : Type 0
 RunsAgree =
-    (names : RunNames) (files : Files) (printed : List ℕ) (e f : Ended) → EndsUndisturbed (run names) files printed e
-    → EndsUndisturbed (run names) files printed f → All HasOwnAnswer e.used.answered
-    → All HasOwnAnswer f.used.answered → AreRunsAlike names.image e f
+    (names : RunNames) (files : Files) (printed : List ℕ) (one other : Ended)
+    → EndsUndisturbed (run names) files printed one
+    → EndsUndisturbed (run names) files printed other → All HasOwnAnswer one.used.answered
+    → All HasOwnAnswer other.used.answered → AreRunsAlike names.image one other
 
 -- the names of the files of a call of `run`
 abbrev pub dead_names : RunNames
@@ -128,8 +130,8 @@ pub record LackingRunsDiffer (printed : List ℕ) : Type 0 where
   pub own : All HasOwnAnswer runs.one.used.answered
   pub differ : runs.one.after.printed ≢ runs.other.after.printed
 
--- The bytes of an image are left free: over a script of one `tamper` two such ends, at which each answer is the machine's
--- own, have left two images.
+-- The bytes of an image are left free: over a script of one `tamper` two such ends, at which each answer is the
+-- machine's own, have left two images.
 pub record ImagesMayDiffer (printed : List ℕ) : Type 0 where
   pub runs : TwoRuns (codes "tamper\n") printed
   pub own : All HasOwnAnswer runs.one.used.answered

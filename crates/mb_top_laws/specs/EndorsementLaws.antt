@@ -1,5 +1,5 @@
--- Laws of `endorse` and `endorsed`. Is what a maker has endorsed accepted, and does a maker's KEY endorse twice with one
--- number?
+-- Laws of `endorse` and `endorsed`. Is what a maker has endorsed accepted, and does a maker's KEY endorse twice with
+-- one number?
 use Rattle.std.specs.Prelude.{◌≡◌, ◌≢◌, ◌<◌, ◌⊎◌, ◌^◌, ℕ, List, [], ◌∷◌, AllPairs, codes, Option, Some}
 use Rattle.mb_format.specs.Format.{Format, IsBytes, Spells}
 use Rattle.mb_model.specs.declared.key.PublicKey.{PublicKey}
@@ -27,8 +27,8 @@ HoldsValue format files name value =
 
 -- ---- what is accepted
 
--- A call of `endorsed`, over a host that shows its files: PUBLIC is this maker's key, ROOT the root key, and ENDORSEMENT
--- these bytes. No call of the host failed.
+-- A call of `endorsed`, over a host that shows its files: PUBLIC is this maker's key, ROOT the root key, and
+-- ENDORSEMENT these bytes. No call of the host failed.
 pub record JudgesEndorsement
     (key : HssKey)
     (root : PublicKey)
@@ -104,8 +104,8 @@ pub record EndorseCall : Type 0 where
   pub found : Maker
   pub left : Maker
 
--- The call is one of `endorse` on the KEY of this name, which is not OUT. A KEY that was not written holds what it held,
--- or what was to be written, as files are replaced whole.
+-- The call is one of `endorse` on the KEY of this name, which is not OUT. A KEY that was not written holds what it
+-- held, or what was to be written, as files are replaced whole.
 pub record IsCallOn (key : List ℕ) (call : EndorseCall) : Type 0 where
   pub on : call.names.key ≡ key
   pub apart : call.names.out ≢ key
@@ -149,8 +149,8 @@ pub record IsDoneOver (names : EndorseNames) (files : ShownFiles) (maker : Maker
   pub done : call.ending.status ≡ 0
 
 -- An old copy of KEY that is put back makes two calls use one number: where KEY holds a maker with a number left, there
--- is a call for each of two files ROOT that is done, and both use the next number. That each call finds the KEY that the
--- one before left cannot be left out.
+-- is a call for each of two files ROOT that is done, and both use the next number. That each call finds the KEY that
+-- the one before left cannot be left out.
 abbrev pub OldMakersEndorseAgain : Type 0
 OldMakersEndorseAgain =
     (names : EndorseNames) (second_root : List ℕ) (files : ShownFiles) (maker : Maker) (root other : PublicKey)

@@ -16,24 +16,28 @@ serves _ = false
 
 -- a command with these arguments has ended so
 abbrev pub EndsCalled : Command → List Argument → Ended → Type 0
-EndsCalled called given e = CommandEnds (command_of called given) at_first e
+EndsCalled called given ending = CommandEnds (command_of called given) at_first ending
 
 -- a command that serves no device has loaded no board, however it ends
 abbrev pub NothingIsLoaded : Ended → Type 0
-NothingIsLoaded e =
-    (called : Command) (given : List Argument) → serves called ≡ false → EndsCalled called given e → e.used ≡ not_used
+NothingIsLoaded ending =
+    (called : Command) (given : List Argument) → serves called ≡ false → EndsCalled called given ending
+    → ending.used ≡ not_used
 
 -- The board was never loaded, and the status is 3, 4, 5 or 6; or it was loaded this often, and the command is done, or
 -- an output failed, or memory was lacking.
 abbrev pub EndsAfterLoads : Type 0 → Ended → Type 0
-EndsAfterLoads Often e = ((e.used ≡ not_used) × (3 ≤ e.status)) ⊎ (Often × ((e.status ≡ 0) ⊎ (5 ≤ e.status)))
+EndsAfterLoads Often ending =
+    ((ending.used ≡ not_used) × (3 ≤ ending.status)) ⊎ (Often × ((ending.status ≡ 0) ⊎ (5 ≤ ending.status)))
 
 -- `run` and `generate` load a board once, or end before they do
-pub record LoadsOnce (e : Ended) : Type 0 where
-  pub run : (given : List Argument) → EndsCalled command.Run given e → EndsAfterLoads (e.used.loads ≡ 1) e
-  pub generate : (given : List Argument) → EndsCalled command.Generate given e → EndsAfterLoads (e.used.loads ≡ 1) e
+pub record LoadsOnce (ending : Ended) : Type 0 where
+  pub run : (given : List Argument) → EndsCalled command.Run given ending
+      → EndsAfterLoads (ending.used.loads ≡ 1) ending
+  pub generate : (given : List Argument) → EndsCalled command.Generate given ending
+      → EndsAfterLoads (ending.used.loads ≡ 1) ending
 
 -- `cutat` loads a board twice, or once and memory was lacking, or ends before it does
-pub record LoadsTwice (e : Ended) : Type 0 where
-  pub cutat : (given : List Argument) → EndsCalled command.Cutat given e
-      → EndsAfterLoads (((e.used.loads ≡ 1) × (e.status ≡ 6)) ⊎ (e.used.loads ≡ 2)) e
+pub record LoadsTwice (ending : Ended) : Type 0 where
+  pub cutat : (given : List Argument) → EndsCalled command.Cutat given ending
+      → EndsAfterLoads (((ending.used.loads ≡ 1) × (ending.status ≡ 6)) ⊎ (ending.used.loads ≡ 2)) ending

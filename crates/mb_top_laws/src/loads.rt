@@ -7,7 +7,7 @@ ghost use Rattle.mb_top_laws.specs.LoadLaws.{NothingIsLoaded, LoadsOnce, LoadsTw
 /// `cutat` twice. At status 3 and 4 they have loaded none; at a higher status none, or as often as if they were done,
 /// and `cutat` at status 6 also once.
 pub fn loads_are_counted()
-    ensures none { (e : Ended) → NothingIsLoaded e }
-    ensures once { (e : Ended) → LoadsOnce e }
-    ensures twice { (e : Ended) → LoadsTwice e }
+    ensures none { (ending : Ended) → NothingIsLoaded ending }
+    ensures once { (ending : Ended) → LoadsOnce ending }
+    ensures twice { (ending : Ended) → LoadsTwice ending }
 {}
