@@ -2,6 +2,7 @@
 
 ghost use Rattle.std.specs.Prelude.{◌≡◌, ◌+◌, ◌<◌, ◌≤◌, [], ◌∷◌, ◌++◌, IfOk, IsSome, OnErr, vec_len, vec_capacity, if◌then◌else◌, ◌*◌, true, false};
 ghost use Rattle.mb_model.specs.declared.limits.TheConstants.{LAST_INDEX, ENTRY_LIMIT};
+ghost use Rattle.mb_model.specs.Log.{keys_in, keys_made_by};
 ghost use Rattle.mb_model.specs.Signing.{public_of};
 ghost use Rattle.mb_model.specs.OrderEffects.{names_next, next_key, next_device_key, entry_of, device_after, uses_after};
 ghost use Rattle.mb_model.specs.Work.{ready_by, first_by, key_by, outgoing_by, bodies_by};
@@ -36,9 +37,9 @@ pub fn needed(uses: u32, names_next: bool) -> u32
     }
 }
 
-/// The entries and keys that the fact adds to a device, in at most 68,798 hashes: those of two public keys. New keys
-/// are derived from the draw. The tree of a new device key is on the bench afterwards, to sign by; that of a region's
-/// key is not, since the order does not sign by it.
+/// The entries and keys that the fact adds to a device, in 34,399 hashes for each key that the entries name, of which
+/// there are at most two. New keys are derived from the draw. The tree of a new device key is on the bench afterwards,
+/// to sign by; that of a region's key is not, since the order does not sign by it.
 ///
 /// No hash is taken if an allocation fails.
 pub fn bodies<L: Ledger>(
@@ -54,6 +55,8 @@ pub fn bodies<L: Ledger>(
     ensures bodies { IfOk result (λ bodies. bodies ≡ bodies_by view.now fact.now draw.now) }
     ensures at_hand { IfOk result (λ bodies. IsSome bodies.outgoing → HasTree bench.new bodies.device) }
     ensures cost { hashes.new ≤ hashes.old + 2 * TREE_HASHES }
+    ensures keys { IfOk result (λ bodies. hashes.new
+        ≤ hashes.old + keys_made_by bodies.entries * TREE_HASHES) }
     ensures unhashed { OnErr result (hashes.new ≡ hashes.old) }
 {
     let mut entries = Vec::with_capacity(alloc, MOST)?;
@@ -111,6 +114,8 @@ fn make_ready<L: Ledger>(
     ensures room { vec_len entries.new < vec_capacity entries.new }
     ensures at_hand { needed_with view.now.uses names_next ≡ 2 → HasTree bench.new result.device }
     ensures cost { hashes.new ≤ hashes.old + TREE_HASHES }
+    ensures keys { hashes.new
+        ≤ hashes.old + keys_made_by (first_by view.now names_next draw.now) * TREE_HASHES }
 {
     if needed(view.uses, names_next) == 1 {
         return *view;
@@ -181,6 +186,7 @@ fn device_after<L: Ledger>(
     ensures at_hand { names_next ≡ true → HasTree bench.new result.seed }
     ensures same { names_next ≡ false → bench.new ≡ bench.old }
     ensures cost { hashes.new ≤ hashes.old + TREE_HASHES }
+    ensures unmade { names_next ≡ false → hashes.new ≡ hashes.old }
 {
     if !names_next {
         return DeviceKey {
@@ -226,6 +232,7 @@ fn own_addition<L: Ledger>(
     ensures at_hand { names_next fact.now ≡ true → HasTree bench.new result.device }
     ensures same { names_next fact.now ≡ false → bench.new ≡ bench.old }
     ensures cost { hashes.new ≤ hashes.old + TREE_HASHES }
+    ensures keys { hashes.new ≤ hashes.old + keys_in result.entry * TREE_HASHES }
 {
     match *fact {
         Fact::Change {
@@ -272,6 +279,7 @@ fn key_addition<L: Ledger>(
     ensures uses { result.uses ≡ view.now.uses + 1 }
     ensures key { result.key ≡ key_by view.now (Fact.NewKey layer kind) draw.now }
     ensures cost { hashes.new ≤ hashes.old + TREE_HASHES }
+    ensures keys { hashes.new ≤ hashes.old + keys_in result.entry * TREE_HASHES }
 {
     let seed = born(draw, &view.serial, view.keys_made);
     Addition {

@@ -1,6 +1,7 @@
 //! Orders judged.
 
 ghost use Rattle.std.specs.Prelude.{◌≡◌, ◌+◌, ◌≤◌, IfOk, IsSome, OnErr, ◌*◌};
+ghost use Rattle.mb_model.specs.Log.{keys_made_by};
 ghost use Rattle.mb_model.specs.OrderFormat.{order_format};
 ghost use Rattle.mb_log.specs.Additions.{IsInRange};
 ghost use Rattle.mb_orders.specs.Judging.{Judges};
@@ -17,8 +18,8 @@ use std::alloc::Global;
 use std::sync::ledger::Ledger;
 
 /// Judges the order, which has a spelling, by the figures of a device. The plan of an order that passes every check
-/// derives new keys from `draw`, in at most 68,798 hashes: those of two public keys. The tree of a new device key is on
-/// the bench afterwards.
+/// derives new keys from `draw`, in 34,399 hashes for each key that the order's entries name, of which there are at most
+/// two. The tree of a new device key is on the bench afterwards.
 ///
 /// Errors: the first check that the order fails. Nothing is hashed then.
 pub fn judge<L: Ledger>(
@@ -35,6 +36,8 @@ pub fn judge<L: Ledger>(
     ensures at_hand { IfOk result (λ plan. IsSome plan.bodies.outgoing
         → HasTree bench.new plan.bodies.device) }
     ensures cost { hashes.new ≤ hashes.old + 2 * TREE_HASHES }
+    ensures keys { IfOk result (λ plan. hashes.new
+        ≤ hashes.old + keys_made_by plan.bodies.entries * TREE_HASHES) }
     ensures unhashed { OnErr result (hashes.new ≡ hashes.old) }
 {
     check(alloc, view, order)?;

@@ -2,6 +2,7 @@
 
 ghost use Rattle.std.specs.Prelude.{◌≡◌, ◌+◌, ◌≤◌, ◌==◌, IfOk, IsSome, OnErr, ◌*◌};
 ghost use Rattle.std.specs.List.{list_any};
+ghost use Rattle.mb_model.specs.Log.{keys_made_by};
 ghost use Rattle.mb_model.specs.OrderChecks.{LogHasRoom};
 ghost use Rattle.mb_model.specs.OrderEffects.{cosigners_of, change_fact, fact_of, layers_after};
 ghost use Rattle.mb_model.specs.Fates.{change_fate};
@@ -125,7 +126,7 @@ fn fate_of(layers: &Layers, fact: &Fact, key: Option<RegionKey>, region: u8) -> 
     }
 }
 
-/// Plans an order that passes every check. New keys are derived from `draw`.
+/// Plans an order that passes every check. New keys are derived from `draw`, in 34,399 hashes for each.
 pub fn make_plan<L: Ledger>(
     alloc: Global,
     view: &View,
@@ -140,6 +141,8 @@ pub fn make_plan<L: Ledger>(
     ensures at_hand { IfOk result (λ plan. IsSome plan.bodies.outgoing
         → HasTree bench.new plan.bodies.device) }
     ensures cost { hashes.new ≤ hashes.old + 2 * TREE_HASHES }
+    ensures keys { IfOk result (λ plan. hashes.new
+        ≤ hashes.old + keys_made_by plan.bodies.entries * TREE_HASHES) }
     ensures unhashed { OnErr result (hashes.new ≡ hashes.old) }
 {
     let fact = fact_of(&view.layers, order);

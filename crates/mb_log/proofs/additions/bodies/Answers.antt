@@ -1,5 +1,5 @@
 use Rattle.std.proofs.Common.{◌∙◌}
-use Rattle.mb_log.proofs.Added.{bodies_made}
+use Rattle.mb_log.proofs.Added.{bodies_made, trees_counted}
 use Rattle.mb_log.proofs.additions.bodies.Goals as goal
 
 pub returns-clause-bodies : goal.returns-clause-bodies
@@ -9,3 +9,8 @@ returns-clause-bodies g c =
     c.own_addition-own.result.uses c.outgoing.result c.own_addition-own.result.key c.names_next-next_named.ensures
     c.make_ready-ready.ensures.ready c.in_ok-entries.ensures.items c.make_ready-ready.ensures.entries (c.from_vec.ensures ∙ c.put.ensures.items)
     c.own_addition-own.ensures.entry c.own_addition-own.ensures.device c.own_addition-own.ensures.uses c.outgoing.ensures c.own_addition-own.ensures.key
+
+pub returns-clause-keys : goal.returns-clause-keys
+returns-clause-keys g c =
+    trees_counted c.in_ok-entries.entries.items c.make_ready-ready.new.entries.items _ c.from_vec.result c.own_addition-own.result.entry _ _ _ c.in_ok-entries.ensures.items c.make_ready-ready.ensures.entries (c.from_vec.ensures ∙ c.put.ensures.items)
+    c.make_ready-ready.ensures.keys c.own_addition-own.ensures.keys
