@@ -8,6 +8,7 @@ use Rattle.mb_model.specs.declared.reply.Refusal.{Refusal}
 use Rattle.mb_model.specs.declared.reply.Reply.{Reply}
 use Rattle.mb_model.specs.declared.reply.Reply.TheVariants as reply
 use Rattle.mb_model.specs.Listing.{is_done, is_signed}
+use Rattle.mb_model.specs.Machine.{World}
 use Rattle.mb_model.specs.Refusals.{refusal_reply}
 use Rattle.mb_outbound.specs.declared.kept.RegionTree.{RegionTree}
 use Rattle.mb_outbound.specs.KeptTrees.{IsKeptFor}
@@ -18,7 +19,7 @@ use Rattle.mb_device_regions.specs.Statements.{KeepsTree, LeavesTree}
 use Rattle.mb_device.specs.declared.device.Device.{Device}
 use Rattle.mb_device.specs.declared.device.Device.TheVariants as device
 use Rattle.mb_device.specs.Regions.{region_named}
-use Rattle.mb_device.specs.KeptTrees.{region_tree_in, HasDeviceTree, IsKeptToSign, IsKeptOnceSigned, leaves_tree, leaves_device_tree, TreesAreKept, trees_of, HasTreeFor, KeepsItsTrees, SignsByDeviceTree}
+use Rattle.mb_device.specs.KeptTrees.{region_tree_in, HasDeviceTree, IsKeptToSign, IsKeptOnceSigned, leaves_tree, leaves_device_tree, TreesAreKept, trees_of, HasTreeFor, KeepsItsTrees, MakesKeysOf, SignsByDeviceTree}
 
 -- ---- answers
 
@@ -168,8 +169,13 @@ tree_to_sign L e old before named was own =
     subst (λ (n : ℕ). IsKeptToSign before n e) (sym named) (subst (λ (t : Option Trees). IsKeptToSign t (region_named e) e) was own)
 
 -- an order that is refused
-pub refused_order : (before after : Device) (answer : Reply) (counted : ℕ) (refusal : Refusal) → answer ≡ refusal_reply refusal → SignsByDeviceTree before answer after counted counted
-refused_order before after answer counted refusal told = record {
+pub refused_order : (before after : Device) (keys : ℕ) (answer : Reply) (counted : ℕ) (refusal : Refusal) → answer ≡ refusal_reply refusal → SignsByDeviceTree before keys answer after counted counted
+refused_order before after keys answer counted refusal told = record {
   kept = λ done. let undone = refused_undone refusal answer told in absurd (cc);
   again = λ has. omega arith;
 }
+
+-- the order whose bytes were taken as a slice
+pub makes_with : (world : World) (keys : ℕ) (e : Event) (text slice draw : List ℕ) → e ≡ event.Command text draw → slice ≡ text → MakesKeysOf world e keys → MakesKeysOf world (event.Command slice draw) keys
+makes_with world keys e text slice draw is same makes =
+    subst (λ (xs : List ℕ). MakesKeysOf world (event.Command xs draw) keys) (sym same) (subst (λ (x : Event). MakesKeysOf world x keys) is makes)

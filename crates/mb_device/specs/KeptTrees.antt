@@ -11,7 +11,7 @@ use Rattle.mb_lms.specs.declared.hash_count.TheConstants.{LEAF_HASHES, TREE_HASH
 use Rattle.mb_outbound.specs.declared.kept.RegionTree.{RegionTree}
 use Rattle.mb_outbound.specs.KeptTrees.{IsKeptFor}
 use Rattle.mb_device_orders.specs.declared.remembering.Trees.{Trees}
-use Rattle.mb_device_orders.specs.Obeying.{LeavesDeviceKey}
+use Rattle.mb_device_orders.specs.Obeying.{LeavesDeviceKey, MakesKeys}
 use Rattle.mb_device.specs.declared.device.Device.{Device}
 use Rattle.mb_device.specs.declared.device.Device.TheVariants as device
 use Rattle.mb_device.specs.Regions.{region_named}
@@ -85,8 +85,20 @@ abbrev pub LeavesKeyOf : World → Event → Type 0
 LeavesKeyOf world (event.Command text draw) = (state : State) → world.state ≡ Some state → LeavesDeviceKey state text
 LeavesKeyOf world other = ⊥
 
--- What an order that leaves the device key does with its tree, where `counted` hashes were counted before it and
--- `after_it` are then. Once it is done, the tree is kept. If the tree was kept before, none is built to sign by.
-pub record SignsByDeviceTree (before : Device) (answer : Reply) (after : Device) (counted after_it : ℕ) : Type 0 where
+-- the event is an order that makes this many keys in this world
+abbrev pub MakesKeysOf : World → Event → ℕ → Type 0
+MakesKeysOf world (event.Command text draw) keys =
+    (state : State) → world.state ≡ Some state → MakesKeys state text draw keys
+MakesKeysOf world other keys = ⊥
+
+-- What an order that leaves the device key and makes this many keys does with the tree of that key, where `counted`
+-- hashes were counted before it and `after_it` are then. Once it is done, the tree is kept. If the tree was kept
+-- before, only those of the new keys are built, and at most two signatures made.
+pub record SignsByDeviceTree
+    (before : Device)
+    (keys : ℕ)
+    (answer : Reply)
+    (after : Device)
+    (counted after_it : ℕ) : Type 0 where
   pub kept : is_done answer ≡ true → HasDeviceTree (trees_of after)
-  pub again : HasDeviceTree (trees_of before) → after_it ≤ counted + 2 * TREE_HASHES + 2 * LEAF_HASHES
+  pub again : HasDeviceTree (trees_of before) → after_it ≤ counted + keys * TREE_HASHES + 2 * LEAF_HASHES

@@ -1,6 +1,6 @@
 //! How a device answers orders.
 
-ghost use Rattle.std.specs.Prelude.{◌≡◌, ◌+◌, ◌≤◌, ◌*◌};
+ghost use Rattle.std.specs.Prelude.{◌≡◌, ℕ, ◌+◌, ◌≤◌, ◌*◌};
 ghost use Rattle.mb_model.specs.declared.event.Event.TheVariants as event;
 ghost use Rattle.mb_model.specs.Board.{AreBytes};
 ghost use Rattle.mb_board.specs.Calls.{held_in, KeepsEvents};
@@ -8,7 +8,7 @@ ghost use Rattle.mb_model.specs.Spared.{SparesSectors};
 ghost use Rattle.mb_model.specs.Machine.{World};
 ghost use Rattle.mb_device.specs.Sound.{HasSound, IsSoundDevice, StepsFrom};
 ghost use Rattle.mb_device.specs.Stepping.{stop_told, IfNothingTold};
-ghost use Rattle.mb_device.specs.KeptTrees.{KeepsItsTrees, LeavesKeyOf, SignsByDeviceTree};
+ghost use Rattle.mb_device.specs.KeptTrees.{KeepsItsTrees, LeavesKeyOf, MakesKeysOf, SignsByDeviceTree};
 ghost use Rattle.mb_lms.specs.declared.hash_count.TheConstants.{SIGNING_HASHES, TREE_HASHES};
 
 use crate::device::{Device, Running};
@@ -40,10 +40,11 @@ fn take_order<B: Board, L: Ledger>(
     ensures events { KeepsEvents 35 (stop_told result.1) (B.seen b.old) (B.seen b.new) }
     ensures trees { KeepsItsTrees (Device.One up running) (event.Command text.now draw.now) result.1
         result.0 }
-    ensures order { (world : World)
+    ensures order { (world : World) (keys : ℕ)
         → IsSoundDevice (Device.One up running) (held_in (B.seen b.old)) world
         → LeavesKeyOf world (event.Command text.now draw.now)
-        → SignsByDeviceTree (Device.One up running) result.1 result.0 hashes.old hashes.new }
+        → MakesKeysOf world (event.Command text.now draw.now) keys
+        → SignsByDeviceTree (Device.One up running) keys result.1 result.0 hashes.old hashes.new }
     ensures cost { hashes.new ≤ hashes.old + 2 * TREE_HASHES + 2 * SIGNING_HASHES }
 {
     let mut known = running.known;
@@ -73,9 +74,11 @@ impl Device {
         ensures spared { SparesSectors (B.seen b.old).memory (B.seen b.new).memory }
         ensures events { KeepsEvents 35 (stop_told result.1) (B.seen b.old) (B.seen b.new) }
         ensures trees { KeepsItsTrees self (event.Command text.now draw.now) result.1 result.0 }
-        ensures order { (world : World) → IsSoundDevice self (held_in (B.seen b.old)) world
+        ensures order { (world : World) (keys : ℕ)
+            → IsSoundDevice self (held_in (B.seen b.old)) world
             → LeavesKeyOf world (event.Command text.now draw.now)
-            → SignsByDeviceTree self result.1 result.0 hashes.old hashes.new }
+            → MakesKeysOf world (event.Command text.now draw.now) keys
+            → SignsByDeviceTree self keys result.1 result.0 hashes.old hashes.new }
         ensures cost { hashes.new ≤ hashes.old + 2 * TREE_HASHES + 2 * SIGNING_HASHES }
     {
         match self {

@@ -5,6 +5,7 @@ use Rattle.mb_model.specs.declared.entry.Entry.{Entry}
 use Rattle.mb_model.specs.declared.order.Order.{Order}
 use Rattle.mb_model.specs.declared.reply.Refusal.{Refusal}
 use Rattle.mb_model.specs.declared.reply.Reply.{Reply}
+use Rattle.mb_model.specs.declared.state.Bodies.{Bodies}
 use Rattle.mb_model.specs.declared.state.State.{State}
 use Rattle.mb_model.specs.declared.state.View.{View}
 use Rattle.mb_model.specs.declared.stored.Outgoing.{Outgoing}
@@ -12,6 +13,7 @@ use Rattle.mb_model.specs.declared.stored.Root.{Root}
 use Rattle.mb_model.specs.Board.{Memory}
 use Rattle.mb_model.specs.Flash.{AreBytesOf}
 use Rattle.mb_model.specs.Listing.{is_done}
+use Rattle.mb_model.specs.Log.{keys_made_by}
 use Rattle.mb_model.specs.OrderChecks.{view_of, succession_is_due}
 use Rattle.mb_model.specs.OrderEffects.{fact_of, names_next, device_after}
 use Rattle.mb_model.specs.StoredLog.{outgoing_of}
@@ -20,13 +22,15 @@ use Rattle.mb_model_lemmas.proofs.AdditionLemmas.{device_is}
 use Rattle.mb_model_memory.specs.Commits.{root_for, new_entries}
 use Rattle.mb_model_memory.specs.Holding.{IsReady}
 use Rattle.mb_layout.specs.declared.room.Room.{Room}
+use Rattle.mb_orders.specs.declared.plan.Plan.{Plan}
+use Rattle.mb_orders.specs.Judging.{plan_by}
 use Rattle.mb_boot.specs.Settling.{IsOnlyRoot}
 use Rattle.mb_boot.specs.Signers.{HasSigners, DeviceKeySigns}
 use Rattle.mb_boot.proofs.Signers.{signers_at_hand}
 use Rattle.mb_signer.specs.declared.bench.Bench.{Bench}
 use Rattle.mb_signer.specs.Benches.{HasTree}
 use Rattle.mb_device_orders.specs.declared.judging.Judged.{Judged}
-use Rattle.mb_device_orders.specs.Obeying.{LeavesDeviceKey}
+use Rattle.mb_device_orders.specs.Obeying.{LeavesDeviceKey, MakesKeys}
 use Rattle.mb_device_orders.specs.Planning.{reply_for, ReadsText, PassesAs, IsCommit}
 use Rattle.mb_device_orders.proofs.Committed.{IsCommitted, header_stands}
 use Rattle.mb_device_orders.proofs.Remembered.{root_is}
@@ -77,6 +81,15 @@ lent_signs memory state text draw judged root room bench ready only passed is le
     let keeps = key_stays memory state text draw judged root room passed is leaves in
     let same : judged.root.device ≡ root.device = sym (ap (λ (r : Root). r.device) (root_is memory judged.root state ready only.only)) ∙ sym keeps.same in
     signers_at_hand bench root keeps.stays (subst (HasTree bench) same has)
+
+-- ---- the keys that an order makes
+
+bodies_planned : (state : State) (draw : List ℕ) (judged : Judged) → judged.plan ≡ plan_by (view_of state) judged.order draw → judged.plan.bodies ≡ bodies_for state judged.order draw
+unfolding plan_by
+bodies_planned state draw judged is = ap (λ (plan : Plan). plan.bodies) is
+
+pub keys_planned : (state : State) (text draw : List ℕ) (judged : Judged) (keys : ℕ) → PassesAs state text draw judged → MakesKeys state text draw keys → keys_made_by judged.plan.bodies.entries ≡ keys
+keys_planned state text draw judged keys passed makes = ap (λ (bodies : Bodies). keys_made_by bodies.entries) (bodies_planned state draw judged passed.plan) ∙ makes judged.order passed.spelled
 
 -- ---- the entry that it signs
 

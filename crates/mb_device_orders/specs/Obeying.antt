@@ -7,11 +7,12 @@ use Rattle.mb_model.specs.declared.reply.Reply.TheVariants as reply
 use Rattle.mb_model.specs.declared.state.State.{State}
 use Rattle.mb_model.specs.Board.{Memory}
 use Rattle.mb_model.specs.Listing.{is_done}
+use Rattle.mb_model.specs.Log.{keys_made_by}
 use Rattle.mb_model.specs.OrderChecks.{view_of}
 use Rattle.mb_model.specs.OrderEffects.{fact_of, names_next}
 use Rattle.mb_model.specs.OrderFormat.{order_format}
 use Rattle.mb_model.specs.OrderStep.{OrderStep}
-use Rattle.mb_model.specs.Work.{outgoing_by}
+use Rattle.mb_model.specs.Work.{outgoing_by, bodies_for}
 use Rattle.mb_model_memory.specs.Holding.{Means, IsReady}
 use Rattle.mb_device_orders.specs.declared.remembering.Known.{Known}
 use Rattle.mb_device_orders.specs.Remembering.{Knows}
@@ -49,3 +50,9 @@ abbrev pub LeavesDeviceKey : State → List ℕ → Type 0
 LeavesDeviceKey state text =
     (order : Order) → Spells order_format text order
     → outgoing_by (view_of state) (names_next (fact_of state.layers order order.act)) ≡ None
+
+-- an order that these bytes spell makes this many keys: the entries that it appends name them
+abbrev pub MakesKeys : State → List ℕ → List ℕ → ℕ → Type 0
+MakesKeys state text draw count =
+    (order : Order) → Spells order_format text order
+    → keys_made_by (bodies_for state order draw).entries ≡ count

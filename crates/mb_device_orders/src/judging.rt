@@ -1,9 +1,10 @@
 //! How the bytes of an order are read and judged.
 
-ghost use Rattle.std.specs.Prelude.{◌≡◌, ◌≤◌, ◌+◌, false, IfOk, IfErr, ◌*◌};
+ghost use Rattle.std.specs.Prelude.{◌≡◌, ◌≤◌, ◌+◌, false, IfOk, IfErr, OnErr, ◌*◌};
 ghost use Rattle.mb_format.specs.Format.{IsBytes};
 ghost use Rattle.mb_model.specs.declared.state.State.{State};
 ghost use Rattle.mb_model.specs.Listing.{is_done};
+ghost use Rattle.mb_model.specs.Log.{keys_made_by};
 ghost use Rattle.mb_model.specs.OrderChecks.{view_of};
 ghost use Rattle.mb_log.specs.Additions.{IsInRange};
 ghost use Rattle.mb_orders.specs.Judging.{refusal_of};
@@ -84,8 +85,9 @@ fn view_now<B: Board>(up: &Up<R1>, b: &B, known: &Known, root: &Root, room: &mut
     }
 }
 
-/// Reads the order that the bytes spell, and judges it. The error is the answer to an order that is not obeyed. New
-/// keys are derived from `draw`. The tree of a new device key is on the bench afterwards.
+/// Reads the order that the bytes spell, and judges it. The error is the answer to an order that is not obeyed; nothing
+/// is hashed then. New keys are derived from `draw`, in 34,399 hashes for each key that the order's entries name. The
+/// tree of a new device key is on the bench afterwards.
 #[tactic(auto, using(crate::proofs::Remembered::remembered_root, mb_boot::proofs::Settled::only_root, crate::proofs::Judgement::none_step))]
 pub fn judge_text<B: Board, L: Ledger>(
     alloc: Global,
@@ -106,6 +108,9 @@ pub fn judge_text<B: Board, L: Ledger>(
     ensures undone { IfErr result (λ answer. is_done answer ≡ false) }
     ensures root { IfOk result (λ judged. IsOnlyRoot (B.seen b.now).memory.bbram judged.root) }
     ensures cost { hashes.new ≤ hashes.old + 2 * TREE_HASHES }
+    ensures keys { IfOk result (λ judged. hashes.new
+        ≤ hashes.old + keys_made_by judged.plan.bodies.entries * TREE_HASHES) }
+    ensures unhashed { OnErr result (hashes.new ≡ hashes.old) }
 {
     let order = read_text(alloc, text)?;
     let root = read_root(b, room);

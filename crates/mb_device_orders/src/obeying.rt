@@ -1,6 +1,6 @@
 //! How an order is answered.
 
-ghost use Rattle.std.specs.Prelude.{◌≡◌, ◌≤◌, ◌+◌, ◌*◌, true, IfOk, IsSome};
+ghost use Rattle.std.specs.Prelude.{◌≡◌, ℕ, ◌≤◌, ◌+◌, ◌*◌, true, IfOk, IsSome};
 ghost use Rattle.mb_format.specs.Format.{IsBytes};
 ghost use Rattle.mb_model.specs.declared.state.State.{State};
 ghost use Rattle.mb_model.specs.Listing.{is_done};
@@ -9,7 +9,7 @@ ghost use Rattle.mb_model.specs.Spared.{SparesSectors};
 ghost use Rattle.mb_model_memory.specs.Holding.{IsReady};
 ghost use Rattle.mb_model_memory.specs.Answering.{TellsOfWrites};
 ghost use Rattle.mb_device_orders.specs.Remembering.{Knows, IsRemembered};
-ghost use Rattle.mb_device_orders.specs.Obeying.{Obeys, LeavesKnown, LeavesDeviceKey};
+ghost use Rattle.mb_device_orders.specs.Obeying.{Obeys, LeavesKnown, LeavesDeviceKey, MakesKeys};
 ghost use Rattle.mb_lms.specs.declared.hash_count.TheConstants.{LEAF_HASHES, SIGNING_HASHES, TREE_HASHES};
 
 use crate::committing::commit;
@@ -31,8 +31,9 @@ use std::sync::ledger::Ledger;
 /// that is refused, nor if an allocation fails, which is an answer of its own. There are at most 35 write calls and
 /// 139,744 hashes.
 ///
-/// The order's entries are signed with the tree of the device key, if it is kept. Once an order is done, the tree of
-/// the device key that is then current is kept, and that of a region's key is dropped. If the order is refused or an
+/// The order's entries are signed with the tree of the device key, if it is kept: an order that leaves that key then
+/// takes at most 34,399 hashes for each key that it makes, and 2,148 to sign by. Once an order is done, the tree of the
+/// device key that is then current is kept, and that of a region's key is dropped. If the order is refused or an
 /// allocation fails, the trees stay as they are.
 #[tactic(auto, using(crate::proofs::Answered::has_passed))]
 pub fn obey<B: Board, L: Ledger>(
@@ -60,9 +61,10 @@ pub fn obey<B: Board, L: Ledger>(
     ensures spared { SparesSectors (B.seen b.old).memory (B.seen b.new).memory }
     ensures ran { Ran 35 result (B.seen b.old) (B.seen b.new) }
     ensures cost { hashes.new ≤ hashes.old + 2 * TREE_HASHES + 2 * SIGNING_HASHES }
-    ensures again { (state : State) → IsReady (B.seen b.old).memory state → Knows known.old state
-        → LeavesDeviceKey state text.now → IsSome known.old.trees.value.device
-        → hashes.new ≤ hashes.old + 2 * TREE_HASHES + 2 * LEAF_HASHES }
+    ensures again { (state : State) (keys : ℕ) → IsReady (B.seen b.old).memory state
+        → Knows known.old state → LeavesDeviceKey state text.now
+        → MakesKeys state text.now draw.now keys → IsSome known.old.trees.value.device
+        → hashes.new ≤ hashes.old + keys * TREE_HASHES + 2 * LEAF_HASHES }
 {
     let mut bench = Bench::new();
     let judged = match judge_text(alloc, &up, b, known, text, draw, &mut bench, room, hashes) {

@@ -6,7 +6,7 @@ use Rattle.mb_device_orders.specs.declared.remembering.Trees.{Trees}
 use Rattle.mb_device_orders.proofs.Planned.{knows_next, device_committed}
 use Rattle.mb_device_orders.proofs.Remembered.{device_in_force}
 use Rattle.mb_device_orders.proofs.Answered.{has_commit, answered_same, answered_done, order_cut}
-use Rattle.mb_device_orders.proofs.KeptTrees.{key_stays, lent_signs}
+use Rattle.mb_device_orders.proofs.KeptTrees.{key_stays, lent_signs, keys_planned}
 use Rattle.mb_device_orders.proofs.obeying.obey.Goals as goal
 
 pub returns-in-Err-clause-told : goal.returns-in-Err-clause-told
@@ -50,16 +50,26 @@ returns-clause-keeps g c = λ state ready knows leaves done.
     let commit = c.in-Ok-plan_commit.ensures.commit state c.args.text.now c.args.draw.now ready passed in
     c.take.ensures.found (c.in_ok-up.ensures.kept (key_stays (g.B.Board.seen c.args.b.now).memory state c.args.text.now c.args.draw.now c.in-Ok.judged c.in-Ok-plan_commit.planned.root c.plan_commit.new.room passed commit leaves).stays)
 
+pub returns-in-Err-clause-again : goal.returns-in-Err-clause-again
+returns-in-Err-clause-again g c = λ state keys ready knows leaves makes some. omega (arith, c.in-Err.ensures.unhashed)
+
+pub returns-in-Err-plan_commit-clause-again : goal.returns-in-Err-plan_commit-clause-again
+returns-in-Err-plan_commit-clause-again g c = λ state keys ready knows leaves makes some.
+    let counted = keys_planned state c.args.text.now c.args.draw.now c.in-Ok.judged keys (c.in-Ok.ensures.judged state ready knows) makes in
+    omega (arith, c.in-Ok.ensures.keys, counted)
+
 pub returns-in_err-up-clause-again : goal.returns-in_err-up-clause-again
-returns-in_err-up-clause-again g c = λ state ready knows leaves some.
+returns-in_err-up-clause-again g c = λ state keys ready knows leaves makes some.
     let passed = c.in-Ok.ensures.judged state ready knows in
     let commit = c.in-Ok-plan_commit.ensures.commit state c.args.text.now c.args.draw.now ready passed in
     let has = lent_signs (g.B.Board.seen c.args.b.now).memory state c.args.text.now c.args.draw.now c.in-Ok.judged c.in-Ok-plan_commit.planned.root c.plan_commit.new.room c.lend.new.bench ready c.in-Ok.ensures.root passed commit leaves (c.lend.ensures.lent some) in
-    omega (arith, c.judge_text.ensures.cost, c.commit.ensures.again has)
+    let counted = keys_planned state c.args.text.now c.args.draw.now c.in-Ok.judged keys passed makes in
+    omega (arith, c.in-Ok.ensures.keys, counted, c.commit.ensures.again has)
 
 pub returns-clause-again : goal.returns-clause-again
-returns-clause-again g c = λ state ready knows leaves some.
+returns-clause-again g c = λ state keys ready knows leaves makes some.
     let passed = c.in-Ok.ensures.judged state ready knows in
     let commit = c.in-Ok-plan_commit.ensures.commit state c.args.text.now c.args.draw.now ready passed in
     let has = lent_signs (g.B.Board.seen c.args.b.now).memory state c.args.text.now c.args.draw.now c.in-Ok.judged c.in-Ok-plan_commit.planned.root c.plan_commit.new.room c.lend.new.bench ready c.in-Ok.ensures.root passed commit leaves (c.lend.ensures.lent some) in
-    omega (arith, c.judge_text.ensures.cost, c.commit.ensures.again has)
+    let counted = keys_planned state c.args.text.now c.args.draw.now c.in-Ok.judged keys passed makes in
+    omega (arith, c.in-Ok.ensures.keys, counted, c.commit.ensures.again has)

@@ -40,13 +40,13 @@ pub returns-in-Three-clause-trees : goal.returns-in-Three-clause-trees
 returns-in-Three-clause-trees g c = trees_refused c.args.self (device.Three c.in-Three.up c.in-Three.running) (device.Three c.in-Three.up c.in-Three.running) (event.Command c.args.text.now c.args.draw.now) c.reply-in-Three.result WrongPhase c.in-Three.is refl c.reply-in-Three.ensures
 
 pub returns-in-Off-clause-order : goal.returns-in-Off-clause-order
-returns-in-Off-clause-order g c = λ world sound leaves. refused_order c.args.self (device.Off c.in-Off.off) c.reply.result _ PoweredOff c.reply.ensures
+returns-in-Off-clause-order g c = λ world keys sound leaves makes. refused_order c.args.self (device.Off c.in-Off.off) keys c.reply.result _ PoweredOff c.reply.ensures
 
 pub returns-in-Dead-clause-order : goal.returns-in-Dead-clause-order
-returns-in-Dead-clause-order g c = λ world sound leaves. refused_order c.args.self (device.Dead c.in-Dead.dead) c.reply-in-Dead.result _ Zeroised c.reply-in-Dead.ensures
+returns-in-Dead-clause-order g c = λ world keys sound leaves makes. refused_order c.args.self (device.Dead c.in-Dead.dead) keys c.reply-in-Dead.result _ Zeroised c.reply-in-Dead.ensures
 
 pub returns-in-Two-clause-order : goal.returns-in-Two-clause-order
-returns-in-Two-clause-order g c = λ world sound leaves. refused_order c.args.self (device.Two c.in-Two.up c.in-Two.running) c.reply-in-Two.result _ WrongPhase c.reply-in-Two.ensures
+returns-in-Two-clause-order g c = λ world keys sound leaves makes. refused_order c.args.self (device.Two c.in-Two.up c.in-Two.running) keys c.reply-in-Two.result _ WrongPhase c.reply-in-Two.ensures
 
 pub returns-in-Three-clause-order : goal.returns-in-Three-clause-order
-returns-in-Three-clause-order g c = λ world sound leaves. refused_order c.args.self (device.Three c.in-Three.up c.in-Three.running) c.reply-in-Three.result _ WrongPhase c.reply-in-Three.ensures
+returns-in-Three-clause-order g c = λ world keys sound leaves makes. refused_order c.args.self (device.Three c.in-Three.up c.in-Three.running) keys c.reply-in-Three.result _ WrongPhase c.reply-in-Three.ensures
