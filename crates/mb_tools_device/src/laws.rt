@@ -12,7 +12,8 @@ pub fn plain_runs_are_the_machines()
     ensures { PlainRunsAreTheMachines }
 {}
 
-/// What `cutat` prints as `new` is the machine's state after the script's last event.
+/// What `cutat` prints as `new` is the machine's state after the last event of the script, if no allocation failed in
+/// either run.
 pub fn cuts_count_wholly_or_not_at_all()
     ensures { CutsCountWhollyOrNotAtAll }
 {}
