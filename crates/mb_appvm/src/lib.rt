@@ -32,6 +32,3 @@ pub use limits::{CALL_LIMIT, MEMORY_LENGTH, OUTPUT_LIMIT, STACK_LIMIT};
 pub use lines::Said;
 pub use running::{AppEnd, run_app};
 pub use trap::Trap;
-
-#[cfg(test)]
-mod tests;

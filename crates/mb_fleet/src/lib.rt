@@ -33,6 +33,3 @@ pub use limits::{DEVICE_LIMIT, TEXT_LIMIT};
 pub use question::{CodeCount, Counts, Serials};
 pub use row::{CodeHashes, Row};
 pub use serving::serve_items;
-
-#[cfg(test)]
-mod tests;

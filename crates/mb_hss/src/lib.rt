@@ -25,6 +25,3 @@ pub use maker_file::{read_maker, write_maker};
 pub use mb_model::BadRecord;
 pub use signing::{HssEnd, public, sign};
 pub use verification::verify;
-
-#[cfg(test)]
-mod tests;

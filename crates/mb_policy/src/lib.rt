@@ -25,6 +25,3 @@ pub use laws::{
 pub use limits::{DEPTH_LIMIT, HASH_LIMIT, LINE_LIMIT};
 pub use lines::{PolicyEnd, read_policy};
 pub use policy::Policy;
-
-#[cfg(test)]
-mod tests;

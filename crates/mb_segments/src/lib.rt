@@ -15,6 +15,3 @@ pub use header::{StoredHeader, header_at, read_header, write_header};
 pub use log::{LogSector, log_at, put_log};
 pub use mb_model::{BadRecord, Header, Slot};
 pub use sectors::{code_sector, header_sector, log_sector};
-
-#[cfg(test)]
-mod tests;

@@ -10,6 +10,7 @@ mod pieces;
 mod places;
 mod public;
 mod records;
+mod segments;
 mod signing;
 mod spelled;
 mod statement_lines;

@@ -1,4 +1,0 @@
-use Rattle.mb_hss.proofs.tests.public_of.Given as goal
-
-abbrev pub ghosts-public_counted : goal.ghosts-public_counted
-ghosts-public_counted a = record { name = a.blank.name; parts = a.blank.parts }

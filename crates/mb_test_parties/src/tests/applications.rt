@@ -1,0 +1,5 @@
+//! Runs, texts and codes of applications, by values of another program.
+
+mod devices;
+mod runs;
+mod texts;

@@ -1,0 +1,5 @@
+//! Policies and what they come to, checked against values of another program.
+
+mod judgements;
+mod large;
+mod reports;

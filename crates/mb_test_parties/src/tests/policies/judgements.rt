@@ -1,0 +1,188 @@
+//! Policies, and what each comes to for the report of `reports`.
+
+use super::reports::Expected::{Allowed, Denied, Line};
+use super::reports::{Expected, comes_to, report};
+use crate::tests::pieces::text_of;
+use mb_model::Report;
+use std::alloc::Global;
+use std::test::Fail;
+
+/// Three sets: the first code of layer 1, the owner of layer 2, and the later code of all layers.
+const SETS: &str = "set one f191e625176e7514249870c60bc24622131b04927a418001d1969c9cecd260f1\n\
+                    set two af4100871c517431c0e948ce1c92b19f2413ee26e0524ecdeed3495e34fc7430\n\
+                    set abc ba7816bf8f01cfea414140de5dae2223b00361a396177a9cb410ff61f20015ad\n";
+
+/// Lines after the three sets, and what the policy comes to.
+const AFTER_SETS: &[(&str, Expected)] = &[
+    ("allow r first\n", Denied(5, "default")),
+    ("allow r last\n", Denied(4, "default")),
+    ("allow r number 4 5\n", Denied(6, "default")),
+    ("allow r number 5 4\n", Denied(4, "default")),
+    ("allow r number 6 9\n", Denied(4, "default")),
+    ("allow r alive\n", Allowed),
+    ("allow r statement\n", Denied(4, "default")),
+    ("allow r kind epoch\n", Allowed),
+    ("allow r kind configuration\n", Denied(4, "default")),
+    ("allow r version 3 1 1\n", Allowed),
+    ("allow r version 3 2 9\n", Denied(4, "default")),
+    ("allow r reliable 3\n", Allowed),
+    ("allow r trust 3 1 countersigned\n", Allowed),
+    ("allow r trust 3 2 always\n", Denied(4, "default")),
+    ("allow r trust 1 2 always\n", Denied(5, "default")),
+    ("allow r code 1 one\n", Denied(5, "default")),
+    ("allow r code 1 abc\n", Denied(4, "default")),
+    ("allow r code 2 abc\n", Allowed),
+    ("allow r owner 2 two\n", Allowed),
+    ("allow r owner 3 two\n", Denied(4, "default")),
+    ("allow r not first\n", Denied(4, "default")),
+    ("allow r or first last\n", Denied(5, "default")),
+    ("allow r and number 4 5 number 5 6\n", Denied(4, "default")),
+    (
+        "allow r or number 4 4 and alive number 5 5\n",
+        Denied(6, "default"),
+    ),
+    ("allow r reliable 4\n", Line(4)),
+    ("allow r reliable 0\n", Line(4)),
+    ("allow r owner 3 absent\n", Line(4)),
+    ("allow r trust 3 3 always\n", Line(4)),
+    ("allow r trust 3 1 Always\n", Line(4)),
+    ("allow r number 01 2\n", Line(4)),
+    ("allow r number 1 4294967296\n", Line(4)),
+    ("allow r number 1\n", Line(4)),
+    ("allow r alive alive\n", Line(4)),
+    ("allow r and alive\n", Line(4)),
+    ("allow r not\n", Line(4)),
+    ("allow r kind epoch \n", Line(4)),
+    ("allow r  alive\n", Line(4)),
+    ("allow r xor alive alive\n", Line(4)),
+    ("allow r kind alive\n", Line(4)),
+    ("allow r version 1 2 3 4\n", Line(4)),
+];
+
+/// Nested tests after the three sets: this many of the first word, this many of `alive `, and the end of the line.
+const NESTED: &[(usize, &str, usize, &str, Expected)] = &[
+    (31, "not ", 0, "statement\n", Allowed),
+    (30, "not ", 0, "alive\n", Allowed),
+    (32, "not ", 0, "alive\n", Line(4)),
+    (31, "and ", 31, "alive\n", Allowed),
+];
+
+/// Whole policies, and what each comes to.
+const WHOLE: &[(&str, Expected)] = &[
+    ("allow any kind epoch\n", Allowed),
+    (
+        "deny early number 4 4\nallow any alive\n",
+        Denied(4, "early"),
+    ),
+    ("allow late number 5 9\n", Denied(4, "default")),
+    ("", Denied(4, "default")),
+    ("\n# nothing\n", Denied(4, "default")),
+    ("allow a code 3 good\n", Line(1)),
+    (
+        "set good 0000000000000000000000000000000000000000000000000000000000000000\nallow a code 3 good\n",
+        Denied(4, "default"),
+    ),
+    ("allow a alive\nallow a alive\n", Line(2)),
+    (
+        "set a 0000000000000000000000000000000000000000000000000000000000000000\nset a 0000000000000000000000000000000000000000000000000000000000000000\n",
+        Line(2),
+    ),
+    (
+        "set a 0000000000000000000000000000000000000000000000000000000000000000\nallow a alive\n",
+        Allowed,
+    ),
+    ("allow default alive\n", Line(1)),
+    (
+        "set default 0000000000000000000000000000000000000000000000000000000000000000\n",
+        Denied(4, "default"),
+    ),
+    (
+        "set a 00000000000000000000000000000000000000000000000000000000000000\n",
+        Line(1),
+    ),
+    ("set a -\n", Line(1)),
+    ("set a\n", Line(1)),
+    ("allow a\n", Line(1)),
+    ("deny x not alive\nallow y alive\n", Allowed),
+    ("allow nnnnnnnnnnnnnnnnnnnnnnnnnnnnnnnn alive\n", Allowed),
+    ("allow nnnnnnnnnnnnnnnnnnnnnnnnnnnnnnnnn alive\n", Line(1)),
+    ("permit a alive\n", Line(1)),
+];
+
+/// Bad lines at other places: the words of a set, a set that stands after its use, and a name that only a rule has.
+const MORE: &[(&str, Expected)] = &[
+    ("allow a code 3 b\nset b 00\n", Line(1)),
+    ("allow a alive\nallow b code 3 a\n", Line(2)),
+    ("# first\n\nallow a alive\n\nallow a alive\n", Line(5)),
+    ("allow a alive\nset\n", Line(2)),
+    ("allow a alive\n \n", Line(2)),
+    ("allow a alive\nallow b trust 3 0 never\n", Line(2)),
+    ("allow a alive\nallow b version 4 1 1\n", Line(2)),
+    ("allow a alive\nallow b not and alive\n", Line(2)),
+    ("allow a alive", Allowed),
+    ("deny a last\nallow b alive", Denied(6, "a")),
+    (
+        "deny a and last not first\nallow b or first alive",
+        Denied(6, "a"),
+    ),
+    (
+        "allow a first\ndeny b reliable 2\nallow c alive",
+        Denied(5, "b"),
+    ),
+];
+
+/// Whether the policy of the pieces comes to this.
+fn is_policy(
+    alloc: Global,
+    report: &Report,
+    pieces: &[(&str, usize)],
+    expected: Expected,
+) -> Result<bool, Fail> {
+    let text = text_of(alloc, pieces)?;
+    comes_to(alloc, report, text.as_slice(), expected)
+}
+
+#[test]
+fn tests_hold_as_expected(rt: HostRuntime) -> Result<(), Fail> {
+    let report = report(rt.alloc())?;
+    for (lines, expected) in AFTER_SETS {
+        let is = is_policy(rt.alloc(), &report, &[(SETS, 1), (*lines, 1)], *expected)?;
+        assert!(rt; is, "{lines}");
+    }
+    Ok(())
+}
+
+#[test]
+fn tests_are_nested_32_deep(rt: HostRuntime) -> Result<(), Fail> {
+    let report = report(rt.alloc())?;
+    for (times, word, others, end, expected) in NESTED {
+        let pieces = [
+            (SETS, 1),
+            ("allow r ", 1),
+            (*word, *times),
+            ("alive ", *others),
+            (*end, 1),
+        ];
+        let is = is_policy(rt.alloc(), &report, &pieces, *expected)?;
+        assert!(rt; is, "{times} {word}");
+    }
+    Ok(())
+}
+
+#[test]
+fn policies_come_to_what_is_expected(rt: HostRuntime) -> Result<(), Fail> {
+    let report = report(rt.alloc())?;
+    for (text, expected) in WHOLE {
+        assert!(rt;
+            is_policy(rt.alloc(), &report, &[(*text, 1)], *expected)?,
+            "{text}"
+        );
+    }
+    for (text, expected) in MORE {
+        assert!(rt;
+            is_policy(rt.alloc(), &report, &[(*text, 1)], *expected)?,
+            "{text}"
+        );
+    }
+    Ok(())
+}
