@@ -1,7 +1,8 @@
-//! Policies, and what each comes to for the report of `reports`.
+//! Policies, and what each comes to for a report of `reports`.
 
 use super::reports::Expected::{Allowed, Denied, Line};
-use super::reports::{Expected, comes_to, report};
+use super::reports::Whose::{Configured, Ended};
+use super::reports::{Expected, Whose, comes_to, report, report_on};
 use crate::tests::pieces::text_of;
 use mb_model::Report;
 use std::alloc::Global;
@@ -131,6 +132,80 @@ const MORE: &[(&str, Expected)] = &[
     ),
 ];
 
+/// Lines after the three sets, and what the policy comes to for the report on a key. By the definitions, what a test asks
+/// of a layer that is not listed is false, and so is what it asks of the code or the owner of a layer without; only the
+/// trust of a layer without an owner is one, `never`.
+const OTHER_REPORTS: &[(Whose, &str, Expected)] = &[
+    (Ended, "allow r alive\n", Denied(7, "default")),
+    (Ended, "allow r not alive\n", Allowed),
+    (Ended, "allow r kind epoch\n", Allowed),
+    (Ended, "allow r kind configuration\n", Denied(7, "default")),
+    (Ended, "allow r first\n", Denied(8, "default")),
+    (Ended, "deny r last\nallow s not alive\n", Denied(9, "r")),
+    (Ended, "allow r reliable 2\n", Denied(7, "default")),
+    (Ended, "allow r not reliable 2\n", Allowed),
+    (Ended, "allow r and reliable 1 reliable 3\n", Allowed),
+    (Ended, "allow r code 2 abc\n", Denied(8, "default")),
+    (
+        Ended,
+        "deny r not code 2 abc\nallow s owner 2 two\n",
+        Denied(8, "r"),
+    ),
+    (
+        Ended,
+        "allow r version 2 0 4294967295\n",
+        Denied(8, "default"),
+    ),
+    (Ended, "allow r or version 2 1 1 number 8 9\n", Allowed),
+    (Ended, "allow r owner 2 two\n", Denied(9, "default")),
+    (
+        Ended,
+        "deny r not owner 2 two\nallow s not alive\n",
+        Denied(9, "r"),
+    ),
+    (
+        Ended,
+        "allow r trust 2 1 countersigned\n",
+        Denied(9, "default"),
+    ),
+    (Ended, "allow r trust 2 1 never\n", Denied(7, "default")),
+    (
+        Ended,
+        "deny r trust 2 1 never\nallow s not statement\n",
+        Denied(9, "r"),
+    ),
+    (Configured, "allow r kind configuration\n", Allowed),
+    (Configured, "allow r kind epoch\n", Denied(5, "default")),
+    (Configured, "allow r and alive statement\n", Allowed),
+    (Configured, "allow r and first last\n", Allowed),
+    (Configured, "allow r number 5 5\n", Allowed),
+    (Configured, "allow r and reliable 1 reliable 2\n", Allowed),
+    (Configured, "allow r and code 1 abc owner 2 two\n", Allowed),
+    (Configured, "allow r reliable 3\n", Denied(5, "default")),
+    (Configured, "allow r not reliable 3\n", Allowed),
+    (
+        Configured,
+        "allow r trust 3 1 never\n",
+        Denied(5, "default"),
+    ),
+    (Configured, "allow r not trust 3 1 never\n", Allowed),
+    (
+        Configured,
+        "deny r not trust 3 2 never\nallow s alive\n",
+        Denied(5, "r"),
+    ),
+    (
+        Configured,
+        "allow r version 3 0 4294967295\n",
+        Denied(5, "default"),
+    ),
+    (
+        Configured,
+        "allow r or owner 3 two code 3 abc\n",
+        Denied(5, "default"),
+    ),
+];
+
 /// Whether the policy of the pieces comes to this.
 fn is_policy(
     alloc: Global,
@@ -148,6 +223,20 @@ fn tests_hold_as_expected(rt: HostRuntime) -> Result<(), Fail> {
     for (lines, expected) in AFTER_SETS {
         let is = is_policy(rt.alloc(), &report, &[(SETS, 1), (*lines, 1)], *expected)?;
         assert!(rt; is, "{lines}");
+    }
+    Ok(())
+}
+
+/// Whether the policy of these lines after the three sets comes to this for the report on the key.
+fn is_on(alloc: Global, whose: Whose, lines: &str, expected: Expected) -> Result<bool, Fail> {
+    let report = report_on(alloc, whose)?;
+    is_policy(alloc, &report, &[(SETS, 1), (lines, 1)], expected)
+}
+
+#[test]
+fn other_reports_are_judged(rt: HostRuntime) -> Result<(), Fail> {
+    for (whose, lines, expected) in OTHER_REPORTS {
+        assert!(rt; is_on(rt.alloc(), *whose, lines, *expected)?, "{lines}");
     }
     Ok(())
 }

@@ -5,7 +5,7 @@ ghost use Rattle.std.specs.Prelude.{◌≤◌, length};
 use hex::FromHex;
 use mb_lms::parse_key;
 use mb_model::{
-    CodeName, Configuration, KeyKind, Layer, Layers, Lives, NoMemory, Report, Trust, Trusts,
+    Bytes, CodeName, Configuration, KeyKind, Layer, Layers, Lives, NoMemory, Report, Trust, Trusts,
 };
 use mb_policy::{Judgement, PolicyEnd, judge_report, read_policy};
 use std::alloc::Global;
@@ -79,6 +79,84 @@ pub fn report(alloc: Global) -> Result<Report, Fail> {
         entries: 8,
         message: None,
     })
+}
+
+/// Another key with a report.
+#[derive(Clone, Copy)]
+pub enum Whose {
+    /// An epoch key of layer 3 that has ended. It lived in configuration 7, where layer 2 is not reliable, in 8, where
+    /// that layer has no code, and in 9, where it has no owner either.
+    Ended,
+    /// A configuration key of layer 2 that is alive, and lived in configuration 5. Layer 3 is not listed there, and the
+    /// chain has a statement.
+    Configured,
+}
+
+/// A configuration of a key that has ended, with this layer 2.
+fn weakened(number: u32, two: Layer) -> Result<Configuration, Fail> {
+    let whole = configuration(number, layer(OWNERS[0], CODE, Trust::Countersigned)?)?;
+    Ok(Configuration {
+        layers: Layers {
+            two,
+            ..whole.layers
+        },
+        ..whole
+    })
+}
+
+/// The report on the key that has ended.
+fn ended(alloc: Global) -> Result<Report, Fail> {
+    let whole = layer(OWNERS[1], CODE, Trust::Countersigned)?;
+    let unreliable = Layer {
+        reliable: false,
+        ..whole
+    };
+    let bare = Layer {
+        code: None,
+        ..unreliable
+    };
+    let mut lives = Lives::new(alloc);
+    lives.push(weakened(7, unreliable)?)?;
+    lives.push(weakened(8, bare)?)?;
+    lives.push(weakened(9, Layer::unowned())?)?;
+    Ok(Report {
+        layer: 3,
+        kind: KeyKind::Epoch,
+        alive: false,
+        lives,
+        entries: 12,
+        message: None,
+    })
+}
+
+/// The report on the configuration key.
+fn configured(alloc: Global) -> Result<Report, Fail> {
+    let whole = configuration(5, layer(OWNERS[0], CODE, Trust::Countersigned)?)?;
+    let mut lives = Lives::new(alloc);
+    lives.push(Configuration {
+        upto: 2,
+        layers: Layers {
+            three: Layer::unowned(),
+            ..whole.layers
+        },
+        ..whole
+    })?;
+    Ok(Report {
+        layer: 2,
+        kind: KeyKind::Configuration,
+        alive: true,
+        lives,
+        entries: 9,
+        message: Some(Bytes::copy(alloc, b"today")?),
+    })
+}
+
+/// The report on this key.
+pub fn report_on(alloc: Global, whose: Whose) -> Result<Report, Fail> {
+    match whose {
+        Whose::Ended => ended(alloc),
+        Whose::Configured => configured(alloc),
+    }
 }
 
 /// Whether the judgement is this.
