@@ -2,7 +2,9 @@
 
 ghost use Rattle.std.specs.Prelude.{◌≤◌, vec_len, IfOk};
 
-use super::entries::{FIRST, FIRST_OF_OTHER, FOURTH, NEXT_OF_OTHER, NEXT_TWO, OTHER_FOURTH};
+use super::entries::{
+    FIRST, FIRST_OF_OTHER, FOURTH, NEXT_OF_OTHER, NEXT_TWO, OTHER_FOURTH, UNRULED_BIRTH,
+};
 use crate::tests::pieces::bytes_of;
 use Ask::{Codes, Cut, Find, Show};
 use hex::FromHex;
@@ -15,6 +17,11 @@ use std::test::Fail;
 pub const ROOT: &str =
     "00000005000000036eddf2c6eb4a342405043d3f908fa7c6b2d8509c74fc5e0b54060d6218945725f67a168b109bc038dec\
      738c6cda77a12";
+
+/// The key of the other maker.
+const OTHER_ROOT: &str =
+    "0000000500000003abc79a08451338fa701ede4a2dce0108536f6628cdae7a4a1b32657c5bc5a7f2186341c948daa70955a\
+     08dfd899cde3a";
 
 /// The register of no devices.
 const EMPTY: &str = "4d4246310000";
@@ -138,6 +145,12 @@ const FILE_4: &[Ask] = &[
     Cut(FIRST_OF_OTHER, 2_528, ""),
 ];
 
+/// An entry with position 3 stands where the one with position 1 has to.
+const FILE_5: &[Ask] = &[Show(2, &[FIRST, FOURTH])];
+
+/// A birth that breaks the rules of the log.
+const FILE_6: &[Ask] = &[Show(1, &[UNRULED_BIRTH])];
+
 /// Appends the bytes of a hexadecimal word.
 fn append(alloc: Global, out: &mut Vec<u8>, word: &str) -> Result<(), Fail> {
     let bytes = hex::decode(alloc, word)?;
@@ -206,12 +219,13 @@ pub fn items_of(alloc: Global, asked: &[Ask]) -> Result<Vec<u8>, Fail>
 /// Whether items are served from one register to the next, with these answers.
 fn serves(
     alloc: Global,
+    root: &str,
     register: &str,
     asked: &[Ask],
     answers: &str,
     after: &str,
 ) -> Result<bool, Fail> {
-    let root = read_public_key(&<[u8; 56] as FromHex>::from_hex(ROOT)?)?;
+    let root = read_public_key(&<[u8; 56] as FromHex>::from_hex(root)?)?;
     let register = bytes_of(alloc, register)?;
     let mut fleet = Fleet::read(alloc, register.as_slice())?;
     let items = read_items(alloc, items_of(alloc, asked)?.as_slice())?;
@@ -224,24 +238,45 @@ fn serves(
 
 #[test]
 fn a_device_is_added_and_extended(rt: HostRuntime) -> Result<(), Fail> {
-    assert!(rt; serves(rt.alloc(), EMPTY, FILE_1, ANSWERS_1, ONE)?);
+    assert!(rt; serves(rt.alloc(), ROOT, EMPTY, FILE_1, ANSWERS_1, ONE)?);
     Ok(())
 }
 
 #[test]
 fn another_device_has_the_same_code(rt: HostRuntime) -> Result<(), Fail> {
-    assert!(rt; serves(rt.alloc(), ONE, FILE_2, ANSWERS_2, TWO)?);
+    assert!(rt; serves(rt.alloc(), ROOT, ONE, FILE_2, ANSWERS_2, TWO)?);
     Ok(())
 }
 
 #[test]
 fn a_fork_is_caught(rt: HostRuntime) -> Result<(), Fail> {
-    assert!(rt; serves(rt.alloc(), TWO, FILE_3, ANSWERS_3, LONGER)?);
+    assert!(rt; serves(rt.alloc(), ROOT, TWO, FILE_3, ANSWERS_3, LONGER)?);
     Ok(())
 }
 
 #[test]
 fn chains_are_refused(rt: HostRuntime) -> Result<(), Fail> {
-    assert!(rt; serves(rt.alloc(), LONGER, FILE_4, ANSWERS_4, LONGER)?);
+    assert!(rt; serves(rt.alloc(), ROOT, LONGER, FILE_4, ANSWERS_4, LONGER)?);
+    Ok(())
+}
+
+#[test]
+fn an_entry_with_another_position_is_refused(rt: HostRuntime) -> Result<(), Fail> {
+    assert!(rt; serves(rt.alloc(), ROOT, LONGER, FILE_5, "refused 22 1\n", LONGER)?);
+    Ok(())
+}
+
+#[test]
+fn a_birth_against_the_rules_is_refused(rt: HostRuntime) -> Result<(), Fail> {
+    assert!(rt;
+        serves(
+            rt.alloc(),
+            OTHER_ROOT,
+            LONGER,
+            FILE_6,
+            "refused 23 0\n",
+            LONGER
+        )?
+    );
     Ok(())
 }
