@@ -16,6 +16,7 @@ import sys
 import app_readers
 import chain_readers
 import examples
+import party_readers
 import pieces
 import readers
 import top_readers
@@ -30,6 +31,9 @@ READERS = {
     "crates/mb_lms/src/tests/heights.rt": readers.lms_signatures,
     "crates/mb_test_parties/src/tests/applications/runs.rt": app_readers.app_runs,
     "crates/mb_test_parties/src/tests/applications/texts.rt": app_readers.app_texts,
+    "crates/mb_test_parties/src/tests/policies/judgements.rt": party_readers.judgements,
+    "crates/mb_test_parties/src/tests/registers/runs.rt": party_readers.register_answers,
+    "crates/mb_test_parties/src/tests/registers/entries.rt": party_readers.unruled_birth,
     "crates/mb_test_bytes/src/tests/signing.rt": readers.signer,
     "crates/mb_test_bytes/src/tests/orders.rt": readers.commands_orders,
     "crates/mb_test_bytes/src/tests/pieces.rt": pieces.orders_in_pieces,
