@@ -1,7 +1,7 @@
 //! Power is lost at each write of a script in turn, or of an event and then of the boot that follows.
 
 use crate::files::{content_of, store, write};
-use crate::play::{Program, ends, fit_one, status_of};
+use crate::play::{Program, fit_one, status_of};
 use crate::sights::{ends_in_zeros, expect};
 use crate::step::{Cut, Part, TwoCuts};
 use mb_host::MemoryHost;
@@ -60,9 +60,6 @@ const OLD: &str = "old\n";
 const NEW: &str = "new\n";
 
 const UNSTOPPED: &str = "unstopped\n";
-
-/// The number of first writes at which each boot after a loss is cut.
-const BOOT_WRITES: u32 = 3;
 
 /// Power is lost at each write of an event in turn. `cutat` answers `old` up to a write, then `new`, if the event
 /// leaves another state, and then `unstopped`. After each loss the device shows the state that `cutat` answered.
@@ -142,8 +139,8 @@ fn write_script(
     store(host, "script", &script)
 }
 
-/// The boot after a loss in the write of this number is cut at each of its first writes. Then the device is booted, and
-/// shows this state with no work left to be done; or its case is opened, and nothing is left.
+/// The boot after a loss in the write of this number is cut at each of its writes. Then the device is booted, the boot
+/// after that writes nothing, and it shows this state; or its case is opened, and nothing is left.
 fn boots_are_cut(
     program: &impl Program,
     host: &mut MemoryHost,
@@ -152,26 +149,21 @@ fn boots_are_cut(
     state: &str,
 ) -> Result<(), Fail> {
     let alloc = program.alloc();
-    let asks = format!(in alloc; "off\ncut 100000 fill 00\nboot\n{}off\n", cut.asks)?;
-    let shows = format!(in alloc; "off\narmed\nbooted\n{state}off\n")?;
-    for second in 1..=BOOT_WRITES {
+    let asks = format!(in alloc;
+        "off\ncut 100000 fill 00\nboot\noff\ncut 1 fill 00\nboot\ncut 100000 fill 00\n{}off\n",
+        cut.asks
+    )?;
+    let shows = format!(in alloc; "off\narmed\nbooted\noff\narmed\nbooted\narmed\n{state}off\n")?;
+    for second in 1..=MOST_WRITES {
         let cuts = [number, second];
         let is_cut = goes_on(program, host, cut, cuts, &asks, &shows)?;
-        store(host, "script", b"boot\n")?;
-        ends(
-            program,
-            host,
-            "cutat image script nothing 1 00",
-            0,
-            UNSTOPPED,
-        )?;
         goes_on(program, host, cut, cuts, "tamper\nboot\nstatus\n", DEAD)?;
         ends_in_zeros(host, "image", BBRAM_LENGTH)?;
         if !is_cut {
             return Ok(());
         }
     }
-    Ok(())
+    Err("too many writes")?
 }
 
 /// What is printed once the case is opened.

@@ -86,7 +86,7 @@ pub struct Cut {
     pub whole: &'static str,
 }
 
-/// An event on an image. Power is lost at each of its writes in turn, and again at the first writes of the next boot.
+/// An event on an image. Power is lost at each of its writes in turn, and again at each write of the next boot.
 pub struct TwoCuts {
     pub image: &'static str,
     pub noise: &'static str,

@@ -1,5 +1,5 @@
 //! What a power loss in the last event of a script leaves: the answers of `cutat`, and its words and inputs. Also each
-//! kind of event that writes, cut at each of its writes and at the first writes of the boot that follows, against the
+//! kind of event that writes, cut at each of its writes and at each write of the boot that follows, against the
 //! replies that the rules of a device give.
 
 use super::births::{new_device_goes_through, owned_device_goes_through};
