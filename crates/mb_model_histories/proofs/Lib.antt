@@ -23,3 +23,4 @@ pub mod KeyLemmas
 pub mod RegionEventLemmas
 pub mod KeyFileLemmas
 pub mod NoiseLemmas
+pub mod OldKeyLemmas

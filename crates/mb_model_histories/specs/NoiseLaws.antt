@@ -1,6 +1,6 @@
 -- Laws of the noise that orders are given. Of what does a draw decide: of keys alone, and of what they sign?
-use Rattle.std.specs.Prelude.{◌≡◌, ◌-◌, ◌<◌, ◌⊎◌, ℕ, Bool, true, false, ◌||◌, List, [], length, take, map, All}
-use Rattle.std.specs.Prelude.{option_map}
+use Rattle.std.specs.Prelude.{◌≡◌, ◌-◌, ◌<◌, ◌≤◌, ◌⊎◌, ℕ, Bool, true, false, ◌||◌, List, [], length, take, map, All}
+use Rattle.std.specs.Prelude.{Contains, Some, option_map}
 use Rattle.std.specs.Int.{w32}
 use Rattle.mb_format.specs.Combinators.{limit}
 use Rattle.mb_format.specs.Format.{Spells}
@@ -32,6 +32,7 @@ use Rattle.mb_model.specs.OrderFormat.{order_format}
 use Rattle.mb_model.specs.OrderStep.{OrderStep}
 use Rattle.mb_model.specs.Rules.{renews}
 use Rattle.mb_model_lemmas.specs.RefusalLaws.{BringsBytes}
+use Rattle.mb_model_histories.specs.Histories.{ComesAfter}
 use Rattle.mb_model_histories.specs.KeyLaws.{Collide, device_key_text}
 use Rattle.mb_model_histories.specs.PowerLaws.{HasOwnAnswer}
 use Rattle.mb_model_histories.specs.SightLaws.{with_changed_state}
@@ -142,3 +143,22 @@ DrawsMakeTheDeviceKey =
     → let made : ℕ = keys_made_by (entries_of state.log) in
     made < limit w32 → state_after_order state order draw ≡ state_after_order state order other
     → (draw ≡ other) ⊎ Collide (device_key_text draw state.serial made) (device_key_text other state.serial made)
+
+-- ---- keys of before
+
+-- the key was among these, with the same number, kind and seed, and some count of uses
+abbrev pub WasThere : List RegionKey → RegionKey → Type 0
+WasThere keys key = (uses : ℕ) × Contains keys (record key { uses = uses })
+
+-- Each key of the later region was in the sooner one, or its number is not below this count of keys.
+abbrev pub KeepsOldKeys : ℕ → Region → Region → Type 0
+KeepsOldKeys made sooner later = All (λ key. WasThere sooner.keys key ⊎ (made ≤ key.number)) later.keys
+
+-- No draw changes a key that was made before: in a history, each key of a region is one that was there sooner, with the
+-- same seed, or its number is not below the count of the keys that were made by then.
+abbrev pub OldKeysStay : Type 0
+OldKeysStay =
+    (first last : World) (sooner later : State) → ComesAfter last first → first.state ≡ Some sooner
+    → last.state ≡ Some later
+    → KeepsOldKeys (keys_made_by (entries_of sooner.log)) sooner.two later.two
+    × KeepsOldKeys (keys_made_by (entries_of sooner.log)) sooner.three later.three
