@@ -28,10 +28,10 @@ said_files : (line : List ℕ) (before after : Outside) → SaysLine line before
 said_files line before after (inl prints) = ap (λ (o : Outside). o.files) prints.stays
 said_files line before after (inr fails) = ap (λ (o : Outside). o.files) fails.stays
 
-stopped_files : (line : List ℕ) (status : ℕ) (past : Past) (ending : Ended) → Stops line status past ending → ending.after.files ≡ ending.before.files
+pub stopped_files : (line : List ℕ) (status : ℕ) (past : Past) (ending : Ended) → Stops line status past ending → ending.after.files ≡ ending.before.files
 stopped_files line status past ending stops = said_files line ending.before ending.after stops.says
 
-unread_files : (name : List ℕ) (before after : Outside) → FailsToRead name before after → after.files ≡ before.files
+pub unread_files : (name : List ℕ) (before after : Outside) → FailsToRead name before after → after.files ≡ before.files
 unread_files name before after (by_fault is) = ap (λ (o : Outside). o.files) is
 unread_files name before after (by_absence none is) = ap (λ (o : Outside). o.files) is
 

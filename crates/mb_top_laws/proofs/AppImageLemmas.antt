@@ -1,26 +1,18 @@
 -- The ends of `app` over two images.
-use Rattle.std.proofs.Common.{◌≡◌, ◌≢◌, ◌≤◌, ◌⊎◌, ℕ, List, [], ◌∷◌, ◌*◌, ◌++◌, codes, length, drop, inl, inr, Option, None, Some, Bool, true, false, refl, sym, ap, ◌∙◌, subst, arith, length-append, if◌then◌else◌}
+use Rattle.std.proofs.Common.{◌≡◌, ◌≢◌, ◌≤◌, ◌⊎◌, ℕ, List, [], ◌∷◌, ◌++◌, codes, length, inl, inr, Option, None, Some, Bool, true, false, refl, sym, ap, ◌∙◌, subst, arith, length-append, if◌then◌else◌}
 use Rattle.std.specs.Prelude.{◌==◌, find}
 use Rattle.std.proofs.lemmas.List.{append_cancel_left}
 use Rattle.mb_format.specs.Combinators.{number_bytes}
 use Rattle.mb_format.specs.Format.{IsBytes}
-use Rattle.mb_format.proofs.Exact.{IsBytes-drop, IsBytes-take, IsBytes-spelled}
-use Rattle.mb_model.specs.declared.entry.Entry.{Entry}
-use Rattle.mb_model.specs.declared.entry.SignedEntry.{SignedEntry}
 use Rattle.mb_model.specs.declared.region.Secret.{Secret}
-use Rattle.mb_model.specs.declared.state.Codes.{Codes}
 use Rattle.mb_model.specs.declared.state.State.{State}
-use Rattle.mb_model.specs.declared.stored.Root.{Root}
-use Rattle.mb_model.specs.declared.stored.Slot.{Slot}
 use Rattle.mb_model.specs.Commands.{Input, Past, Ended, end_seen_from, HasRead, SaysLine, Stops, WantsMemory, InputEnds, input_is_too_long, input_is_faulty, input_is_not_read, memory_lacks, PrintEnds, text_is_printed, text_is_not_printed, CommandEnds}
 use Rattle.mb_model.specs.Faults.{HasFault}
-use Rattle.mb_model.specs.Flash.{HoldsCode, HoldsPublic, code_slot}
 use Rattle.mb_model.specs.Inputs.{image_input}
 use Rattle.mb_model.specs.LayerEvents.{has_name}
 use Rattle.mb_model.specs.Layers.{Runnable}
-use Rattle.mb_model.specs.Meaning.{Contents, state_of_contents, HasMeaning, is_dead, is_live, IsWellFormed}
+use Rattle.mb_model.specs.Meaning.{IsWellFormed}
 use Rattle.mb_model.specs.Outside.{Outside, HasRisen, read_once, FailsToRead, by_fault, by_absence, Prints, FailsToPrint}
-use Rattle.mb_model.specs.Sectors.{code_sector}
 use Rattle.mb_model.specs.Texts.{line_with_lf}
 use Rattle.mb_model_lemmas.proofs.FaultLemmas.{well_formed_has_no_fault, well_formed_stands_for_one}
 use Rattle.mb_model_lemmas.proofs.Splits.{some_same}
@@ -34,11 +26,14 @@ use Rattle.mb_appvm.specs.Application.{AppState, Surroundings, StepOutcome, goes
 use Rattle.mb_appvm.specs.Instructions.{Stands, instruction_format}
 use Rattle.mb_appvm.specs.Runs.{first_state, RunsTo, readable_secrets, AppRun}
 use Rattle.mb_appvm.proofs.Determined.{runs_end_once}
+use Rattle.mb_model_histories.specs.KeyFileLaws.{Files}
 use Rattle.mb_tools_app.specs.AppCommand.{RunsStoredCode, AppNames, app, app_device, run_stored_code, code_of_layer, app_line, tell_end}
 use Rattle.mb_tools_app.specs.AppInputs.{app_input}
 use Rattle.mb_tools_app.specs.Seeing.{ShowsPrinted}
 use Rattle.mb_tools_app.proofs.SeeingLemmas.{app_sees_nothing_else}
-use Rattle.mb_top_laws.proofs.FileLemmas.{stopped_files, input_undone}
+use Rattle.mb_model_histories.proofs.KeyFileLemmas.{stopped_files}
+use Rattle.mb_top_laws.proofs.FileLemmas.{input_undone}
+use Rattle.mb_top_laws.proofs.StoredCodes.{image_codes}
 use Rattle.mb_top_laws.specs.AppImageLaws.{copying_code, HasCopyingCode, SecretsAreSeen, dead_alike, live_alike, HoldImages, with_files, over_files, ImagesAlikeHaveEqualEnds, ImagesAlikeHaveEqualLines, LayersAreSeen}
 
 -- ---- what an image holds
@@ -47,37 +42,13 @@ formed_short : (image : List ℕ) (state : Option State) → IsWellFormed image 
 formed_short image state formed =
     omega (arith, ap length formed.image_is.0, length-append formed.flash formed.bbram, formed.image_is.1.flash, formed.image_is.1.bbram)
 
-slot_bytes : (flash : List ℕ) (layer which : ℕ) → IsBytes flash → IsBytes (code_slot flash layer which)
-unfolding code_slot
-slot_bytes flash layer which are =
-    let at : ℕ = 4096 * code_sector layer which in
-    IsBytes-take 32768 (drop at flash) (IsBytes-drop at flash are)
-
-code_bytes : (flash : List ℕ) (layer : ℕ) (slot : Slot) (held : Option (List ℕ)) (code : List ℕ) → IsBytes flash → HoldsCode flash layer slot held → held ≡ Some code → IsBytes code
-code_bytes flash layer slot None code are holds is = absurd (grind (arith, is))
-code_bytes flash layer slot (Some stored) code are holds is =
-    subst IsBytes (sym holds.1 ∙ some_same stored code is) (IsBytes-take slot.length (code_slot flash layer slot.which) (slot_bytes flash layer slot.which are))
-
-either_bytes : (flash : List ℕ) (root : Root) (stored : Codes) (signed : List SignedEntry) (unsigned : List Entry) (second : Bool) (code : List ℕ) → IsBytes flash
-    → HoldsPublic flash root stored signed unsigned → (if second then stored.two else stored.three) ≡ Some code → IsBytes code
-either_bytes flash root stored signed unsigned true code are holds is = code_bytes flash 2 holds.header.two stored.two code are holds.two is
-either_bytes flash root stored signed unsigned false code are holds is = code_bytes flash 3 holds.header.three stored.three code are holds.three is
-
-codes_of : (contents : Contents) → (state_of_contents contents).codes ≡ contents.codes
-unfolding state_of_contents
-codes_of contents = refl
-
-meant_bytes : (flash bbram : List ℕ) (state : State) (layer : ℕ) (code : List ℕ) → IsBytes flash → HasMeaning flash bbram (Some state) → code_of_layer state.codes layer ≡ Some code → IsBytes code
-meant_bytes flash bbram state layer code are (is_dead blank none) is = absurd (grind (arith, none))
-meant_bytes flash bbram state layer code are (is_live contents holds index same) is =
-    let stored : state.codes ≡ contents.codes = ap (λ (s : State). s.codes) (some_same state (state_of_contents contents) same) ∙ codes_of contents in
-    either_bytes flash contents.root contents.codes contents.signed contents.unsigned (layer == 2) code are holds.public
-    (ap (λ (c : Codes). code_of_layer c layer) (sym stored) ∙ is)
-
 -- the stored code of a well-formed image is bytes
 stored_bytes : (image : List ℕ) (state : State) (layer : ℕ) (code : List ℕ) → IsBytes image → IsWellFormed image (Some state) → code_of_layer state.codes layer ≡ Some code → IsBytes code
-stored_bytes image state layer code are formed is =
-    meant_bytes formed.flash formed.bbram state layer code (IsBytes-spelled image formed.flash formed.bbram are formed.image_is.0) formed.stands.meaning is
+stored_bytes image state layer code are formed is = by (layer == 2) is
+  where
+    by : (second : Bool) → (if second then state.codes.two else state.codes.three) ≡ Some code → IsBytes code
+    by true is = (image_codes image state are formed).two code is
+    by false is = (image_codes image state are formed).three code is
 
 -- ---- ends over other files
 
@@ -85,7 +56,7 @@ stored_bytes image state layer code are formed is =
 abbrev once : Ended → Ended
 once e = end_seen_from (read_once e.before) e
 
-module _ (now : List ℕ → Option (List ℕ)) where
+module _ (now : Files) where
   prints_over : (bytes : List ℕ) (before after : Outside) → Prints bytes before after → Prints bytes (with_files now before) (with_files now after)
   prints_over bytes before after p = record { stays = ap (with_files now) p.stays; adds = p.adds }
 

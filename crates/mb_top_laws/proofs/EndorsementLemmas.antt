@@ -42,8 +42,10 @@ use Rattle.mb_hss.proofs.VerifyLemmas.{makers_verify}
 use Rattle.mb_tools_hss.specs.Endorse.{EndorseNames, endorse, endorse_by, endorse_root, use_number, endorsed_text, number_used}
 use Rattle.mb_tools_hss.specs.Endorsed.{EndorsedNames, endorsed, endorsed_under, endorsed_root, judge_endorsement}
 use Rattle.mb_tools_hss.specs.MakerInputs.{maker_input, endorsement_input}
-use Rattle.mb_top_laws.proofs.FileLemmas.{LeavesFiles, stopped_files, stops_undone, input_undone}
-use Rattle.mb_top_laws.specs.EndorsementLaws.{ShownFiles, HoldsValue, JudgesEndorsement, SaysEndorsed, EndorsementsAreAccepted, EmptyFilesAreRefused, LeavesMaker, leaves_all, fails_to_write_key, uses_up_number, EndorsingUsesUpItsNumber, EndorseCall, IsCallOn, AreCallsInTurn, UsesNumber, DoneCallsUseNumbers, NumbersInTurnDiffer, IsDoneOver, OldMakersEndorseAgain}
+use Rattle.mb_model_histories.proofs.KeyFileLemmas.{stopped_files}
+use Rattle.mb_top_laws.proofs.FileLemmas.{LeavesFiles, stops_undone, input_undone}
+use Rattle.mb_model_histories.specs.KeyFileLaws.{Files}
+use Rattle.mb_top_laws.specs.EndorsementLaws.{HoldsValue, JudgesEndorsement, SaysEndorsed, EndorsementsAreAccepted, EmptyFilesAreRefused, LeavesMaker, leaves_all, fails_to_write_key, uses_up_number, EndorsingUsesUpItsNumber, EndorseCall, IsCallOn, AreCallsInTurn, UsesNumber, DoneCallsUseNumbers, NumbersInTurnDiffer, IsDoneOver, OldMakersEndorseAgain}
 
 -- ---- files by name
 
@@ -54,16 +56,16 @@ printed_files text past ending wrote (inl (text_is_not_printed mid fails stops))
 printed_files text past ending wrote (inr wants) = absurd (true≢false (sym wrote ∙ wants.first))
 
 -- the files of one name apart
-abbrev ButFor : List ℕ → ShownFiles → ShownFiles → Type 0
+abbrev ButFor : List ℕ → Files → Files → Type 0
 ButFor name before after = (other : List ℕ) → other ≢ name → after other ≡ before other
 
-same_files : (before after : ShownFiles) (o p : Option ShownFiles) → o ≡ Some before → p ≡ Some after → p ≡ o → (name : List ℕ) → after name ≡ before name
+same_files : (before after : Files) (o p : Option Files) → o ≡ Some before → p ≡ Some after → p ≡ o → (name : List ℕ) → after name ≡ before name
 same_files before after o p is_before is_after same name =
     let equal : after ≡ before = some_same after before (sym is_after ∙ same ∙ is_before) in
-    ap (λ (f : ShownFiles). f name) equal
+    ap (λ (f : Files). f name) equal
 
 -- a file that is read spells the value that it holds
-one_value : {A : Type 0} (format : Format A) → IsExact format → (name found : List ℕ) (value read_value : A) (outside : Outside) (files : ShownFiles) → outside.files ≡ Some files
+one_value : {A : Type 0} (format : Format A) → IsExact format → (name found : List ℕ) (value read_value : A) (outside : Outside) (files : Files) → outside.files ≡ Some files
     → HoldsValue format files name value → HasRead outside name found → Spells format found read_value → read_value ≡ value
 one_value format exact name found value read_value outside files is holds has spelled =
     let same : found ≡ holds.0 = some_same found holds.0 (sym (has.held files is) ∙ holds.1) in
@@ -72,19 +74,19 @@ one_value format exact name found value read_value outside files is holds has sp
 -- ---- a number is used
 
 -- OUT after KEY was written
-out_left : (name text bytes : List ℕ) (role_of : Role) (between after : ShownFiles) (ending : Ended) → ending.before.files ≡ Some between → ending.after.files ≡ Some after
+out_left : (name text bytes : List ℕ) (role_of : Role) (between after : Files) (ending : Ended) → ending.before.files ≡ Some between → ending.after.files ≡ Some after
     → CommandEnds (write (record { role = role_of; name = name; bytes = bytes }) (print text)) (record at_first { wrote = true }) ending
     → ButFor name between after × ((after name ≡ Some bytes) ⊎ (ending.status ≡ 5))
 unfolding CommandEnds
 out_left name text bytes role_of between after ending is_between is_after (inl ends) =
     let kept = ends.fails.others between is_between in
     let same : after ≡ kept.0 = some_same after kept.0 (sym is_after ∙ stopped_files _ 5 _ (end_seen_from ends.mid ending) ends.stops ∙ kept.1) in
-    (λ other apart. ap (λ (f : ShownFiles). f other) same ∙ kept.2 other apart, inr ends.stops.status_is)
+    (λ other apart. ap (λ (f : Files). f other) same ∙ kept.2 other apart, inr ends.stops.status_is)
 out_left name text bytes role_of between after ending is_between is_after (inr (inl (mid, writes, rest))) =
     let kept = writes.others between is_between in
     let printed : ending.after.files ≡ mid.files = printed_files text (record at_first { wrote = true }) (end_seen_from mid ending) refl rest in
     let same : after ≡ kept.0 = some_same after kept.0 (sym is_after ∙ printed ∙ kept.1) in
-    (λ other apart. ap (λ (f : ShownFiles). f other) same ∙ kept.2 other apart, inl (ap (λ (f : ShownFiles). f name) same ∙ writes.holds kept.0 kept.1))
+    (λ other apart. ap (λ (f : Files). f other) same ∙ kept.2 other apart, inl (ap (λ (f : Files). f name) same ∙ writes.holds kept.0 kept.1))
 out_left name text bytes role_of between after ending is_between is_after (inr (inr wants)) = absurd (true≢false wants.first)
 
 next_allowed : (maker : Maker) → maker_format.Allowed maker → maker.next ≢ 32 ^ maker.levels → maker_format.Allowed (number_used maker)
@@ -130,19 +132,19 @@ maker_bytes maker are =
 
 -- ---- what a call leaves
 
-undone : (names : EndorseNames) (maker : Maker) (before after : ShownFiles) (ending : Ended) → ending.before.files ≡ Some before → ending.after.files ≡ Some after → LeavesFiles ending
+undone : (names : EndorseNames) (maker : Maker) (before after : Files) (ending : Ended) → ending.before.files ≡ Some before → ending.after.files ≡ Some after → LeavesFiles ending
     → LeavesMaker names maker before after ending.status
 undone names maker before after ending is_before is_after leaves =
     leaves_all (same_files before after ending.before.files ending.after.files is_before is_after leaves.0) leaves.1
 
-module _ (names : EndorseNames) (maker : Maker) (allowed : maker_format.Allowed maker) (are : IsBytes (maker_format.spelling maker)) (apart : names.out ≢ names.key) (before after : ShownFiles) where
+module _ (names : EndorseNames) (maker : Maker) (allowed : maker_format.Allowed maker) (are : IsBytes (maker_format.spelling maker)) (apart : names.out ≢ names.key) (before after : Files) where
   number_left : (root : PublicKey) (ending : Ended) → HoldsValue public_key_format before names.root root → maker.next ≢ 32 ^ maker.levels → ending.before.files ≡ Some before → ending.after.files ≡ Some after
       → CommandEnds (use_number names maker root) at_first ending → LeavesMaker names maker before after ending.status
   unfolding CommandEnds use_number
   number_left root ending held left is_before is_after (inl ends) =
       let kept = ends.fails.others before is_before in
       let same : after ≡ kept.0 = some_same after kept.0 (sym is_after ∙ stopped_files _ 5 at_first (end_seen_from ends.mid ending) ends.stops ∙ kept.1) in
-      fails_to_write_key (λ name other. ap (λ (f : ShownFiles). f name) same ∙ kept.2 name other) ends.stops.status_is
+      fails_to_write_key (λ name other. ap (λ (f : Files). f name) same ∙ kept.2 name other) ends.stops.status_is
   number_left root ending held left is_before is_after (inr (inr wants)) =
       undone names maker before after ending is_before is_after (stops_undone _ 6 at_first ending (omega arith) wants.stops)
   number_left root ending held left is_before is_after (inr (inl (mid, writes, rest))) =
@@ -174,7 +176,7 @@ module _ (names : EndorseNames) (maker : Maker) (allowed : maker_format.Allowed 
       root_left root (end_seen_from (read_once ending.before) ending) (found, has.held before is_before, has.are_bytes, spelled) is_before is_after ends
 
 -- the maker that is read is the one that KEY holds
-maker_read : (names : EndorseNames) (maker value : Maker) (ending : Ended) (before : ShownFiles) (found : List ℕ) → ending.before.files ≡ Some before → HoldsValue maker_format before names.key maker
+maker_read : (names : EndorseNames) (maker value : Maker) (ending : Ended) (before : Files) (found : List ℕ) → ending.before.files ≡ Some before → HoldsValue maker_format before names.key maker
     → HasRead ending.before names.key found → Spells maker_format found value → CommandEnds (endorse_by names value) at_first (end_seen_from (read_once ending.before) ending)
     → CommandEnds (endorse_by names maker) at_first (end_seen_from (read_once ending.before) ending)
 maker_read names maker value ending before found is_before holds has spelled ends =
@@ -191,7 +193,7 @@ endorsing_uses_up_its_number names ending before after maker (inr (found, has, (
 
 -- ---- a call that is done
 
-module _ (names : EndorseNames) (maker : Maker) (root : PublicKey) (before after : ShownFiles) where
+module _ (names : EndorseNames) (maker : Maker) (root : PublicKey) (before after : Files) where
   -- what OUT holds, and that a number was left
   abbrev IsEndorsed : Type 0
   IsEndorsed = (maker.next ≢ 32 ^ maker.levels) × (after names.out ≡ Some (maker_signature maker maker.next (endorsed_text root)))
@@ -239,7 +241,7 @@ module _ (key : List ℕ) (call : EndorseCall) (is : IsCallOn key call) where
       (subst (λ (k : List ℕ). HoldsValue maker_format call.before k call.found) (sym is.on) is.finds) (λ same. is.apart (same ∙ is.on))
 
   -- two makers that one file holds
-  one_held : (files : ShownFiles) (one other : Maker) → HoldsValue maker_format files key one → HoldsValue maker_format files key other → one ≡ other
+  one_held : (files : Files) (one other : Maker) → HoldsValue maker_format files key one → HoldsValue maker_format files key other → one ≡ other
   one_held files one other first second =
       let same : second.0 ≡ first.0 = some_same second.0 first.0 (sym second.1 ∙ first.1) in
       (IsClearWhole-from_exact maker_exact).one_value first.0 one other first.2 first.3 (subst (λ b. Spells maker_format b other) same second.3)
@@ -290,14 +292,14 @@ numbers_in_turn_differ key first (call ∷ calls) turn =
 
 -- ---- calls over one KEY
 
-put : List ℕ → List ℕ → ShownFiles → ShownFiles
+put : List ℕ → List ℕ → Files → Files
 put name bytes files other = if same_bytes other name then Some bytes else files other
 
-put_here : (name bytes : List ℕ) (files : ShownFiles) → put name bytes files name ≡ Some bytes
+put_here : (name bytes : List ℕ) (files : Files) → put name bytes files name ≡ Some bytes
 unfolding put
 put_here name bytes files = ap (λ (b : Bool). if b then Some bytes else files name) (same_bytes-refl name)
 
-put_beside : (name bytes : List ℕ) (files : ShownFiles) (other : List ℕ) → other ≢ name → put name bytes files other ≡ files other
+put_beside : (name bytes : List ℕ) (files : Files) (other : List ℕ) → other ≢ name → put name bytes files other ≡ files other
 unfolding put
 put_beside name bytes files other apart = by (same_bytes other name) refl
   where
@@ -306,19 +308,19 @@ put_beside name bytes files other apart = by (same_bytes other name) refl
     by false is = refl
 
 -- a host that shows its files, and nothing else
-abbrev shows_files : ShownFiles → Outside
+abbrev shows_files : Files → Outside
 shows_files files = record { files = Some files; printed = None; read_faults = 0; absences = 0; write_faults = 0; reads = 0; writes = 0; prints = 0 }
 
-abbrev written : List ℕ → List ℕ → ShownFiles → Outside → Outside
+abbrev written : List ℕ → List ℕ → Files → Outside → Outside
 written name bytes files outside = record outside { files = Some (put name bytes files); writes = count_after_call outside.writes }
 
-is_written : (name bytes : List ℕ) (files : ShownFiles) (outside : Outside) → outside.files ≡ Some files → WritesFile name bytes outside (written name bytes files outside)
+is_written : (name bytes : List ℕ) (files : Files) (outside : Outside) → outside.files ≡ Some files → WritesFile name bytes outside (written name bytes files outside)
 is_written name bytes files outside is = record {
   stays = refl;
   others = λ now shown.
       let same : files ≡ now = some_same files now (sym is ∙ shown) in
-      (put name bytes files, refl, λ other apart. put_beside name bytes files other apart ∙ ap (λ (f : ShownFiles). f other) same);
-  holds = λ now shown. ap (λ (f : ShownFiles). f name) (sym (some_same (put name bytes files) now shown)) ∙ put_here name bytes files;
+      (put name bytes files, refl, λ other apart. put_beside name bytes files other apart ∙ ap (λ (f : Files). f other) same);
+  holds = λ now shown. ap (λ (f : Files). f name) (sym (some_same (put name bytes files) now shown)) ∙ put_here name bytes files;
 }
 
 maker_short : IsShort maker_format 45
@@ -329,15 +331,15 @@ hss_key_short : IsShort hss_key_format 60
 unfolding hss_key_format
 hss_key_short = bounds.as_record_short _ _ (bounds.pair_short (bounds.between_short 1 8 wide32) public_key_short)
 
-held_read : {A : Type 0} (format : Format A) (n : ℕ) → IsShort format n → n ≤ 4194304 → (name : List ℕ) (value : A) (outside : Outside) (files : ShownFiles) → outside.files ≡ Some files
+held_read : {A : Type 0} (format : Format A) (n : ℕ) → IsShort format n → n ≤ 4194304 → (name : List ℕ) (value : A) (outside : Outside) (files : Files) → outside.files ≡ Some files
     → (holds : HoldsValue format files name value) → HasRead outside name holds.0
 held_read format n short few name value outside files is holds = record {
-  held = λ now shown. ap (λ (f : ShownFiles). f name) (sym (some_same files now (sym is ∙ shown))) ∙ holds.1;
+  held = λ now shown. ap (λ (f : Files). f name) (sym (some_same files now (sym is ∙ shown))) ∙ holds.1;
   are_bytes = holds.2;
   fits = omega (arith, ap length holds.3.whole, short.short value holds.3.allowed, few);
 }
 
-module _ (names : EndorseNames) (files : ShownFiles) (maker : Maker) (root : PublicKey) (holds : HoldsValue maker_format files names.key maker) (held : HoldsValue public_key_format files names.root root)
+module _ (names : EndorseNames) (files : Files) (maker : Maker) (root : PublicKey) (holds : HoldsValue maker_format files names.key maker) (held : HoldsValue public_key_format files names.root root)
     (left : maker.next ≢ 32 ^ maker.levels) (apart : names.out ≢ names.key) where
   abbrev start : Outside
   start = shows_files files
@@ -447,7 +449,7 @@ said_reads line before after (inl prints) = ap (λ (o : Outside). o.read_faults)
 said_reads line before after (inr fails) = ap (λ (o : Outside). o.read_faults) fails.stays
 
 -- An input that is there, short enough and not at fault is read, or memory is lacking.
-read_goes : {A : Type 0} (input : Input A) (rest : A → Command) (past : Past) (e : Ended) (files : ShownFiles) (bytes : List ℕ) → e.before.files ≡ Some files → files input.name ≡ Some bytes
+read_goes : {A : Type 0} (input : Input A) (rest : A → Command) (past : Past) (e : Ended) (files : Files) (bytes : List ℕ) → e.before.files ≡ Some files → files input.name ≡ Some bytes
     → length bytes ≤ 4194304 → ((place : Place) → IsBytes bytes → input.FaultyAt bytes place → ⊥) → IsFaultless e.before e.after → CommandEnds (read input rest) past e
     → (e.status ≡ 6) ⊎ ((found : List ℕ) × HasRead e.before input.name found × ((value : A) × input.Is found value × CommandEnds (rest value) past (end_seen_from (read_once e.before) e)))
 unfolding CommandEnds
@@ -467,7 +469,7 @@ read_goes input rest past e files bytes told has fits faultless well (inl (input
     absurd (grind (arith, sym has ∙ none files told))
 
 -- a file that spells a value is read as it, or memory is lacking
-value_goes : {A : Type 0} (format : Format A) (exact : IsExact format) (n : ℕ) → IsShort format n → n ≤ 4194304 → (role_of : Role) (name : List ℕ) (value : A) (rest : A → Command) (past : Past) (e : Ended) (files : ShownFiles)
+value_goes : {A : Type 0} (format : Format A) (exact : IsExact format) (n : ℕ) → IsShort format n → n ≤ 4194304 → (role_of : Role) (name : List ℕ) (value : A) (rest : A → Command) (past : Past) (e : Ended) (files : Files)
     → e.before.files ≡ Some files → HoldsValue format files name value → IsFaultless e.before e.after → CommandEnds (read (binary_input role_of format name) rest) past e
     → (e.status ≡ 6) ⊎ CommandEnds (rest value) past (end_seen_from (read_once e.before) e)
 value_goes format exact n short few role_of name value rest past e files told holds well ends =

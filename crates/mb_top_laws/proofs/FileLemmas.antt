@@ -1,26 +1,16 @@
 -- What a command leaves of the files if it ends without a write.
-use Rattle.std.proofs.Common.{◌≡◌, ◌≢◌, ◌<◌, ℕ, List, inl, inr, ap, ◌∙◌, arith}
-use Rattle.mb_model.specs.Commands.{Input, Past, Ended, end_seen_from, SaysLine, Stops, InputEnds, input_is_too_long, input_is_faulty, input_is_not_read, memory_lacks}
-use Rattle.mb_model.specs.Outside.{Outside, read_once, FailsToRead, by_fault, by_absence}
+use Rattle.std.proofs.Common.{◌≡◌, ◌≢◌, ◌<◌, ℕ, List, ◌∙◌, arith}
+use Rattle.mb_model.specs.Commands.{Input, Past, Ended, end_seen_from, Stops, InputEnds, input_is_too_long, input_is_faulty, input_is_not_read, memory_lacks}
+use Rattle.mb_model.specs.Outside.{read_once}
+use Rattle.mb_model_histories.proofs.KeyFileLemmas.{stopped_files, unread_files}
 
 -- the files are as they were, and the command is not done
 abbrev pub LeavesFiles : Ended → Type 0
 LeavesFiles ending = (ending.after.files ≡ ending.before.files) × (ending.status ≢ 0)
 
-said_files : (line : List ℕ) (before after : Outside) → SaysLine line before after → after.files ≡ before.files
-said_files line before after (inl prints) = ap (λ (o : Outside). o.files) prints.stays
-said_files line before after (inr fails) = ap (λ (o : Outside). o.files) fails.stays
-
-pub stopped_files : (line : List ℕ) (status : ℕ) (past : Past) (ending : Ended) → Stops line status past ending → ending.after.files ≡ ending.before.files
-stopped_files line status past ending stops = said_files line ending.before ending.after stops.says
-
 -- a command that stops with a status above 0
 pub stops_undone : (line : List ℕ) (status : ℕ) (past : Past) (ending : Ended) → 0 < status → Stops line status past ending → LeavesFiles ending
 stops_undone line status past ending above stops = (stopped_files line status past ending stops, λ done. omega (arith, done, stops.status_is, above))
-
-unread_files : (name : List ℕ) (before after : Outside) → FailsToRead name before after → after.files ≡ before.files
-unread_files name before after (by_fault is) = ap (λ (o : Outside). o.files) is
-unread_files name before after (by_absence none is) = ap (λ (o : Outside). o.files) is
 
 pub input_undone : {A : Type 0} (input : Input A) (past : Past) (ending : Ended) → InputEnds input past ending → LeavesFiles ending
 input_undone input past ending (input_is_too_long held stops) = stops_undone _ 3 past (end_seen_from (read_once ending.before) ending) (omega arith) stops

@@ -1,5 +1,5 @@
 -- Laws of `app` from the bytes of two images. Does it tell of an image more than the application may see?
-use Rattle.std.specs.Prelude.{◌≡◌, ◌≢◌, ◌≤◌, ℕ, List, [], ◌∷◌, length, codes, find, Option, None, Some}
+use Rattle.std.specs.Prelude.{◌≡◌, ◌≢◌, ◌≤◌, ℕ, List, [], ◌∷◌, length, codes, find, None, Some}
 use Rattle.mb_format.specs.Format.{IsBytes}
 use Rattle.mb_model.specs.declared.region.Secret.{Secret}
 use Rattle.mb_model.specs.declared.state.State.{State}
@@ -8,6 +8,7 @@ use Rattle.mb_model.specs.LayerEvents.{has_name}
 use Rattle.mb_model.specs.Layers.{Runnable}
 use Rattle.mb_model.specs.Meaning.{IsWellFormed}
 use Rattle.mb_model.specs.Outside.{Outside}
+use Rattle.mb_model_histories.specs.KeyFileLaws.{Files}
 use Rattle.mb_tools_app.specs.AppCommand.{AppNames, app}
 use Rattle.mb_tools_app.specs.Seeing.{AgreeFor, ShowsPrinted}
 
@@ -20,7 +21,7 @@ pub data AreAlikeFor (layer : ℕ) (image other : List ℕ) : Type 0 where
 -- IMAGE holds this image among the one files, and that one among the others. INPUT is the same.
 pub record HoldImages
     (names : AppNames)
-    (files now : List ℕ → Option (List ℕ))
+    (files now : Files)
     (image other : List ℕ) : Type 0 where
   pub image_held : files names.image ≡ Some image
   pub other_held : now names.image ≡ Some other
@@ -28,11 +29,11 @@ pub record HoldImages
   pub are_bytes : IsBytes other
 
 -- the world outside, with these files
-abbrev pub with_files : (List ℕ → Option (List ℕ)) → Outside → Outside
+abbrev pub with_files : Files → Outside → Outside
 with_files files outside = record outside { files = Some files }
 
 -- the end, with these files before and after it
-abbrev pub over_files : (List ℕ → Option (List ℕ)) → Ended → Ended
+abbrev pub over_files : Files → Ended → Ended
 over_files files ending =
     record ending { before = with_files files ending.before; after = with_files files ending.after }
 
@@ -40,7 +41,7 @@ over_files files ending =
 -- and the same printed bytes. It leaves all files as they were.
 abbrev pub ImagesAlikeHaveEqualEnds : Type 0
 ImagesAlikeHaveEqualEnds =
-    (names : AppNames) (past : Past) (ending : Ended) (files now : List ℕ → Option (List ℕ)) (image other : List ℕ)
+    (names : AppNames) (past : Past) (ending : Ended) (files now : Files) (image other : List ℕ)
     → ending.before.files ≡ Some files → HoldImages names files now image other → AreAlikeFor names.layer image other
     → CommandEnds (app names) past ending
     → CommandEnds (app names) past (over_files now ending) × (ending.after.files ≡ Some files)
@@ -49,7 +50,7 @@ ImagesAlikeHaveEqualEnds =
 -- with the same status.
 abbrev pub ImagesAlikeHaveEqualLines : Type 0
 ImagesAlikeHaveEqualLines =
-    (names : AppNames) (past other_past : Past) (ending other_ending : Ended) (files now : List ℕ → Option (List ℕ))
+    (names : AppNames) (past other_past : Past) (ending other_ending : Ended) (files now : Files)
     (image other text line : List ℕ) → ending.before.files ≡ Some files → other_ending.before.files ≡ Some now
     → HoldImages names files now image other → AreAlikeFor names.layer image other
     → CommandEnds (app names) past ending → ShowsPrinted ending text
@@ -60,7 +61,7 @@ ImagesAlikeHaveEqualLines =
 -- prints different lines, even if nothing else differs.
 abbrev pub LayersAreSeen : Type 0
 LayersAreSeen =
-    (names : AppNames) (past other_past : Past) (ending other_ending : Ended) (files now : List ℕ → Option (List ℕ))
+    (names : AppNames) (past other_past : Past) (ending other_ending : Ended) (files now : Files)
     (image other text line : List ℕ) (state twin : State)
     → ending.before.files ≡ Some files → other_ending.before.files ≡ Some now
     → HoldImages names files now image other
@@ -90,7 +91,7 @@ abbrev pub SecretsAreSeen : Type 0
 SecretsAreSeen =
     (image_name input_name : List ℕ)
     → let names : AppNames = record { image = image_name; layer = 2; input = input_name; steps = 4 } in
-    (past other_past : Past) (ending other_ending : Ended) (files now : List ℕ → Option (List ℕ))
+    (past other_past : Past) (ending other_ending : Ended) (files now : Files)
     (image other text line value : List ℕ) (state twin : State) → ending.before.files ≡ Some files
     → other_ending.before.files ≡ Some now → HoldImages names files now image other
     → HasCopyingCode image [] state → HasCopyingCode other value twin → 1 ≤ length value

@@ -1,12 +1,13 @@
 -- Laws of `endorse` and `endorsed`. Is what a maker has endorsed accepted, and does a maker's KEY endorse twice with
 -- one number?
-use Rattle.std.specs.Prelude.{◌≡◌, ◌≢◌, ◌<◌, ◌⊎◌, ◌^◌, ℕ, List, [], ◌∷◌, AllPairs, codes, Option, Some}
+use Rattle.std.specs.Prelude.{◌≡◌, ◌≢◌, ◌<◌, ◌⊎◌, ◌^◌, ℕ, List, [], ◌∷◌, AllPairs, codes, Some}
 use Rattle.mb_format.specs.Format.{Format, IsBytes, Spells}
 use Rattle.mb_model.specs.declared.key.PublicKey.{PublicKey}
 use Rattle.mb_model.specs.Commands.{Past, Ended, CommandEnds, at_first, IsFaultless}
 use Rattle.mb_model.specs.KeyFormat.{public_key_format}
 use Rattle.mb_model.specs.Outside.{Adds}
 use Rattle.mb_model.specs.Texts.{line_with_lf}
+use Rattle.mb_model_histories.specs.KeyFileLaws.{Files}
 use Rattle.mb_hss.specs.declared.key.HssKey.{HssKey}
 use Rattle.mb_hss.specs.declared.maker.Maker.{Maker}
 use Rattle.mb_hss.specs.HssKeyFormat.{hss_key_format}
@@ -16,12 +17,8 @@ use Rattle.mb_hss.specs.MakerSignatures.{maker_signature}
 use Rattle.mb_tools_hss.specs.Endorse.{EndorseNames, endorse, endorsed_text, number_used}
 use Rattle.mb_tools_hss.specs.Endorsed.{EndorsedNames, endorsed}
 
--- the files of a host by name, where it shows them
-abbrev pub ShownFiles : Type 0
-ShownFiles = List ℕ → Option (List ℕ)
-
 -- the file of this name holds bytes that spell the value
-abbrev pub HoldsValue : {A : Type 0} → Format A → ShownFiles → List ℕ → A → Type 0
+abbrev pub HoldsValue : {A : Type 0} → Format A → Files → List ℕ → A → Type 0
 HoldsValue format files name value =
     (bytes : List ℕ) × (files name ≡ Some bytes) × IsBytes bytes × Spells format bytes value
 
@@ -36,7 +33,7 @@ pub record JudgesEndorsement
     (names : EndorsedNames)
     (past : Past)
     (judged : Ended) : Type 0 where
-  pub files : ShownFiles
+  pub files : Files
   pub shown : judged.before.files ≡ Some files
   pub public : HoldsValue hss_key_format files names.public key
   pub root_held : HoldsValue public_key_format files names.root root
@@ -53,7 +50,7 @@ pub record SaysEndorsed (judged : Ended) : Type 0 where
 -- root key, unless memory is lacking.
 abbrev pub EndorsementsAreAccepted : Type 0
 EndorsementsAreAccepted =
-    (names : EndorseNames) (made : Ended) (before after : ShownFiles) (maker : Maker) (root : PublicKey)
+    (names : EndorseNames) (made : Ended) (before after : Files) (maker : Maker) (root : PublicKey)
     → CommandEnds (endorse names) at_first made → made.before.files ≡ Some before → made.after.files ≡ Some after
     → HoldsValue maker_format before names.key maker → HoldsValue public_key_format before names.root root
     → made.status ≡ 0
@@ -71,7 +68,7 @@ EmptyFilesAreRefused =
 -- ---- numbers
 
 -- What a call of `endorse` leaves of the files, if KEY holds this maker.
-pub data LeavesMaker (names : EndorseNames) (maker : Maker) (before after : ShownFiles) (status : ℕ) : Type 0 where
+pub data LeavesMaker (names : EndorseNames) (maker : Maker) (before after : Files) (status : ℕ) : Type 0 where
   -- no file was written
   leaves_all : ((name : List ℕ) → after name ≡ before name) → status ≢ 0
       → LeavesMaker names maker before after status
@@ -90,7 +87,7 @@ pub data LeavesMaker (names : EndorseNames) (maker : Maker) (before after : Show
 -- written, or KEY could not be written.
 abbrev pub EndorsingUsesUpItsNumber : Type 0
 EndorsingUsesUpItsNumber =
-    (names : EndorseNames) (ending : Ended) (before after : ShownFiles) (maker : Maker)
+    (names : EndorseNames) (ending : Ended) (before after : Files) (maker : Maker)
     → CommandEnds (endorse names) at_first ending → ending.before.files ≡ Some before
     → ending.after.files ≡ Some after → HoldsValue maker_format before names.key maker → names.out ≢ names.key
     → LeavesMaker names maker before after ending.status
@@ -99,8 +96,8 @@ EndorsingUsesUpItsNumber =
 pub record EndorseCall : Type 0 where
   pub names : EndorseNames
   pub ending : Ended
-  pub before : ShownFiles
-  pub after : ShownFiles
+  pub before : Files
+  pub after : Files
   pub found : Maker
   pub left : Maker
 
@@ -141,7 +138,7 @@ NumbersInTurnDiffer =
     → number < other) calls
 
 -- A call of `endorse` that is done, over these files.
-pub record IsDoneOver (names : EndorseNames) (files : ShownFiles) (maker : Maker) (call : EndorseCall) : Type 0 where
+pub record IsDoneOver (names : EndorseNames) (files : Files) (maker : Maker) (call : EndorseCall) : Type 0 where
   pub names_are : call.names ≡ names
   pub files_are : call.before ≡ files
   pub found_is : call.found ≡ maker
@@ -153,7 +150,7 @@ pub record IsDoneOver (names : EndorseNames) (files : ShownFiles) (maker : Maker
 -- the one before left cannot be left out.
 abbrev pub OldMakersEndorseAgain : Type 0
 OldMakersEndorseAgain =
-    (names : EndorseNames) (second_root : List ℕ) (files : ShownFiles) (maker : Maker) (root other : PublicKey)
+    (names : EndorseNames) (second_root : List ℕ) (files : Files) (maker : Maker) (root other : PublicKey)
     → HoldsValue maker_format files names.key maker → HoldsValue public_key_format files names.root root
     → HoldsValue public_key_format files second_root other → maker.next ≢ 32 ^ maker.levels → names.out ≢ names.key
     → (sooner later : EndorseCall) × IsDoneOver names files maker sooner
