@@ -48,7 +48,7 @@ leaves_device_tree reply.Stopped = false
 leaves_device_tree (reply.Done number size) = false
 leaves_device_tree other = true
 
--- the answer leaves the tree of a region's key: nor has a key signed
+-- the answer leaves the tree of a region's key: power has not gone, no order is done and no key has signed
 abbrev pub leaves_tree : Reply → Bool
 leaves_tree (reply.Signed key index statement) = false
 leaves_tree other = leaves_device_tree other
