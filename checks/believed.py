@@ -16,6 +16,7 @@ NAMED = re.compile(r"`(?:crates/(\w+)/specs/)?(\w+\.antt)`")
 FOLDER = re.compile(r"`crates/(\w+)/specs`")
 COUNTED = re.compile(
     r"^\s*\| (?:.*\]\()?(?:([^)|]*\.(?:antt|rt))\)|\[([^\]]*)\]\(#[^)]*\)).*\| ([\d,]+) \| ([\d,]+) \|$")
+MODEL = ["mb_model", "mb_model_commands"]
 NEAR = 0.1
 
 
@@ -120,7 +121,7 @@ def main(words):
 def sections_of(page):
     """The sections of a page that leads through definitions, each with the files that it names.
 
-    A file stands in the folder that its item names, or in one that the section's text names, or in mb_model."""
+    A file stands in the folder that its item names, or in one that the section's text names, or in one of MODEL."""
     sections = {}
     for title, text in re.findall(r"^## ([^\n]*)\n(.*?)(?=^## |\Z)", page.read_text(), re.M | re.S):
         parts = re.split(r"\n(?=- |\n)", text)
@@ -128,7 +129,7 @@ def sections_of(page):
         files = set()
         for part in parts:
             for crate, name in NAMED.findall(part):
-                crates = [crate] if crate else [*FOLDER.findall(part), *own, "mb_model"]
+                crates = [crate] if crate else [*FOLDER.findall(part), *own, *MODEL]
                 places = [pathlib.Path("crates", place, "specs", name) for place in crates]
                 files.update([place for place in places if place.exists()][:1])
         sections[title] = files

@@ -1,7 +1,7 @@
 #!/usr/bin/env python3
 """Draws the layers of crates: layers.py >layers.svg, from crates.txt.
 
-A row has crates of one subject. Crates of tests alone, and of lemmas and laws, have a box each, and those of commands a
+A row has crates of one subject. Those of tests, and of lemmas and laws in no row, have boxes, and those of commands a
 row, by what their names begin or end with. It is an error if another crate stands in no row, if one that is drawn is not in
 crates.txt, if a crate stands on one of a row above its own, or if one that is no test stands on a crate of tests."""
 
@@ -22,7 +22,7 @@ ROWS = [
     ("signatures", "#f4f5f7", ["mb_hss", "mb_signer", "mb_lms"]),
     ("fields and words", "#f4f5f7", ["mb_words", "mb_bytes"]),
     ("the world outside", "#f1e7f2", ["mb_files", "mb_host", "mb_board", "mb_ratchet"]),
-    ("definitions", "#f1e7f2", ["mb_model", "mb_format"]),
+    ("definitions", "#f1e7f2", ["mb_model_commands", "mb_model", "mb_format"]),
 ]
 LEMMAS, TESTS, LAWS = "mb_model_", "mb_test_", "_histories"
 
@@ -43,7 +43,8 @@ def beginning(start, listed):
 
 
 def lemmas_and_laws(listed):
-    return [name for name in listed if name.startswith(LEMMAS) or name.endswith(LAWS)]
+    in_rows = {name for _, _, names in ROWS for name in names}
+    return [name for name in listed if (name.startswith(LEMMAS) or name.endswith(LAWS)) and name not in in_rows]
 
 
 def rows_of(listed):

@@ -2,12 +2,13 @@
 -- status?
 use Rattle.std.specs.Prelude.{◌≡◌, ℕ, List, [], ◌++◌, codes, Option, None, Some, Result, Ok, Err}
 use Rattle.std.specs.Fmt.{decimal}
-use Rattle.mb_model.specs.declared.role.Role.{Role}
-use Rattle.mb_model.specs.declared.role.Place.{Place}
-use Rattle.mb_model.specs.Outside.{Outside, HoldsTooMuch, read_once, FailsToRead}
 use Rattle.mb_model.specs.Board.{Held, Used, not_used}
-use Rattle.mb_model.specs.Commands.{Input, Command, Past, Ended, SaysLine, HasRead, CommandEnds, at_first, input_line}
-use Rattle.mb_model.specs.Commands.{role_word, place_words}
+use Rattle.mb_model_commands.specs.declared.role.Role.{Role}
+use Rattle.mb_model_commands.specs.declared.role.Place.{Place}
+use Rattle.mb_model_commands.specs.Outside.{Outside, HoldsTooMuch, read_once, FailsToRead}
+use Rattle.mb_model_commands.specs.Commands.{Input, Command, Past, Ended, SaysLine, HasRead, CommandEnds, at_first}
+use Rattle.mb_model_commands.specs.Commands.{input_line}
+use Rattle.mb_model_commands.specs.Commands.{role_word, place_words}
 use Rattle.mb_console.specs.declared.end.End.{End}
 use Rattle.mb_console.specs.declared.end.End.TheVariants as end
 

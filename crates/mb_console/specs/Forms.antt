@@ -1,8 +1,8 @@
 -- An input in a form: its role, the name of its file, and what its bytes mean.
 use Rattle.std.specs.Prelude.{ℕ, List}
-use Rattle.mb_model.specs.declared.role.Role.{Role}
-use Rattle.mb_model.specs.declared.role.Place.{Place}
-use Rattle.mb_model.specs.Commands.{Input}
+use Rattle.mb_model_commands.specs.declared.role.Role.{Role}
+use Rattle.mb_model_commands.specs.declared.role.Place.{Place}
+use Rattle.mb_model_commands.specs.Commands.{Input}
 use Rattle.mb_console.specs.declared.input.Unread.{Unread}
 use Rattle.mb_console.specs.declared.input.Unread.TheVariants as unread
 

@@ -1,7 +1,7 @@
 -- The outputs of a command as the definitions of commands have them. Are they written one after another?
 use Rattle.std.specs.Prelude.{◌≡◌, ◌⊎◌, List, [], ◌∷◌}
-use Rattle.mb_model.specs.Outside.{Outside, WritesFile, FailsToWrite}
-use Rattle.mb_model.specs.Commands.{Output as Written, Command, write}
+use Rattle.mb_model_commands.specs.Outside.{Outside, WritesFile, FailsToWrite}
+use Rattle.mb_model_commands.specs.Commands.{Output as Written, Command, write}
 use Rattle.mb_console.specs.declared.end.End.{End}
 use Rattle.mb_console.specs.declared.end.End.TheVariants as end
 use Rattle.mb_console.specs.declared.output.Output.{Output}

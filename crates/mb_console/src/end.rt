@@ -2,12 +2,13 @@
 
 ghost use Rattle.std.specs.Prelude.{◌≡◌, ◌+◌, ◌≤◌, ◌++◌, length, decimal, codes, List, ℕ, vec_len, vec_capacity, ◌<◌, IfOk};
 ghost use Rattle.mb_model.specs.Texts.{line_with_lf};
-ghost use Rattle.mb_model.specs.Commands.{SaysLine, input_line, role_word, place_words};
+ghost use Rattle.mb_model_commands.specs.Commands.{SaysLine, input_line, role_word, place_words};
 ghost use Rattle.mb_console.specs.Ending.{after_space, end_line, end_status, RefusesWith};
 
 use arrayvec::ArrayString;
 use mb_host::Host;
-use mb_model::{NoMemory, Place, Role};
+use mb_model::NoMemory;
+use mb_model_commands::{Place, Role};
 use std::marker::Model;
 
 /// The most bytes of a short line, without its LF.

@@ -3,15 +3,16 @@
 ghost use Rattle.std.specs.Prelude.{◌≡◌, ◌≤◌, ℕ, List, length, IfOk, IfErr, OnOk};
 ghost use Rattle.mb_format.specs.Format.{IsBytes};
 ghost use Rattle.mb_model.specs.declared.limits.TheConstants.{FILE_LIMIT};
-ghost use Rattle.mb_model.specs.declared.role.Place.{Place as AtFault};
-ghost use Rattle.mb_model.specs.Outside.{read_once};
-ghost use Rattle.mb_model.specs.Commands.{HasRead};
+ghost use Rattle.mb_model_commands.specs.declared.role.Place.{Place as AtFault};
+ghost use Rattle.mb_model_commands.specs.Outside.{read_once};
+ghost use Rattle.mb_model_commands.specs.Commands.{HasRead};
 ghost use Rattle.mb_console.specs.Ending.{HasInput, StopsAt, ReadStops};
 ghost use Rattle.mb_console.specs.Forms.{input_of, IsUnread};
 
 use crate::end::End;
 use mb_host::{Host, HostEnd};
-use mb_model::{NoMemory, Place, Role};
+use mb_model::NoMemory;
+use mb_model_commands::{Place, Role};
 use std::alloc::Global;
 
 /// Why bytes were not read in a form.

@@ -1,14 +1,14 @@
 //! The outputs of a command, written one after another, and the text that is printed after them.
 
 ghost use Rattle.std.specs.Prelude.{◌≡◌, map, IfErr, OnOk};
-ghost use Rattle.mb_model.specs.Outside.{WritesFile, FailsToWrite};
-ghost use Rattle.mb_model.specs.Commands.{print};
+ghost use Rattle.mb_model_commands.specs.Outside.{WritesFile, FailsToWrite};
+ghost use Rattle.mb_model_commands.specs.Commands.{print};
 ghost use Rattle.mb_console.specs.Ending.{CarriesOutAfter};
 ghost use Rattle.mb_console.specs.Outputs.{output_of, writes, WritesAll, StopsWriting};
 
 use crate::end::End;
 use mb_host::Host;
-use mb_model::Role;
+use mb_model_commands::Role;
 
 /// An output: its role, the name of its file, and its bytes.
 #[derive(Clone, Copy)]

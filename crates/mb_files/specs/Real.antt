@@ -1,6 +1,6 @@
 -- A host with contents that no contract sees, and what is known of an opened source or sink.
 use Rattle.std.specs.Prelude.{ℕ, List, Option, None, Result, Ok, Err}
-use Rattle.mb_model.specs.Outside.{Outside}
+use Rattle.mb_model_commands.specs.Outside.{Outside}
 use Rattle.mb_files.specs.declared.whole.ReadCounts.{ReadCounts}
 use Rattle.mb_files.specs.declared.whole.WriteCounts.{WriteCounts}
 

@@ -5,7 +5,7 @@
 
 ghost use Rattle.std.specs.Prelude.{◌≡◌, ℕ, ◌<◌, ◌≤◌, List, Option, length, take, IfSome, MatchOption, MatchResult};
 ghost use Rattle.std.specs.Io.KnownBytes.{Appends, Consumes, IsAtEnd, Keeps};
-ghost use Rattle.mb_model.specs.Outside.{count_after_call as raised_count};
+ghost use Rattle.mb_model_commands.specs.Outside.{count_after_call as raised_count};
 
 use mb_host::raised;
 use std::io;

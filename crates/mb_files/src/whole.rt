@@ -4,7 +4,7 @@ ghost use Rattle.std.specs.Prelude.{◌≡◌, ◌≢◌, ℕ, ◌<◌, ◌≤�
 ghost use Rattle.std.specs.IoError.{error_kind};
 ghost use Rattle.std.specs.Io.KnownBytes.{Appends, Consumes, IsAtEnd};
 ghost use Rattle.mb_model.specs.declared.limits.TheConstants.{FILE_LIMIT};
-ghost use Rattle.mb_model.specs.Outside.{count_after_call as raised_count};
+ghost use Rattle.mb_model_commands.specs.Outside.{count_after_call as raised_count};
 ghost use Rattle.mb_files.specs.Real.{known};
 
 use crate::faults::{Faults, Sink, Source};

@@ -7,8 +7,8 @@ use Rattle.mb_model.specs.declared.key.PublicKey.{PublicKey}
 use Rattle.mb_model.specs.declared.memory.NoMemory.{NoMemory}
 use Rattle.mb_model.specs.Texts.{line_with_lf}
 use Rattle.mb_model.specs.Lines.{text_of}
-use Rattle.mb_model.specs.VerifyCommand.{chain_refusal_line}
 use Rattle.mb_model.specs.Acceptance.{ChainRefusal}
+use Rattle.mb_model_commands.specs.VerifyCommand.{chain_refusal_line}
 use Rattle.mb_bytes.specs.Puts.{Puts}
 use Rattle.mb_verifier.specs.Ends.{chain_refusal_of}
 use Rattle.mb_fleet.specs.declared.limits.TheConstants.{TEXT_LIMIT}

@@ -2,10 +2,10 @@
 use Rattle.std.specs.Prelude.{◌≡◌, ℕ, List}
 use Rattle.mb_format.specs.Format.{IsBytes}
 use Rattle.mb_model.specs.declared.key.PublicKey.{PublicKey}
-use Rattle.mb_model.specs.declared.role.Role.TheVariants as role
-use Rattle.mb_model.specs.declared.role.Place.TheVariants as fault
-use Rattle.mb_model.specs.Commands.{Input}
-use Rattle.mb_model.specs.Inputs.{IsClearInput, binary_input}
+use Rattle.mb_model_commands.specs.declared.role.Role.TheVariants as role
+use Rattle.mb_model_commands.specs.declared.role.Place.TheVariants as fault
+use Rattle.mb_model_commands.specs.Commands.{Input}
+use Rattle.mb_model_commands.specs.Inputs.{IsClearInput, binary_input}
 use Rattle.mb_fleet.specs.declared.row.Row.{Row}
 use Rattle.mb_fleet.specs.declared.item.Item.{Item}
 use Rattle.mb_fleet.specs.Rows.{AreOrdered}

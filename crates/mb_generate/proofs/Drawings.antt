@@ -8,9 +8,10 @@ use Rattle.std.specs.List.{AllZip, concat}
 use Rattle.std.specs.Int.{w32, to_be_bytes, div_ceil}
 use Rattle.rand_core.specs.Steps.{first_words}
 use Rattle.rand_chacha.specs.ChaCha.{ChaCha, next_word, of_seed}
-use Rattle.mb_model.specs.Workload.{generator_words, DrawnBytes, DrawnSized, DrawnCode, DrawnRound, RoundDraws, Draws}
 use Rattle.std.specs.Prelude.{All}
 use Rattle.std.proofs.lemmas.List.Elements.{All-nil, All-cons}
+use Rattle.mb_model_commands.specs.Workload.{generator_words, DrawnBytes, DrawnSized, DrawnCode, DrawnRound, RoundDraws}
+use Rattle.mb_model_commands.specs.Workload.{Draws}
 use Rattle.mb_generate.specs.Orders.{RoundFits, DrawsFit}
 use Rattle.mb_generate.specs.Drawing.{Gives, IsDrawn, DrawnEach, DrawnValues, DrawnRounds, AreDraws}
 

@@ -17,7 +17,7 @@ use Rattle.mb_model.specs.LayerFormat.{trust_format}
 use Rattle.mb_model.specs.EntryFormat.{key_kind_format}
 use Rattle.mb_model.specs.OrderFormat.{target_format, payload_format, body_format, sized_signature_format, countersignatures_format, order_format}
 use Rattle.mb_model.specs.Signing.{public_of}
-use Rattle.mb_model.specs.Workload.{Draws, Plan, plan_payload, key_of_officer}
+use Rattle.mb_model_commands.specs.Workload.{Draws, Plan, plan_payload, key_of_officer}
 use Rattle.mb_model_lemmas.proofs.SignatureLemmas.{public_sized, officer_key-sized}
 use Rattle.mb_generate.specs.Orders.{keyfile_after, targeted, CanBeOrdered}
 

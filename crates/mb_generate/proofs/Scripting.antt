@@ -16,8 +16,8 @@ use Rattle.mb_model.specs.Texts.{line_with_lf}
 use Rattle.mb_model.specs.Lines.{text_of}
 use Rattle.mb_model.specs.OrderLines.{order_line}
 use Rattle.mb_model.specs.Script.{with_before}
+use Rattle.mb_model_commands.specs.Workload.{RoundDraws, Draws, Plan, plan_payload, key_of_officer, first_plans, round_plan, plans, signed_plan, signed_orders, put_line, round_lines, workload_lines}
 use Rattle.mb_model_lemmas.proofs.DrawLemmas.{with_before-push, length-with_before}
-use Rattle.mb_model.specs.Workload.{RoundDraws, Draws, Plan, plan_payload, key_of_officer, first_plans, round_plan, plans, signed_plan, signed_orders, put_line, round_lines, workload_lines}
 use Rattle.mb_generate.specs.Orders.{keyfile_after, AreOfficers, targeted, RoundFits}
 use Rattle.mb_generate.specs.Drawing.{round_of}
 use Rattle.mb_generate.specs.declared.draws.RoundDrawn.{RoundDrawn}

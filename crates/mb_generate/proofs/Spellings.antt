@@ -26,7 +26,7 @@ use Rattle.mb_model.specs.EntryFormat.{key_kind_format}
 use Rattle.mb_model.specs.Rules.{kind_of}
 use Rattle.mb_model.specs.OrderFormat.{form_byte, form_of, differs_in, target_format, payload_format, act_by, body_format, order_body, sized_signature_format, Climb, countersignature_format, climb_after, countersignatures_format, order_format}
 use Rattle.mb_model.specs.Script.{with_before}
-use Rattle.mb_model.specs.Workload.{DrawnBytes, DrawnCode, DrawnValue, DrawnRound, RoundDraws, Draws, Plan, plan, plan_payload, key_of_officer, first_plans, round_plan, plans, unsigned_order, countersignature_by, signed_plan, signed_orders}
+use Rattle.mb_model_commands.specs.Workload.{DrawnBytes, DrawnCode, DrawnValue, DrawnRound, RoundDraws, Draws, Plan, plan, plan_payload, key_of_officer, first_plans, round_plan, plans, unsigned_order, countersignature_by, signed_plan, signed_orders}
 use Rattle.mb_generate.specs.Drawing.{AreDraws}
 use Rattle.mb_generate.proofs.Drawings.{each_drawn}
 

@@ -1,8 +1,8 @@
 -- How words are drawn one after another, and what all of them are drawn for. Is any word left out, or drawn twice?
 use Rattle.std.specs.Prelude.{◌≡◌, ℕ, List, [], ◌∷◌, length, map}
 use Rattle.std.specs.List.{AllZip, concat}
+use Rattle.mb_model_commands.specs.Workload.{generator_words, DrawnValue, RoundDraws, DrawnRound, Draws, DrawnInOrder}
 use Rattle.rand_chacha.specs.ChaCha.{ChaCha, next_word}
-use Rattle.mb_model.specs.Workload.{generator_words, DrawnValue, RoundDraws, DrawnRound, Draws, DrawnInOrder}
 use Rattle.mb_generate.specs.declared.draws.RoundDrawn.{RoundDrawn}
 use Rattle.mb_generate.specs.declared.draws.Drawn.{Drawn}
 

@@ -3,8 +3,8 @@ use Rattle.std.specs.Prelude.{◌≡◌, ℕ, ◌+◌, ◌-◌, List, [], ◌∷
 use Rattle.mb_model.specs.Lines.{text_of, spaced_words, hex_word}
 use Rattle.mb_model.specs.OrderLines.{order_line}
 use Rattle.mb_model.specs.Script.{with_before}
-use Rattle.mb_model.specs.Workload.{RoundDraws, Draws, Plan, first_plans, round_plan, signed_plan}
-use Rattle.mb_model.specs.Workload.{signed_orders, put_line, round_lines}
+use Rattle.mb_model_commands.specs.Workload.{RoundDraws, Draws, Plan, first_plans, round_plan, signed_plan}
+use Rattle.mb_model_commands.specs.Workload.{signed_orders, put_line, round_lines}
 use Rattle.mb_generate.specs.declared.officers.Officers.{Officers}
 use Rattle.mb_generate.specs.Orders.{AreOfficers}
 

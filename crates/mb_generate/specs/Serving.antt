@@ -1,10 +1,10 @@
 -- Whether a workload can be served. Can its script and its noise be refused?
 use Rattle.std.specs.Prelude.{◌*◌, ◌≤◌, List, length}
 use Rattle.mb_model.specs.declared.event.Event.{Event}
-use Rattle.mb_model.specs.declared.tools.Workload.{Workload}
 use Rattle.mb_model.specs.declared.limits.TheConstants.{FILE_LIMIT, DRAW_LENGTH}
 use Rattle.mb_model.specs.Lines.{ReadsLines}
 use Rattle.mb_model.specs.Script.{IsScript, commands_in}
+use Rattle.mb_model_commands.specs.declared.workload.Workload.{Workload}
 
 -- The script can be read, its noise has 32 bytes for each of its commands, and neither is longer than an input may be.
 pub record CanBeServed (made : Workload) : Type 0 where

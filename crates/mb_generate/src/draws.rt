@@ -2,7 +2,7 @@
 
 ghost use Rattle.std.specs.Prelude.{◌≡◌, ◌+◌, ◌*◌, ◌%◌, ◌≤◌, ◌++◌, length, map, replicate, IfOk};
 ghost use Rattle.std.specs.Int.{w32, to_be_bytes};
-ghost use Rattle.mb_model.specs.Workload.{DrawnBytes, DrawnCode, DrawnValue, DrawnRound};
+ghost use Rattle.mb_model_commands.specs.Workload.{DrawnBytes, DrawnCode, DrawnValue, DrawnRound};
 ghost use Rattle.mb_generate.specs.declared.limits.TheConstants.{ROUND_LIMIT};
 ghost use Rattle.mb_generate.specs.Drawing.{IsDrawn, DrawnValues, DrawnRounds, round_of, draws_of, AreDraws};
 

@@ -13,5 +13,5 @@ mod script;
 
 pub use limits::ROUND_LIMIT;
 pub use make::workload;
-pub use mb_model::Workload;
+pub use mb_model_commands::Workload;
 pub use numbers::numbers_are;

@@ -7,7 +7,7 @@ ghost use Rattle.mb_model.specs.declared.order.Act.TheVariants as act;
 ghost use Rattle.mb_model.specs.Layers.{is_upper};
 ghost use Rattle.mb_model.specs.OrderFormat.{order_format};
 ghost use Rattle.mb_model.specs.SignedOrders.{keyfile_after_use, signed_order, countersigned_order, IsCountersignable};
-ghost use Rattle.mb_model.specs.Workload.{plan, plan_payload, round_plan};
+ghost use Rattle.mb_model_commands.specs.Workload.{plan, plan_payload, round_plan};
 ghost use Rattle.mb_generate.specs.declared.limits.TheConstants.{ROUND_LIMIT};
 ghost use Rattle.mb_generate.specs.Orders.{HaveUsed, layers_above, targeted, CanBeOrdered, SignsPlan};
 ghost use Rattle.mb_lms.specs.declared.hash_count.TheConstants.{SIGNING_HASHES};

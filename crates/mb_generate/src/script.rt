@@ -11,7 +11,7 @@ ghost use Rattle.mb_model.specs.Lines.{text_of};
 ghost use Rattle.mb_model.specs.OrderFormat.{order_format};
 ghost use Rattle.mb_model.specs.OrderLines.{order_line};
 ghost use Rattle.mb_model.specs.SignedOrders.{keyfile_after_use, signed_order};
-ghost use Rattle.mb_model.specs.Workload.{first_plans, put_line, workload_lines};
+ghost use Rattle.mb_model_commands.specs.Workload.{first_plans, put_line, workload_lines};
 ghost use Rattle.mb_generate.specs.declared.limits.TheConstants.{ROUND_LIMIT};
 ghost use Rattle.mb_generate.specs.Drawing.{round_of, draws_of};
 ghost use Rattle.mb_generate.specs.Orders.{AreOfficers, HaveUsed, DrawsFit};

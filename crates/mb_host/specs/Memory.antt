@@ -3,7 +3,7 @@ use Rattle.std.specs.Prelude.{◌≡◌, ◌≢◌, ◌==◌, ℕ, Bool, List, [
 use Rattle.std.specs.List.{find, list_any}
 use Rattle.std.specs.Str.{bytes_eq}
 use Rattle.mb_model.specs.declared.items.File.{File}
-use Rattle.mb_model.specs.Outside.{Outside, count_after_call}
+use Rattle.mb_model_commands.specs.Outside.{Outside, count_after_call}
 
 -- what a host in memory holds; if two files have one name, the first counts
 pub record HostShown : Type 0 where

@@ -2,8 +2,8 @@
 
 ghost use Rattle.std.specs.Prelude.{◌≡◌, ◌≤◌, IfOk, OnOk, OnErr, IsErrOf, vec_len};
 ghost use Rattle.mb_model.specs.declared.limits.TheConstants.{FILE_LIMIT};
-ghost use Rattle.mb_model.specs.Outside.{Outside, HoldsFile, HoldsTooMuch, read_once, FailsToRead};
-ghost use Rattle.mb_model.specs.Outside.{WritesFile, FailsToWrite, Prints, FailsToPrint};
+ghost use Rattle.mb_model_commands.specs.Outside.{Outside, HoldsFile, HoldsTooMuch, read_once, FailsToRead};
+ghost use Rattle.mb_model_commands.specs.Outside.{WritesFile, FailsToWrite, Prints, FailsToPrint};
 
 use std::alloc::Global;
 

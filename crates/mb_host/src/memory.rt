@@ -3,8 +3,8 @@
 ghost use Rattle.std.specs.Prelude.{◌≡◌, ◌≤◌, Some, true, false, IfOk, OnOk, OnErr, IsErr, IsErrOf, vec_len, option_copied};
 ghost use Rattle.std.specs.List.{position};
 ghost use Rattle.mb_model.specs.declared.limits.TheConstants.{FILE_LIMIT};
-ghost use Rattle.mb_model.specs.Outside.{HoldsFile, HoldsTooMuch, read_once, FailsToRead};
-ghost use Rattle.mb_model.specs.Outside.{WritesFile, FailsToWrite, Prints, FailsToPrint, count_after_call as raised_count};
+ghost use Rattle.mb_model_commands.specs.Outside.{HoldsFile, HoldsTooMuch, read_once, FailsToRead};
+ghost use Rattle.mb_model_commands.specs.Outside.{WritesFile, FailsToWrite, Prints, FailsToPrint, count_after_call as raised_count};
 ghost use Rattle.mb_host.specs.Memory.{IsNumbered, Stores, content_of, host_of, is_named, next_fails, told};
 
 use crate::count::raised;

@@ -10,7 +10,7 @@ use Rattle.mb_model.specs.StoredLog.{entries_signed_for, outgoing_of, log_comple
 use Rattle.mb_model.specs.Flash.{HoldsPublic}
 use Rattle.mb_model.specs.Memory.{IsImage, IsBlank}
 use Rattle.mb_model.specs.Meaning.{Contents, state_of_contents, RootIn, HasMeaning, is_dead, is_live, StandsFor}
-use Rattle.mb_model.specs.GenerateCommand.{log_length}
+use Rattle.mb_model.specs.Meaning.{log_length}
 use Rattle.mb_model_lemmas.proofs.MeaningLemmas.{one_root_in, not_blank}
 use Rattle.mb_model_lemmas.proofs.FaultLemmas.{image_parts}
 use Rattle.mb_model_lemmas.proofs.PublicLemmas.{length-signed_for}

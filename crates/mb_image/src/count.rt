@@ -9,7 +9,7 @@ ghost use Rattle.mb_model.specs.declared.state.State.{State};
 ghost use Rattle.mb_model.specs.Memory.{IsImage};
 ghost use Rattle.mb_model.specs.Flash.{HoldsPublic};
 ghost use Rattle.mb_model.specs.Meaning.{StandsFor};
-ghost use Rattle.mb_model.specs.GenerateCommand.{log_length};
+ghost use Rattle.mb_model.specs.Meaning.{log_length};
 
 use crate::memory::{memories, root_of};
 use crate::segments::{header_in, text_count};

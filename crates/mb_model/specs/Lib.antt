@@ -4,19 +4,7 @@ pub mod Merkle
 pub mod Signing
 pub mod Pieces
 pub mod Texts
-pub mod Outside
 pub mod Board
-pub mod Commands
-pub mod Inputs
-pub mod Keygen
-pub mod Sign
-pub mod FactoryCommand
-pub mod MigrateCommand
-pub mod RunCommand
-pub mod VerifyCommand
-pub mod ChainCommands
-pub mod AuditCommand
-pub mod GenerateCommand
 pub mod Layers
 pub mod Rules
 pub mod Log
@@ -65,6 +53,6 @@ pub mod OrderLines
 pub mod Listing
 pub mod Attach
 pub mod Acceptance
-pub mod Workload
+pub mod DeviceChains
 pub mod SignedOrders
 pub mod NumberLaws

@@ -1,5 +1,5 @@
 -- Which state a device's memory means. What does a memory mean as it is, whatever work was interrupted?
-use Rattle.std.specs.Prelude.{◌≡◌, ℕ, List, [], ◌∷◌, ◌++◌, filter, Option, None, Some, if◌then◌else◌}
+use Rattle.std.specs.Prelude.{◌≡◌, ℕ, List, [], ◌∷◌, ◌++◌, length, filter, Option, None, Some, if◌then◌else◌}
 use Rattle.std.specs.List.{list_any}
 use Rattle.mb_model.specs.declared.entry.Entry.{Entry}
 use Rattle.mb_model.specs.declared.entry.SignedEntry.{SignedEntry}
@@ -140,3 +140,8 @@ pub record IsWellFormedBy (Form : FlashForm) (image : List ℕ) (state : Option 
 -- an image that a device can have, and the state that it means
 abbrev pub IsWellFormed : List ℕ → Option State → Type 0
 IsWellFormed image state = IsWellFormedBy HoldsPublic image state
+
+-- how many entries a device's log has; a dead device has no log
+abbrev pub log_length : Option State → ℕ
+log_length None = 0
+log_length (Some state) = length state.log

@@ -3,7 +3,6 @@
 ghost use Rattle.std.specs.Prelude.{◌≡◌, ◌≤◌, ◌<◌, ◌+◌, IfSome, IsNone};
 ghost use Rattle.mb_model.specs.declared.limits.TheConstants.{KEY_USES};
 
-use crate::bytes::Bytes;
 use crate::key::KeySeed;
 use crate::limits::KEY_USES;
 use std::marker::Model;
@@ -81,12 +80,4 @@ pub struct Keyfile {
 pub struct BadRecord {
     /// The offset, from 0, of the first field that is not in its form.
     pub at: u32,
-}
-
-/// A generated workload: the files of `run`.
-#[derive(Drop)]
-pub struct Workload {
-    pub image: Bytes,
-    pub script: Bytes,
-    pub noise: Bytes,
 }

@@ -21,7 +21,7 @@ use Rattle.mb_model.specs.Board.{Held}
 use Rattle.mb_model.specs.Meaning.{is_dead, is_live}
 use Rattle.mb_model.specs.Faults.{Fault, bad_length, bad_root, bad_public, bad_region_two, bad_region_three, bad_state, HasFault}
 use Rattle.mb_model.specs.Clean.{Clean}
-use Rattle.mb_model.specs.GenerateCommand.{log_length}
+use Rattle.mb_model.specs.Meaning.{log_length}
 use Rattle.mb_model.specs.Acknowledged.{Shows, power_is_on, device_was_tampered, nothing_was_left}
 use Rattle.mb_model.proofs.RecordFormatLaws.{region_exact}
 use Rattle.mb_model_lemmas.proofs.LineLemmas.{cons_same, cons_none}

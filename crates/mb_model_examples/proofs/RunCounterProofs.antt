@@ -30,11 +30,11 @@ use Rattle.mb_model.specs.Rules.{IsFirstFailing}
 use Rattle.mb_model.specs.OrderChecks.{view_of, TargetHoldsIn, IsCountersigned}
 use Rattle.mb_model.specs.OrderStep.{spells_none, fails_check, is_obeyed}
 use Rattle.mb_model.specs.Machine.{Phase, World, Told, off, dead, ratchet, boot_event, running_state_in, status_of, status_event, Step, machine_step, lacks_memory, loses_power}
-use Rattle.mb_model.specs.Inputs.{Image}
 use Rattle.mb_model.specs.Acknowledged.{LeavesMemory, LeavesCleanMemory, AreWiping}
 use Rattle.mb_model.specs.Board.{Held}
 use Rattle.mb_model.specs.Runs.{IsSignedAt, HasInCharge}
 use Rattle.mb_model.proofs.OrderFormatLaws.{order_exact}
+use Rattle.mb_model_commands.specs.Inputs.{Image}
 use Rattle.mb_model_lemmas.proofs.AliveLemmas.{alive_is_listed}
 use Rattle.mb_model_lemmas.proofs.FateLemmas.{pairs_head}
 use Rattle.mb_model_lemmas.proofs.LineLemmas.{cons_same, cons_none}

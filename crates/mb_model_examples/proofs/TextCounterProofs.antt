@@ -9,7 +9,6 @@ use Rattle.mb_model.specs.declared.event.Event.{Event}
 use Rattle.mb_model.specs.declared.event.Event.TheVariants as event
 use Rattle.mb_model.specs.declared.order.Order.{Order}
 use Rattle.mb_model.specs.declared.state.State.{State}
-use Rattle.mb_model.specs.declared.tools.Workload.{Workload}
 use Rattle.mb_model.specs.Memory.{IsImage, IsBlank, life_byte, selector_of}
 use Rattle.mb_model.specs.Pieces.{part}
 use Rattle.mb_model.specs.WrittenFlash.{written_flash}
@@ -18,7 +17,8 @@ use Rattle.mb_model.specs.ChainFormat.{statement_format}
 use Rattle.mb_model.specs.Lines.{ReadsLines, TextFailsAtLine}
 use Rattle.mb_model.specs.Script.{IsScript}
 use Rattle.mb_model.specs.OrderLines.{IsStatementLine}
-use Rattle.mb_model.specs.Workload.{DrawnBytes, workload_lines}
+use Rattle.mb_model_commands.specs.declared.workload.Workload.{Workload}
+use Rattle.mb_model_commands.specs.Workload.{DrawnBytes, workload_lines}
 use Rattle.mb_model_lemmas.proofs.DraftLemmas.{IsDraft-same, surrender_draft}
 use Rattle.mb_model_lemmas.proofs.EventLemmas.{IsScript-same}
 use Rattle.mb_model_lemmas.proofs.FaultLemmas.{image_parts}

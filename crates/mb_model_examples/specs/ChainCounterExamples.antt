@@ -15,7 +15,7 @@ use Rattle.mb_model.specs.ChainFormat.{statement_format, chain_format}
 use Rattle.mb_model.specs.SignedTexts.{entry_text}
 use Rattle.mb_model.specs.Acceptance.{AreGood, key_of, Accepts, bad_signature, bad_order, key_unknown, key_ended}
 use Rattle.mb_model.specs.Acceptance.{chain_acceptance, chain_rejection, IsVerdict, Honest}
-use Rattle.mb_model.specs.AuditCommand.{TellsOfDevice}
+use Rattle.mb_model.specs.DeviceChains.{TellsOfDevice}
 use Rattle.mb_model.specs.Runs.{StaysAccepted}
 use Rattle.mb_model_examples.specs.RuleExamples.{life}
 use Rattle.mb_model_examples.specs.Device.{signed_with}

@@ -1,17 +1,17 @@
 -- How commands do not end, and what hosts do not do; the checker refutes each line. Can a command end in any way?
 use Rattle.std.specs.Prelude.{◌≡◌, ℕ, ◌≤◌, List, [], ◌∷◌, length, get_or, Option, None, Some, true, codes}
-use Rattle.mb_model.specs.Commands.{Command, read, find, write, print, Output, Past, Ended, HasRead}
-use Rattle.mb_model.specs.Commands.{CommandEnds, HasInputsFor}
-use Rattle.mb_model.specs.Outside.{Outside, FailsToRead, FailsToPrint}
-use Rattle.mb_model.specs.Inputs.{code_input}
-use Rattle.mb_model.specs.Keygen.{KeygenNames, keygen}
-use Rattle.mb_model.specs.Sign.{SignNames, CountersignNames, sign, countersign}
-use Rattle.mb_model.specs.FactoryCommand.{FactoryNames, factory}
-use Rattle.mb_model.specs.RunCommand.{RunNames, run}
-use Rattle.mb_model.specs.VerifyCommand.{VerifyNames, verify}
-use Rattle.mb_model.specs.ChainCommands.{ChainNames, AttachNames, chain, attach}
-use Rattle.mb_model.specs.AuditCommand.{AuditNames, audit}
-use Rattle.mb_model.specs.GenerateCommand.{GenerateNames, generate}
+use Rattle.mb_model_commands.specs.Commands.{Command, read, find, write, print, Output, Past, Ended, HasRead}
+use Rattle.mb_model_commands.specs.Commands.{CommandEnds, HasInputsFor}
+use Rattle.mb_model_commands.specs.Outside.{Outside, FailsToRead, FailsToPrint}
+use Rattle.mb_model_commands.specs.Inputs.{code_input}
+use Rattle.mb_model_commands.specs.Keygen.{KeygenNames, keygen}
+use Rattle.mb_model_commands.specs.Sign.{SignNames, CountersignNames, sign, countersign}
+use Rattle.mb_model_commands.specs.FactoryCommand.{FactoryNames, factory}
+use Rattle.mb_model_commands.specs.RunCommand.{RunNames, run}
+use Rattle.mb_model_commands.specs.VerifyCommand.{VerifyNames, verify}
+use Rattle.mb_model_commands.specs.ChainCommands.{ChainNames, AttachNames, chain, attach}
+use Rattle.mb_model_commands.specs.AuditCommand.{AuditNames, audit}
+use Rattle.mb_model_commands.specs.GenerateCommand.{GenerateNames, generate}
 
 -- the command ends neither with status 1 nor with status 2, which says that the words are no command
 abbrev pub EndsOtherwise : Past → Ended → Command → Type 0

@@ -16,9 +16,9 @@ use Rattle.mb_model.specs.Board.{Held}
 use Rattle.mb_model.specs.Meaning.{HasMeaning, StandsFor, IsWellFormed}
 use Rattle.mb_model.specs.Faults.{Fault, bad_length, HasFault}
 use Rattle.mb_model.specs.Clean.{Clean}
-use Rattle.mb_model.specs.GenerateCommand.{ShowsLog}
 use Rattle.mb_model.specs.Flash.{sector}
 use Rattle.mb_model.specs.Acknowledged.{Shows, HoldsNoOther, HasToBeClean, AreWiping, MayAnswer}
+use Rattle.mb_model_commands.specs.GenerateCommand.{ShowsLog}
 
 -- ---- what a memory holds
 

@@ -28,8 +28,8 @@ use Rattle.mb_model.specs.Memory.{life_byte}
 use Rattle.mb_model.specs.Board.{Held, image_of}
 use Rattle.mb_model.specs.Runs.{BeginsWith, LogGoesOn, HasInCharge, SignsEntriesOnce, SignsStatementsOnce}
 use Rattle.mb_model.specs.Runs.{SignsAfterUses, HoldsLivingKeys}
-use Rattle.mb_model.specs.Inputs.{Image}
-use Rattle.mb_model.specs.RunCommand.{IsCleanImage, IsServed}
+use Rattle.mb_model_commands.specs.Inputs.{Image}
+use Rattle.mb_model_commands.specs.RunCommand.{IsCleanImage, IsServed}
 use Rattle.mb_model_examples.specs.RuleExamples.{officer, nobody, by_two, three_renewed, life}
 use Rattle.mb_model_examples.specs.Device.{signed_with, token, key_one}
 use Rattle.mb_model_examples.specs.Device.{with_secrets, with_keys, with_regions, after_uses}

@@ -1,7 +1,8 @@
 -- The generated workload at work; the checker computes each line. Does the workload come out as intended?
 use Rattle.std.specs.Prelude.{◌≡◌, ℕ, List, [], ◌∷◌, length, replicate, codes}
-use Rattle.mb_model.specs.Workload.{generator_words, RoundDraws, Draws, round_plan, plans, signatures_by, secret_name}
-use Rattle.mb_model.specs.Workload.{workload_lines}
+use Rattle.mb_model_commands.specs.Workload.{generator_words, RoundDraws, Draws, round_plan, plans, signatures_by}
+use Rattle.mb_model_commands.specs.Workload.{secret_name}
+use Rattle.mb_model_commands.specs.Workload.{workload_lines}
 
 -- what might be drawn for a round
 abbrev pub some_round : List ℕ → RoundDraws

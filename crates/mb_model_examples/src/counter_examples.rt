@@ -16,12 +16,12 @@ ghost use Rattle.mb_model.specs.declared.entry.Entry.{Entry};
 ghost use Rattle.mb_model.specs.declared.state.Codes.{Codes};
 ghost use Rattle.mb_model.specs.declared.stored.Root.{Root};
 ghost use Rattle.mb_model.specs.Board.{Memory};
-ghost use Rattle.mb_model.specs.Outside.{Outside};
-ghost use Rattle.mb_model.specs.Inputs.{Image};
-ghost use Rattle.mb_model.specs.Commands.{Past, Ended};
+ghost use Rattle.mb_model_commands.specs.Outside.{Outside};
+ghost use Rattle.mb_model_commands.specs.Inputs.{Image};
+ghost use Rattle.mb_model_commands.specs.Commands.{Past, Ended};
+ghost use Rattle.mb_model_commands.specs.declared.workload.Workload.{Workload};
 ghost use Rattle.mb_model_examples.specs.ChainCounterExamples.{ChainCounterExamples, VerdictCounterExamples, StatementCounterExamples, AuditCounterExamples, ForgedCounterExamples};
 ghost use Rattle.mb_model_examples.specs.CommandCounterExamples.{StatusCounterExamples, CommandCounterExamples, FileCounterExamples, HostCounterExamples};
-ghost use Rattle.mb_model.specs.declared.tools.Workload.{Workload};
 ghost use Rattle.mb_model_examples.specs.TextCounterExamples.{LineCounterExamples, ScriptCounterExamples, DraftCounterExamples, OrderLineCounterExamples, DrawCounterExamples, WorkloadCounterExamples, BirthCounterExamples};
 
 /// Memories and images.

@@ -5,9 +5,9 @@ use Rattle.mb_model.specs.declared.entry.SignedEntry.{SignedEntry}
 use Rattle.mb_model.specs.declared.state.State.{State}
 use Rattle.mb_model.specs.Acceptance.{IsBornOf, key_of}
 use Rattle.mb_model.specs.Attach.{bare_chain}
-use Rattle.mb_model.specs.ChainCommands.{IsChainOf}
-use Rattle.mb_model.specs.Commands.{CommandEnds}
+use Rattle.mb_model.specs.DeviceChains.{IsChainOf}
 use Rattle.mb_model.specs.Log.{entries_of}
+use Rattle.mb_model_commands.specs.Commands.{CommandEnds}
 use Rattle.mb_model_histories.specs.SightLaws.{ChainsTellOfTheLogAlone, ChainsTellOfTheWholeLog}
 
 chain_same : (a b : State) (chain : Chain) → a.log ≡ b.log → IsChainOf a chain → IsChainOf b chain

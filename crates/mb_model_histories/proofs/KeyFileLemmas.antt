@@ -6,18 +6,18 @@ use Rattle.std.proofs.lemmas.List.Kept.{AllPairs-cons}
 use Rattle.mb_format.specs.Format.{Spells, IsClearWhole}
 use Rattle.mb_format.proofs.Whole.{IsClearWhole-from_exact}
 use Rattle.mb_model.specs.declared.order.Order.{Order}
-use Rattle.mb_model.specs.declared.role.Role.{Role}
-use Rattle.mb_model.specs.declared.role.Role.TheVariants as role
 use Rattle.mb_model.specs.declared.tools.Keyfile.{Keyfile}
-use Rattle.mb_model.specs.Commands.{Input, Command, read, write, print, HasRead, Past, Ended, end_seen_from, SaysLine, Stops, InputEnds, input_is_too_long, input_is_faulty, input_is_not_read, memory_lacks, text_is_printed, text_is_not_printed, CommandEnds, at_first}
-use Rattle.mb_model.specs.Inputs.{key_input, draft_input, order_input}
 use Rattle.mb_model.specs.KeyFormat.{keyfile_format}
 use Rattle.mb_model.specs.OrderLines.{order_line}
-use Rattle.mb_model.specs.Outside.{Outside, read_once, FailsToRead, by_fault, by_absence}
-use Rattle.mb_model.specs.Sign.{CountersignNames, index_text, use_index, sign_by, sign_draft, sign, countersign_by, countersign_order, countersign}
 use Rattle.mb_model.specs.SignedOrders.{keyfile_after_use, signed_order, countersigned_order}
 use Rattle.mb_model.specs.Texts.{line_with_lf}
 use Rattle.mb_model.proofs.KeyFormatLaws.{keyfile_exact}
+use Rattle.mb_model_commands.specs.declared.role.Role.{Role}
+use Rattle.mb_model_commands.specs.declared.role.Role.TheVariants as role
+use Rattle.mb_model_commands.specs.Commands.{Input, Command, read, write, print, HasRead, Past, Ended, end_seen_from, SaysLine, Stops, InputEnds, input_is_too_long, input_is_faulty, input_is_not_read, memory_lacks, text_is_printed, text_is_not_printed, CommandEnds, at_first}
+use Rattle.mb_model_commands.specs.Inputs.{key_input, draft_input, order_input}
+use Rattle.mb_model_commands.specs.Outside.{Outside, read_once, FailsToRead, by_fault, by_absence}
+use Rattle.mb_model_commands.specs.Sign.{CountersignNames, index_text, use_index, sign_by, sign_draft, sign, countersign_by, countersign_order, countersign}
 use Rattle.mb_model_lemmas.proofs.FateLemmas.{pairs_head}
 use Rattle.mb_model_lemmas.proofs.Splits.{some_same}
 use Rattle.mb_model_histories.specs.KeyFileLaws.{Files, LeavesKey, nothing_is_written, key_is_not_written, index_is_used, SigningUsesUpItsIndex, CountersigningUsesUpItsIndex, KeyCommand, by_sign, by_countersign, key_name_of, out_name_of, EndsSo, KeyCall, NothingIsSignedWithoutAnIndex, CallsInTurn, indices_used, IndicesInTurnDiffer, OldKeysSignAgain}

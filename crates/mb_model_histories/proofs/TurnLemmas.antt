@@ -9,13 +9,13 @@ use Rattle.mb_model.specs.declared.event.Event.{Event}
 use Rattle.mb_model.specs.declared.state.State.{State}
 use Rattle.mb_model.specs.Board.{image_of, Held}
 use Rattle.mb_model.specs.Flash.{HoldsPublic}
-use Rattle.mb_model.specs.Inputs.{Image}
 use Rattle.mb_model.specs.Machine.{opening_world}
 use Rattle.mb_model.specs.Meaning.{IsWellFormed}
 use Rattle.mb_model.specs.Migration.{IsMigrated, from_present, from_before}
-use Rattle.mb_model.specs.RunCommand.{IsServed}
 use Rattle.mb_model.specs.Runs.{IsSoundWorld}
 use Rattle.mb_model.specs.WrittenImage.{written_image, FitsImage}
+use Rattle.mb_model_commands.specs.Inputs.{Image}
+use Rattle.mb_model_commands.specs.RunCommand.{IsServed}
 use Rattle.mb_model_lemmas.proofs.FaultLemmas.{well_formed_stands_for_one}
 use Rattle.mb_model_lemmas.proofs.HeldSegments.{segments_parts_fit}
 use Rattle.mb_model_lemmas.proofs.WrittenImages.{written_is_well_formed}

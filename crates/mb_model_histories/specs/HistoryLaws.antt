@@ -13,17 +13,17 @@ use Rattle.mb_model.specs.declared.state.State.{State}
 use Rattle.mb_model.specs.Acceptance.{IsBornOf}
 use Rattle.mb_model.specs.Board.{image_of, Held}
 use Rattle.mb_model.specs.Factory.{state_at_birth, IsFactoryImage}
-use Rattle.mb_model.specs.Inputs.{Image}
 use Rattle.mb_model.specs.Layers.{Runnable}
 use Rattle.mb_model.specs.Machine.{World, opening_world, Run}
 use Rattle.mb_model.specs.Meaning.{IsWellFormed}
 use Rattle.mb_model.specs.Migration.{IsMigrated}
 use Rattle.mb_model.specs.Regions.{region_of}
-use Rattle.mb_model.specs.RunCommand.{IsServed}
 use Rattle.mb_model.specs.Runs.{BeginsWith, IsSignedAt, SignsStatementsOnce, SignsAfterUses, StaysAccepted}
 use Rattle.mb_model.specs.Script.{IsScriptEvent}
 use Rattle.mb_model.specs.Signing.{public_of}
 use Rattle.mb_model.specs.Valid.{IsValidState, Valid}
+use Rattle.mb_model_commands.specs.Inputs.{Image}
+use Rattle.mb_model_commands.specs.RunCommand.{IsServed}
 use Rattle.mb_model_histories.specs.Histories.{History, all_answered, ComesAfter, IsJoined}
 
 -- ---- what holds over histories

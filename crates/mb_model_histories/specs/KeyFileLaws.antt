@@ -3,12 +3,12 @@ use Rattle.std.specs.Prelude.{◌≡◌, ◌≢◌, ◌<◌, ◌⊎◌, ◌==◌
 use Rattle.mb_format.specs.Format.{IsBytes, Spells}
 use Rattle.mb_model.specs.declared.order.Order.{Order}
 use Rattle.mb_model.specs.declared.tools.Keyfile.{Keyfile}
-use Rattle.mb_model.specs.Commands.{Ended, CommandEnds, at_first}
 use Rattle.mb_model.specs.KeyFormat.{keyfile_format}
 use Rattle.mb_model.specs.OrderLines.{order_line}
-use Rattle.mb_model.specs.Sign.{SignNames, CountersignNames, sign, countersign}
 use Rattle.mb_model.specs.SignedOrders.{keyfile_after_use, signed_order, countersigned_order}
 use Rattle.mb_model.specs.Texts.{line_with_lf}
+use Rattle.mb_model_commands.specs.Commands.{Ended, CommandEnds, at_first}
+use Rattle.mb_model_commands.specs.Sign.{SignNames, CountersignNames, sign, countersign}
 
 -- the files of a host by name, where it shows them
 abbrev pub Files : Type 0

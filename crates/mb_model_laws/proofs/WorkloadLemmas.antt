@@ -4,8 +4,8 @@ use Rattle.std.specs.Prelude.{flat_map}
 use Rattle.std.specs.List.{AllZip, concat}
 use Rattle.std.specs.Int.{w32, to_be_bytes}
 use Rattle.rand_core.specs.Steps.{first_words}
-use Rattle.mb_model.specs.Workload.{generator_words, DrawnBytes, DrawnSized, RoundDraws, DrawnRound, Draws, DrawnInOrder}
 use Rattle.mb_model.proofs.KeyLemmas.{same_parts}
+use Rattle.mb_model_commands.specs.Workload.{generator_words, DrawnBytes, DrawnSized, RoundDraws, DrawnRound, Draws, DrawnInOrder}
 use Rattle.mb_model_lemmas.proofs.LineLemmas.{cons_same}
 
 -- ---- the words of the generator

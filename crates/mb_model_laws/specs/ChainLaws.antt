@@ -11,7 +11,7 @@ use Rattle.mb_model.specs.Log.{entries_of, RuledLog}
 use Rattle.mb_model.specs.Lives.{lives_of}
 use Rattle.mb_model.specs.Valid.{EachFollows, IsValidState}
 use Rattle.mb_model.specs.Acceptance.{ChainRefusal, Accepts, IsRefused, Verdict, IsVerdict, Honest}
-use Rattle.mb_model.specs.AuditCommand.{IsAudited}
+use Rattle.mb_model.specs.DeviceChains.{IsAudited}
 
 -- bytes are never both accepted and refused
 abbrev pub NeverBoth : Type 0

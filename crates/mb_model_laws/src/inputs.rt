@@ -2,8 +2,8 @@
 
 ghost use Rattle.std.specs.Prelude.{ℕ, List};
 ghost use Rattle.mb_model.specs.declared.event.Event.{Event};
-ghost use Rattle.mb_model.specs.MigrateCommand.{old_image_input};
-ghost use Rattle.mb_model.specs.Inputs.{IsClearInput, key_noise_input, birth_noise_input, key_input, owner_input, code_input, draft_input, order_input, image_input, script_input, root_input, chain_input, chain_bytes_input, statement_input, draws_input};
+ghost use Rattle.mb_model_commands.specs.MigrateCommand.{old_image_input};
+ghost use Rattle.mb_model_commands.specs.Inputs.{IsClearInput, key_noise_input, birth_noise_input, key_input, owner_input, code_input, draft_input, order_input, image_input, script_input, root_input, chain_input, chain_bytes_input, statement_input, draws_input};
 
 /// No input of a command both has a value and is at fault.
 pub fn inputs_are_clear()

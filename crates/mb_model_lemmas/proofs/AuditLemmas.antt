@@ -13,7 +13,7 @@ use Rattle.mb_model.specs.Lives.{lives_of}
 use Rattle.mb_model.specs.ChainFormat.{chain_format}
 use Rattle.mb_model.specs.Valid.{IsValidState}
 use Rattle.mb_model.specs.Acceptance.{Verdict, IsVerdict, Accepts, Honest}
-use Rattle.mb_model.specs.AuditCommand.{own_lives, TellsOfDevice, IsAudited}
+use Rattle.mb_model.specs.DeviceChains.{own_lives, TellsOfDevice, IsAudited}
 use Rattle.mb_model.proofs.EntryFormatLaws.{chain_exact}
 use Rattle.mb_model_lemmas.proofs.ChainLemmas.{honest_is_front}
 use Rattle.mb_model_lemmas.proofs.LogLemmas.{length-entries_of}

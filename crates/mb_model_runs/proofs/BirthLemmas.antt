@@ -16,7 +16,7 @@ use Rattle.mb_model.specs.SignedTexts.{entry_text, IsSignedBy}
 use Rattle.mb_model.specs.Valid.{EachFollows, IsValidState}
 use Rattle.mb_model.specs.Attach.{bare_chain}
 use Rattle.mb_model.specs.Acceptance.{IsGood, AreGood, IsBornOf, KeyEntry, key_in, key_of, report_of, Accepts}
-use Rattle.mb_model.specs.ChainCommands.{IsChainOf}
+use Rattle.mb_model.specs.DeviceChains.{IsChainOf}
 use Rattle.mb_model_lemmas.specs.AliveLaws.{makes, IsUnmade}
 use Rattle.mb_model_lemmas.proofs.LogLemmas.{made-push, last_of-split}
 use Rattle.mb_model_lemmas.proofs.AliveLemmas.{later_is_unmade}

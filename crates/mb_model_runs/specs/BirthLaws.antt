@@ -11,7 +11,7 @@ use Rattle.mb_model.specs.ChainFormat.{chain_format}
 use Rattle.mb_model.specs.Valid.{IsValidState}
 use Rattle.mb_model.specs.Attach.{bare_chain}
 use Rattle.mb_model.specs.Acceptance.{IsBornOf, AreGood, report_of, Accepts}
-use Rattle.mb_model.specs.ChainCommands.{IsChainOf}
+use Rattle.mb_model.specs.DeviceChains.{IsChainOf}
 
 -- If the maker signed the birth, each entry of a valid state's log follows from those before it, as a verifier checks.
 abbrev pub LogsAreGood : Type 0

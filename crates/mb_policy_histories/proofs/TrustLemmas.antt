@@ -6,13 +6,13 @@ use Rattle.mb_model.specs.declared.entry.Entry.{Entry}
 use Rattle.mb_model.specs.declared.state.Configuration.{Configuration}
 use Rattle.mb_model.specs.declared.state.Report.{Report}
 use Rattle.mb_model.specs.Acceptance.{IsCurrent, IsVerdict, Verdict, chain_acceptance, chain_rejection}
-use Rattle.mb_model.specs.Commands.{Input, Command, read, find, print, refuse, HasRead, Past, Ended, end_seen_from, InputEnds, input_is_too_long, input_is_faulty, input_is_not_read, memory_lacks, text_is_printed, text_is_not_printed, CommandEnds, at_first}
-use Rattle.mb_model.specs.Inputs.{root_input, chain_bytes_input}
 use Rattle.mb_model.specs.Lives.{configuration}
 use Rattle.mb_model.specs.Log.{entries_of}
 use Rattle.mb_model.specs.Machine.{World}
-use Rattle.mb_model.specs.Outside.{read_once, Prints}
 use Rattle.mb_model.specs.Texts.{line_with_lf}
+use Rattle.mb_model_commands.specs.Commands.{Input, Command, read, find, print, refuse, HasRead, Past, Ended, end_seen_from, InputEnds, input_is_too_long, input_is_faulty, input_is_not_read, memory_lacks, text_is_printed, text_is_not_printed, CommandEnds, at_first}
+use Rattle.mb_model_commands.specs.Inputs.{root_input, chain_bytes_input}
+use Rattle.mb_model_commands.specs.Outside.{read_once, Prints}
 use Rattle.mb_model_histories.specs.AcceptanceLaws.{WasMade}
 use Rattle.mb_model_histories.specs.UseLaws.{ShowsStatement}
 use Rattle.mb_model_histories.proofs.AcceptanceLemmas.{accepted_statements_were_made, current_in}

@@ -12,7 +12,6 @@ use Rattle.mb_model.specs.declared.entry.Statement.{Statement}
 use Rattle.mb_model.specs.declared.state.Configuration.{Configuration}
 use Rattle.mb_model.specs.declared.state.Report.{Report}
 use Rattle.mb_model.specs.declared.state.State.{State}
-use Rattle.mb_model.specs.declared.role.Role.TheVariants as role
 use Rattle.mb_model.specs.Log.{entries_of, RuledLog}
 use Rattle.mb_model.specs.Lives.{lives_of}
 use Rattle.mb_model.specs.Valid.{IsValidState}
@@ -22,11 +21,14 @@ use Rattle.mb_model.specs.Texts.{line_with_lf}
 use Rattle.mb_model.specs.Lines.{text_of}
 use Rattle.mb_model.specs.Listing.{listing}
 use Rattle.mb_model.specs.Acceptance.{ChainRefusal, Accepts, IsRefused, chain_acceptance, chain_rejection, IsVerdict}
-use Rattle.mb_model.specs.Outside.{Outside}
-use Rattle.mb_model.specs.Commands.{print, refuse, at_first}
-use Rattle.mb_model.specs.ChainCommands.{ChainNames, AttachNames, entries_text, write_entries, IsChainOf, chain_of, attach_statement}
-use Rattle.mb_model.specs.VerifyCommand.{VerifyNames, chain_refusal_line, tell_verdict, verify_chain}
-use Rattle.mb_model.specs.AuditCommand.{AuditNames, own_lives, IsAudited, compare, audit_chain}
+use Rattle.mb_model.specs.DeviceChains.{IsChainOf}
+use Rattle.mb_model.specs.DeviceChains.{own_lives, IsAudited}
+use Rattle.mb_model_commands.specs.declared.role.Role.TheVariants as role
+use Rattle.mb_model_commands.specs.Outside.{Outside}
+use Rattle.mb_model_commands.specs.Commands.{print, refuse, at_first}
+use Rattle.mb_model_commands.specs.ChainCommands.{ChainNames, AttachNames, entries_text, write_entries, chain_of, attach_statement}
+use Rattle.mb_model_commands.specs.VerifyCommand.{VerifyNames, chain_refusal_line, tell_verdict, verify_chain}
+use Rattle.mb_model_commands.specs.AuditCommand.{AuditNames, compare, audit_chain}
 use Rattle.mb_model_lemmas.proofs.ValidStates.{valid_is_ruled}
 use Rattle.mb_model_lemmas.proofs.AuditLemmas.{audited}
 use Rattle.mb_model_runs.proofs.BirthLemmas.{chain_is_of}

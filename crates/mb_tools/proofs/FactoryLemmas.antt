@@ -3,14 +3,15 @@ use Rattle.std.proofs.Common.{◌≡◌, ℕ, List, [], ◌∷◌, codes, Result
 use Rattle.mb_model.specs.Board.{not_used}
 use Rattle.mb_model.specs.declared.key.PublicKey.{PublicKey}
 use Rattle.mb_model.specs.declared.tools.Keyfile.{Keyfile}
-use Rattle.mb_model.specs.declared.role.Role.TheVariants as role
 use Rattle.mb_model.specs.KeyFormat.{keyfile_format}
 use Rattle.mb_model.specs.SignedOrders.{keyfile_after_use}
 use Rattle.mb_model.specs.Factory.{IsFactoryImage}
-use Rattle.mb_model.specs.Outside.{Outside}
-use Rattle.mb_model.specs.Commands.{Output, print, at_first}
-use Rattle.mb_model.specs.Inputs.{code_input}
-use Rattle.mb_model.specs.FactoryCommand.{FactoryNames, serial_text, write_device, make_device, factory_with_owner}
+use Rattle.mb_model_commands.specs.declared.role.Role.TheVariants as role
+use Rattle.mb_model_commands.specs.Outside.{Outside}
+use Rattle.mb_model_commands.specs.Commands.{Output, print, at_first}
+use Rattle.mb_model_commands.specs.Inputs.{code_input}
+use Rattle.mb_model_commands.specs.FactoryCommand.{FactoryNames, serial_text, write_device, make_device}
+use Rattle.mb_model_commands.specs.FactoryCommand.{factory_with_owner}
 use Rattle.mb_officer.specs.declared.signing.SignEnd.{SignEnd}
 use Rattle.mb_officer.specs.declared.signing.SignEnd.TheVariants as sign
 use Rattle.mb_console.specs.declared.end.End.{End}

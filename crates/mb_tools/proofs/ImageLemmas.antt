@@ -3,10 +3,10 @@ use Rattle.std.proofs.Common.{◌≡◌, ℕ, List, Option, None, Some, refl, sy
 use Rattle.std.specs.Prelude.{IfSome}
 use Rattle.mb_model.specs.declared.state.State.{State}
 use Rattle.mb_model.specs.Meaning.{IsWellFormed}
-use Rattle.mb_model.specs.Outside.{Outside, read_once}
-use Rattle.mb_model.specs.Commands.{HasRead}
 use Rattle.mb_model.specs.Faults.{Fault, HasFault as IsAtFault}
-use Rattle.mb_model.specs.Inputs.{image_input}
+use Rattle.mb_model_commands.specs.Outside.{Outside, read_once}
+use Rattle.mb_model_commands.specs.Commands.{HasRead}
+use Rattle.mb_model_commands.specs.Inputs.{image_input}
 use Rattle.mb_model_memory.specs.Storable.{Storable}
 use Rattle.mb_model_memory.proofs.StorableMemories.{stands_storable}
 use Rattle.mb_console.specs.declared.end.End.{End}

@@ -2,14 +2,14 @@
 use Rattle.std.proofs.Common.{◌≡◌, ℕ, List, [], ◌∷◌, Result, subst}
 use Rattle.mb_model.specs.declared.key.PublicKey.{PublicKey}
 use Rattle.mb_model.specs.declared.tools.Keyfile.{Keyfile}
-use Rattle.mb_model.specs.declared.role.Role.TheVariants as role
 use Rattle.mb_model.specs.Key.{key_bytes}
 use Rattle.mb_model.specs.Born.{officer_key}
 use Rattle.mb_model.specs.Signing.{public_of}
 use Rattle.mb_model.specs.KeyFormat.{keyfile_format}
-use Rattle.mb_model.specs.Outside.{Outside}
-use Rattle.mb_model.specs.Commands.{Output, print, at_first}
-use Rattle.mb_model.specs.Keygen.{KeygenNames, new_key, owner_text, write_key}
+use Rattle.mb_model_commands.specs.declared.role.Role.TheVariants as role
+use Rattle.mb_model_commands.specs.Outside.{Outside}
+use Rattle.mb_model_commands.specs.Commands.{Output, print, at_first}
+use Rattle.mb_model_commands.specs.Keygen.{KeygenNames, new_key, owner_text, write_key}
 use Rattle.mb_console.specs.declared.end.End.{End}
 use Rattle.mb_console.specs.Ending.{CarriesOutAfter, CarriesOut}
 use Rattle.mb_console.specs.Outputs.{writes}

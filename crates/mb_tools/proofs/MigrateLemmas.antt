@@ -2,12 +2,13 @@
 use Rattle.std.proofs.Common.{◌≡◌, ℕ, List, [], ◌∷◌, Option, None, Some, Result, refl, sym, subst}
 use Rattle.std.specs.Prelude.{IfSome}
 use Rattle.mb_model.specs.Board.{not_used}
-use Rattle.mb_model.specs.declared.role.Role.TheVariants as role
-use Rattle.mb_model.specs.Outside.{Outside, read_once}
 use Rattle.mb_model.specs.Faults.{Fault}
 use Rattle.mb_model.specs.Migration.{CannotMigrate}
-use Rattle.mb_model.specs.Commands.{HasRead, print, at_first}
-use Rattle.mb_model.specs.MigrateCommand.{MigrateNames, old_image_input, migrated_text, write_migrated_image, migrate}
+use Rattle.mb_model_commands.specs.declared.role.Role.TheVariants as role
+use Rattle.mb_model_commands.specs.Outside.{Outside, read_once}
+use Rattle.mb_model_commands.specs.Commands.{HasRead, print, at_first}
+use Rattle.mb_model_commands.specs.MigrateCommand.{MigrateNames, old_image_input, migrated_text, write_migrated_image}
+use Rattle.mb_model_commands.specs.MigrateCommand.{migrate}
 use Rattle.mb_console.specs.declared.end.End.{End}
 use Rattle.mb_console.specs.Ending.{HasInput, StopsAt, CarriesOutAfter, CarriesOut}
 use Rattle.mb_tools.specs.Images.{TellsFault}

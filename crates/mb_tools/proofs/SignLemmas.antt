@@ -3,15 +3,15 @@ use Rattle.std.proofs.Common.{◌≡◌, ℕ, List, [], ◌∷◌, codes, Result
 use Rattle.mb_model.specs.Board.{not_used}
 use Rattle.mb_model.specs.declared.order.Order.{Order}
 use Rattle.mb_model.specs.declared.tools.Keyfile.{Keyfile}
-use Rattle.mb_model.specs.declared.role.Role.TheVariants as role
 use Rattle.mb_model.specs.KeyFormat.{keyfile_format}
 use Rattle.mb_model.specs.Texts.{line_with_lf}
 use Rattle.mb_model.specs.OrderLines.{order_line}
 use Rattle.mb_model.specs.SignedOrders.{keyfile_after_use, signed_order, countersigned_order, IsCountersignable}
-use Rattle.mb_model.specs.Outside.{Outside}
-use Rattle.mb_model.specs.Commands.{Output, print, at_first}
-use Rattle.mb_model.specs.Inputs.{draft_input, order_input}
-use Rattle.mb_model.specs.Sign.{SignNames, CountersignNames, index_text, use_index, sign_by, sign_draft, countersign_by, countersign_order}
+use Rattle.mb_model_commands.specs.declared.role.Role.TheVariants as role
+use Rattle.mb_model_commands.specs.Outside.{Outside}
+use Rattle.mb_model_commands.specs.Commands.{Output, print, at_first}
+use Rattle.mb_model_commands.specs.Inputs.{draft_input, order_input}
+use Rattle.mb_model_commands.specs.Sign.{SignNames, CountersignNames, index_text, use_index, sign_by, sign_draft, countersign_by, countersign_order}
 use Rattle.mb_officer.specs.declared.signing.SignEnd.{SignEnd}
 use Rattle.mb_officer.specs.declared.signing.SignEnd.TheVariants as sign
 use Rattle.mb_console.specs.declared.end.End.{End}

@@ -2,7 +2,7 @@
 -- its own number, and at its own place?
 use Rattle.std.specs.Prelude.{◌≡◌, Option, Some, None}
 use Rattle.mb_model.specs.Acceptance.{ChainRefusal}
-use Rattle.mb_model.specs.VerifyCommand.{chain_refusal_line}
+use Rattle.mb_model_commands.specs.VerifyCommand.{chain_refusal_line}
 use Rattle.mb_console.specs.declared.end.End.{End}
 use Rattle.mb_console.specs.declared.end.End.TheVariants as end
 use Rattle.mb_console.specs.Ending.{RefusesWith}

@@ -1,12 +1,12 @@
 -- The names of files and the numbers in the words of the tools, as the definitions of the commands have them.
 use Rattle.std.specs.Prelude.{List}
-use Rattle.mb_model.specs.Keygen.{KeygenNames as KeygenFiles}
-use Rattle.mb_model.specs.Sign.{SignNames as SignFiles, CountersignNames as CountersignFiles}
-use Rattle.mb_model.specs.FactoryCommand.{FactoryNames as FactoryFiles}
-use Rattle.mb_model.specs.MigrateCommand.{MigrateNames as MigrateFiles}
-use Rattle.mb_model.specs.VerifyCommand.{VerifyNames as VerifyFiles}
-use Rattle.mb_model.specs.AuditCommand.{AuditNames as AuditFiles}
-use Rattle.mb_model.specs.ChainCommands.{ChainNames as ChainFiles, AttachNames as AttachFiles}
+use Rattle.mb_model_commands.specs.Keygen.{KeygenNames as KeygenFiles}
+use Rattle.mb_model_commands.specs.Sign.{SignNames as SignFiles, CountersignNames as CountersignFiles}
+use Rattle.mb_model_commands.specs.FactoryCommand.{FactoryNames as FactoryFiles}
+use Rattle.mb_model_commands.specs.MigrateCommand.{MigrateNames as MigrateFiles}
+use Rattle.mb_model_commands.specs.VerifyCommand.{VerifyNames as VerifyFiles}
+use Rattle.mb_model_commands.specs.AuditCommand.{AuditNames as AuditFiles}
+use Rattle.mb_model_commands.specs.ChainCommands.{ChainNames as ChainFiles, AttachNames as AttachFiles}
 use Rattle.mb_tools.specs.declared.keygen.KeygenNames.{KeygenNames}
 use Rattle.mb_tools.specs.declared.sign.SignNames.{SignNames}
 use Rattle.mb_tools.specs.declared.sign.CountersignNames.{CountersignNames}

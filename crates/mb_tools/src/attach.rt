@@ -2,7 +2,7 @@
 
 ghost use Rattle.std.specs.Prelude.{◌≡◌, map};
 ghost use Rattle.mb_model.specs.ChainFormat.{statement_format, chain_format};
-ghost use Rattle.mb_model.specs.ChainCommands.{attach, attach_to, attach_statement};
+ghost use Rattle.mb_model_commands.specs.ChainCommands.{attach, attach_to, attach_statement};
 ghost use Rattle.mb_tools.specs.Names.{attach_files, attach_given};
 ghost use Rattle.mb_console.specs.Words.{given_argument};
 ghost use Rattle.mb_console.specs.Ending.{CarriesOut};
@@ -12,7 +12,8 @@ use crate::input::chains::{ChainForm, StatementLine};
 use mb_cert::attach as attached;
 use mb_console::{Arguments, End, file, read_as, refused};
 use mb_host::Host;
-use mb_model::{Chain, Role, Statement};
+use mb_model::{Chain, Statement};
+use mb_model_commands::Role;
 use std::alloc::Global;
 
 /// The names of the files of `attach`.

@@ -3,7 +3,7 @@
 ghost use Rattle.std.specs.Prelude.{◌+◌, ◌≤◌, ◌≡◌, Some, IfOk, string_bytes, map};
 ghost use Rattle.mb_model.specs.Valid.{Valid, IsValidState};
 ghost use Rattle.mb_model.specs.ChainFormat.{chain_format};
-ghost use Rattle.mb_model.specs.ChainCommands.{chain, chain_of, write_entries, entries_text};
+ghost use Rattle.mb_model_commands.specs.ChainCommands.{chain, chain_of, write_entries, entries_text};
 ghost use Rattle.mb_model_memory.specs.Storable.{Storable, IsStorableState};
 ghost use Rattle.mb_tools.specs.Names.{chain_files, chain_given};
 ghost use Rattle.mb_console.specs.Words.{given_argument};
@@ -15,7 +15,8 @@ use mb_cert::write_chain;
 use mb_console::{Arguments, End, Output, file, finish, refused};
 use mb_host::Host;
 use mb_lms::HashCount;
-use mb_model::{Chain, NoMemory, Role, State};
+use mb_model::{Chain, NoMemory, State};
+use mb_model_commands::Role;
 use std::alloc::Global;
 use std::sync::ledger::Ledger;
 

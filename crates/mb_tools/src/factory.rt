@@ -3,7 +3,7 @@
 ghost use Rattle.std.specs.Prelude.{◌+◌, ◌≤◌, ◌≡◌, IfOk, string_bytes, map};
 ghost use Rattle.mb_model.specs.declared.tools.Keyfile.{Keyfile};
 ghost use Rattle.mb_model.specs.SignedOrders.{keyfile_after_use};
-ghost use Rattle.mb_model.specs.FactoryCommand.{factory, factory_with_noise, factory_with_key, factory_with_owner, write_device, serial_text};
+ghost use Rattle.mb_model_commands.specs.FactoryCommand.{factory, factory_with_noise, factory_with_key, factory_with_owner, write_device, serial_text};
 ghost use Rattle.mb_tools.specs.Names.{factory_files, factory_given};
 ghost use Rattle.mb_console.specs.Words.{given_argument};
 ghost use Rattle.mb_console.specs.Ending.{CarriesOut};
@@ -15,7 +15,8 @@ use crate::sign::end_of;
 use mb_console::{Arguments, End, Output, file, finish, read_as};
 use mb_host::Host;
 use mb_lms::HashCount;
-use mb_model::{Keyfile, NoMemory, PublicKey, Role};
+use mb_model::{Keyfile, NoMemory, PublicKey};
+use mb_model_commands::Role;
 use mb_officer::{factory as make_image, write_keyfile};
 use std::alloc::Global;
 use std::sync::ledger::Ledger;

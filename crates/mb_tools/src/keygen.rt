@@ -3,7 +3,7 @@
 ghost use Rattle.std.specs.Prelude.{◌+◌, ◌≤◌, ◌≡◌, IfOk, string_bytes, map};
 ghost use Rattle.mb_model.specs.Key.{key_bytes};
 ghost use Rattle.mb_model.specs.Signing.{public_of};
-ghost use Rattle.mb_model.specs.Keygen.{keygen, owner_text, write_key};
+ghost use Rattle.mb_model_commands.specs.Keygen.{keygen, owner_text, write_key};
 ghost use Rattle.mb_tools.specs.Names.{keygen_files, keygen_given};
 ghost use Rattle.mb_console.specs.Words.{given_argument};
 ghost use Rattle.mb_console.specs.Ending.{CarriesOut};
@@ -13,7 +13,8 @@ use crate::input::keys::Leading;
 use mb_console::{Arguments, End, Output, file, finish, read_as};
 use mb_host::Host;
 use mb_lms::{HashCount, key_bytes, key_hash};
-use mb_model::{DRAW_LENGTH, Keyfile, NoMemory, PublicKey, Role};
+use mb_model::{DRAW_LENGTH, Keyfile, NoMemory, PublicKey};
+use mb_model_commands::Role;
 use mb_officer::{make_key, write_keyfile};
 use mb_signer::public;
 use std::alloc::Global;

@@ -1,7 +1,7 @@
 //! The command `migrate`.
 
 ghost use Rattle.std.specs.Prelude.{◌+◌, ◌≤◌, ◌*◌, ◌≡◌, IfOk, string_bytes, map};
-ghost use Rattle.mb_model.specs.MigrateCommand.{migrate, write_migrated_image, migrated_text};
+ghost use Rattle.mb_model_commands.specs.MigrateCommand.{migrate, write_migrated_image, migrated_text};
 ghost use Rattle.mb_tools.specs.Names.{migrate_files, migrate_given};
 ghost use Rattle.mb_console.specs.Words.{given_argument};
 ghost use Rattle.mb_console.specs.Ending.{CarriesOut};
@@ -11,7 +11,8 @@ use crate::input::devices::read_old_image;
 use mb_console::{Arguments, End, Output, file, finish};
 use mb_host::Host;
 use mb_lms::HashCount;
-use mb_model::{NoMemory, Role};
+use mb_model::NoMemory;
+use mb_model_commands::Role;
 use sha2::{Digest, Sha256};
 use std::alloc::Global;
 use std::sync::ledger::Ledger;

@@ -5,7 +5,7 @@ ghost use Rattle.mb_model.specs.declared.tools.Keyfile.{Keyfile};
 ghost use Rattle.mb_model.specs.Layers.{is_upper};
 ghost use Rattle.mb_model.specs.OrderFormat.{order_format};
 ghost use Rattle.mb_model.specs.SignedOrders.{keyfile_after_use};
-ghost use Rattle.mb_model.specs.Sign.{sign, sign_draft, countersign, countersign_order, use_index, index_text};
+ghost use Rattle.mb_model_commands.specs.Sign.{sign, sign_draft, countersign, countersign_order, use_index, index_text};
 ghost use Rattle.mb_tools.specs.Names.{sign_files, sign_given, countersign_files, countersign_given};
 ghost use Rattle.mb_console.specs.Words.{given_argument};
 ghost use Rattle.mb_console.specs.Ending.{CarriesOut};
@@ -17,7 +17,8 @@ use crate::input::orders::{DraftForm, OrderLine};
 use mb_console::{Arguments, End, Output, file, finish, number, read_as, refused};
 use mb_host::Host;
 use mb_lms::HashCount;
-use mb_model::{Keyfile, NoMemory, Order, Role};
+use mb_model::{Keyfile, NoMemory, Order};
+use mb_model_commands::Role;
 use mb_officer::{
     SignEnd, countersign as add_countersignature, sign_order, write_keyfile, write_order_line,
 };

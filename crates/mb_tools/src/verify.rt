@@ -2,7 +2,7 @@
 
 ghost use Rattle.std.specs.Prelude.{◌≡◌, map};
 ghost use Rattle.mb_model.specs.Acceptance.{chain_acceptance};
-ghost use Rattle.mb_model.specs.VerifyCommand.{verify, verify_under, tell_verdict};
+ghost use Rattle.mb_model_commands.specs.VerifyCommand.{verify, verify_under, tell_verdict};
 ghost use Rattle.mb_verifier.specs.Ends.{chain_refusal_of};
 ghost use Rattle.mb_tools.specs.Names.{verify_files, verify_given};
 ghost use Rattle.mb_console.specs.Words.{given_argument};
@@ -13,7 +13,8 @@ use crate::input::chains::AnyBytes;
 use crate::input::keys::PublicKeyForm;
 use mb_console::{Arguments, End, file, finish, number, read_as, refused_by_number};
 use mb_host::Host;
-use mb_model::{PublicKey, Role};
+use mb_model::PublicKey;
+use mb_model_commands::Role;
 use mb_verifier::{ChainRefusal, Report, verify as judge, write_listing};
 use std::alloc::Global;
 

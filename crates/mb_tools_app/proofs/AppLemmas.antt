@@ -12,8 +12,8 @@ use Rattle.mb_model.specs.LayerFormat.{layer_format}
 use Rattle.mb_model.specs.PublicRecord.{code_format, codes_format}
 use Rattle.mb_model.specs.Valid.{IsValidState, IsNamed}
 use Rattle.mb_model.specs.Texts.{line_with_lf}
-use Rattle.mb_model.specs.Outside.{Outside}
-use Rattle.mb_model.specs.Commands.{CommandEnds, print, refuse, at_first}
+use Rattle.mb_model_commands.specs.Outside.{Outside}
+use Rattle.mb_model_commands.specs.Commands.{CommandEnds, print, refuse, at_first}
 use Rattle.mb_model_lemmas.proofs.RegionLemmas.{at_upper}
 use Rattle.mb_model_lemmas.proofs.RuleLemmas.{layer_with, to_each}
 use Rattle.mb_model_memory.specs.Storable.{IsStorableState}

@@ -6,8 +6,8 @@ use Rattle.mb_model.specs.declared.state.State.{State}
 use Rattle.mb_model.specs.Texts.{line_with_lf}
 use Rattle.mb_model.specs.Lines.{spaced_words, hex_word}
 use Rattle.mb_model.specs.Layers.{Runnable}
-use Rattle.mb_model.specs.Commands.{Command, read, find, either_command, print, refuse}
-use Rattle.mb_model.specs.Inputs.{image_input}
+use Rattle.mb_model_commands.specs.Commands.{Command, read, find, either_command, print, refuse}
+use Rattle.mb_model_commands.specs.Inputs.{image_input}
 use Rattle.mb_appvm.specs.declared.running.AppEnd.{AppEnd}
 use Rattle.mb_appvm.specs.declared.running.AppEnd.TheVariants as end
 use Rattle.mb_appvm.specs.Application.{trap_number}

@@ -2,10 +2,10 @@
 -- is listed. Is each input read in one way only?
 use Rattle.std.specs.Prelude.{◌≡◌, ℕ, ◌<◌, ◌≤◌, ◌⊎◌, List, length, All}
 use Rattle.mb_model.specs.declared.limits.TheConstants.{CODE_LIMIT}
-use Rattle.mb_model.specs.declared.role.Role.TheVariants as role
-use Rattle.mb_model.specs.declared.role.Place.{Place}
-use Rattle.mb_model.specs.declared.role.Place.TheVariants as fault
-use Rattle.mb_model.specs.Commands.{Input}
+use Rattle.mb_model_commands.specs.declared.role.Role.TheVariants as role
+use Rattle.mb_model_commands.specs.declared.role.Place.{Place}
+use Rattle.mb_model_commands.specs.declared.role.Place.TheVariants as fault
+use Rattle.mb_model_commands.specs.Commands.{Input}
 use Rattle.mb_appvm.specs.declared.instruction.Instruction.{Instruction}
 use Rattle.mb_appvm.specs.Instructions.{instruction_format}
 use Rattle.mb_appvm.specs.Assembly.{Assembles, AssemblyFailsAt}

@@ -2,7 +2,7 @@
 use Rattle.std.specs.Prelude.{◌≡◌, ℕ, ◌≤◌, ◌⊎◌, List, ◌++◌, Some}
 use Rattle.mb_format.specs.Format.{IsBytes}
 use Rattle.mb_model.specs.declared.state.State.{State}
-use Rattle.mb_model.specs.Commands.{Past, Ended, CommandEnds, IsFaultless}
+use Rattle.mb_model_commands.specs.Commands.{Past, Ended, CommandEnds, IsFaultless}
 use Rattle.mb_tools_app.specs.AppCommand.{AppNames, code_of_layer, run_stored_code}
 
 -- Two devices agree on what a layer sees: the layers, the layer's code, and the secrets of each region not below it.

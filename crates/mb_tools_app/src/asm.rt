@@ -10,7 +10,7 @@ use crate::input::assembly::AssemblyForm;
 use crate::output::write_counted;
 use mb_console::{Arguments, End, file, read_as};
 use mb_host::Host;
-use mb_model::Role;
+use mb_model_commands::Role;
 use std::alloc::Global;
 
 /// The names of the files of `asm`.

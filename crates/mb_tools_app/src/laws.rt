@@ -1,7 +1,7 @@
 //! Laws of the definitions, as the contracts of functions that do nothing.
 
 ghost use Rattle.std.specs.Prelude.{ℕ, List};
-ghost use Rattle.mb_model.specs.Inputs.{IsClearInput};
+ghost use Rattle.mb_model_commands.specs.Inputs.{IsClearInput};
 ghost use Rattle.mb_tools_app.specs.AppInputs.{app_input, assembly_input, listing_input};
 ghost use Rattle.mb_tools_app.specs.Seeing.{AppSeesNothingElse};
 

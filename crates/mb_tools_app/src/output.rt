@@ -7,7 +7,8 @@ ghost use Rattle.mb_tools_app.specs.AssemblyCommands.{line_of_count, write_count
 
 use mb_console::{End, Output, finish};
 use mb_host::Host;
-use mb_model::{NoMemory, Role};
+use mb_model::NoMemory;
+use mb_model_commands::Role;
 use std::alloc::Global;
 
 /// Writes the bytes, and prints a count after a word.

@@ -3,12 +3,12 @@ use Rattle.std.proofs.Common.{◌≡◌, ℕ, List, length, length-append, Optio
 use Rattle.mb_model.specs.declared.event.Event.{Event}
 use Rattle.mb_model.specs.declared.event.Answered.{Answered}
 use Rattle.mb_model.specs.declared.state.State.{State}
-use Rattle.mb_model.specs.Outside.{Outside}
 use Rattle.mb_model.specs.Board.{Held, Used, not_used, loaded_once_more, having_answered}
 use Rattle.mb_model.specs.Meaning.{IsWellFormed}
-use Rattle.mb_model.specs.RunCommand.{IsServed}
-use Rattle.mb_model.specs.Inputs.{Image}
-use Rattle.mb_model.specs.Commands.{Command, Past, at_first, load, rehearse, serve, lack}
+use Rattle.mb_model_commands.specs.Outside.{Outside}
+use Rattle.mb_model_commands.specs.RunCommand.{IsServed}
+use Rattle.mb_model_commands.specs.Inputs.{Image}
+use Rattle.mb_model_commands.specs.Commands.{Command, Past, at_first, load, rehearse, serve, lack}
 use Rattle.mb_console.specs.declared.end.End.{End}
 use Rattle.mb_console.specs.declared.end.End.TheVariants as end
 use Rattle.mb_console.specs.Ending.{CarriesOutRest}

@@ -5,20 +5,20 @@ use Rattle.std.specs.Prelude.{Any}
 use Rattle.mb_model.specs.declared.event.Event.{Event}
 use Rattle.mb_model.specs.declared.reply.Reply.TheVariants as reply
 use Rattle.mb_model.specs.declared.state.State.{State}
-use Rattle.mb_model.specs.declared.tools.Workload.{Workload}
 use Rattle.mb_model.specs.Born.{officer_key}
 use Rattle.mb_model.specs.Signing.{public_of}
 use Rattle.mb_model.specs.Factory.{state_at_birth}
-use Rattle.mb_model.specs.Workload.{key_of_officer, IsWorkload}
 use Rattle.mb_model.specs.Meaning.{IsWellFormed}
 use Rattle.mb_model.specs.Lines.{ReadsLines, TextFailsAtLine, text_of}
 use Rattle.mb_model.specs.Script.{IsScript, IsShortNoise, commands_in}
 use Rattle.mb_model.specs.Listing.{summary}
-use Rattle.mb_model.specs.Outside.{Outside}
 use Rattle.mb_model.specs.Board.{Held, Used, image_of, not_used, loaded_once_more, having_answered}
-use Rattle.mb_model.specs.Commands.{Command, Past, serve, print, lack, at_first}
-use Rattle.mb_model.specs.RunCommand.{IsServed}
-use Rattle.mb_model.specs.GenerateCommand.{GenerateNames, Prepared, IsPrepared, ShowsLog, prepared_image, summarise, serve_workload, generate}
+use Rattle.mb_model_commands.specs.declared.workload.Workload.{Workload}
+use Rattle.mb_model_commands.specs.Workload.{key_of_officer, IsWorkload}
+use Rattle.mb_model_commands.specs.Outside.{Outside}
+use Rattle.mb_model_commands.specs.Commands.{Command, Past, serve, print, lack, at_first}
+use Rattle.mb_model_commands.specs.RunCommand.{IsServed}
+use Rattle.mb_model_commands.specs.GenerateCommand.{GenerateNames, Prepared, IsPrepared, ShowsLog, prepared_image, summarise, serve_workload, generate}
 use Rattle.mb_model_lemmas.proofs.EventLemmas.{IsScript-same}
 use Rattle.mb_model_lemmas.proofs.LineLemmas.{HasLines-same, FailsAtLine-none}
 use Rattle.mb_model_lemmas.proofs.FactoryLemmas.{factory_is_well_formed}

@@ -9,7 +9,7 @@ use Rattle.mb_model.specs.declared.event.Event.{Event}
 use Rattle.mb_model.specs.declared.event.Event.TheVariants as event
 use Rattle.mb_model.specs.Lines.{IsBeginning, FailsAtLine, ends_early, ReadsLines, TextFailsAtLine}
 use Rattle.mb_model.specs.Script.{SaysEvent, is_skipped, IsScript}
-use Rattle.mb_model.specs.Inputs.{IsClearInput}
+use Rattle.mb_model_commands.specs.Inputs.{IsClearInput}
 use Rattle.mb_model_lemmas.proofs.LineLemmas.{HasLines-same, FailsAtLine-none, bad_after}
 use Rattle.mb_model_lemmas.proofs.EventLemmas.{SaysEvent-same, IsScript-same, counts}
 use Rattle.mb_script.specs.Reading.{IsLineOf, says, past}

@@ -5,9 +5,7 @@ use Rattle.std.proofs.lemmas.List.{length-map}
 use Rattle.std.proofs.lemmas.List.Elements.{All-nil, All-cons, All-head, All-tail}
 use Rattle.mb_model.specs.declared.event.Event.{Event}
 use Rattle.mb_model.specs.declared.event.Answered.{Answered}
-use Rattle.mb_model.specs.declared.role.Role.TheVariants as role
 use Rattle.mb_model.specs.declared.state.State.{State}
-use Rattle.mb_model.specs.Outside.{Outside}
 use Rattle.mb_model.specs.Machine.{World, opening_world, off}
 use Rattle.mb_model.specs.Meaning.{StandsFor, IsWellFormed}
 use Rattle.mb_model.specs.Script.{IsScriptEvent}
@@ -15,9 +13,11 @@ use Rattle.mb_model.specs.Board.{Memory, Ledger, Meter, Held, Used, IsLoaded, im
 use Rattle.mb_model.specs.Acknowledged.{Shows}
 use Rattle.mb_model.specs.Clean.{Clean}
 use Rattle.mb_model.specs.Replies.{replies_text}
-use Rattle.mb_model.specs.RunCommand.{RunNames, IsServed, write_image, serve_events}
-use Rattle.mb_model.specs.Inputs.{Image}
-use Rattle.mb_model.specs.Commands.{print, serve, at_first}
+use Rattle.mb_model_commands.specs.declared.role.Role.TheVariants as role
+use Rattle.mb_model_commands.specs.Outside.{Outside}
+use Rattle.mb_model_commands.specs.RunCommand.{RunNames, IsServed, write_image, serve_events}
+use Rattle.mb_model_commands.specs.Inputs.{Image}
+use Rattle.mb_model_commands.specs.Commands.{print, serve, at_first}
 use Rattle.mb_board.specs.Calls.{Seen, IsBetweenEvents, held_by}
 use Rattle.mb_device.specs.Served.{IsServedFrom}
 use Rattle.mb_model_lemmas.proofs.FaultLemmas.{image_parts}

@@ -7,8 +7,6 @@ use Rattle.mb_model.specs.declared.event.Tear.{Tear}
 use Rattle.mb_model.specs.declared.event.Answered.{Answered}
 use Rattle.mb_model.specs.declared.limits.TheConstants.{EVENT_LIMIT}
 use Rattle.mb_model.specs.declared.reply.Reply.TheVariants as reply
-use Rattle.mb_model.specs.declared.role.Role.TheVariants as role
-use Rattle.mb_model.specs.declared.role.Place.TheVariants as fault
 use Rattle.mb_model.specs.declared.state.State.{State}
 use Rattle.mb_model.specs.Texts.{IsHex, line_with_lf}
 use Rattle.mb_model.specs.Lines.{ReadsLines, TextFailsAtLine}
@@ -16,9 +14,12 @@ use Rattle.mb_model.specs.Script.{IsScript, tear_of}
 use Rattle.mb_model.specs.Machine.{World}
 use Rattle.mb_model.specs.Board.{Held}
 use Rattle.mb_model.specs.Acknowledged.{Shows}
-use Rattle.mb_model.specs.Inputs.{Image, image_input, draws_input}
-use Rattle.mb_model.specs.Commands.{Input, Command, read, find, either_command, load, rehearse, serve, print, lack}
-use Rattle.mb_model.specs.RunCommand.{IsServed}
+use Rattle.mb_model_commands.specs.declared.role.Role.TheVariants as role
+use Rattle.mb_model_commands.specs.declared.role.Place.TheVariants as fault
+use Rattle.mb_model_commands.specs.Inputs.{Image, image_input, draws_input}
+use Rattle.mb_model_commands.specs.Commands.{Input, Command, read, find, either_command, load, rehearse, serve, print}
+use Rattle.mb_model_commands.specs.Commands.{lack}
+use Rattle.mb_model_commands.specs.RunCommand.{IsServed}
 use Rattle.mb_tools_device.specs.MachineRuns.{MachineComesTo, is_cut}
 
 -- the names of the files, the number of the write that is cut, and the word of the bytes that fill its range

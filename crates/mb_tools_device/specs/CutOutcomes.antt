@@ -3,7 +3,7 @@ use Rattle.std.specs.Prelude.{◌⊎◌, List, ◌∷◌, ◌++◌, [], ℕ, All
 use Rattle.mb_model.specs.declared.event.Answered.{Answered}
 use Rattle.mb_model.specs.declared.state.State.{State}
 use Rattle.mb_model.specs.Board.{Held}
-use Rattle.mb_model.specs.Inputs.{Image}
+use Rattle.mb_model_commands.specs.Inputs.{Image}
 use Rattle.mb_model_lemmas.specs.RefusalLaws.{BringsBytes}
 use Rattle.mb_tools_device.specs.MachineRuns.{MachineComesTo}
 use Rattle.mb_tools_device.specs.CutCommand.{CutRun, AnyLacksMemory, LastIsStopped, ShowsState, ShowSame}

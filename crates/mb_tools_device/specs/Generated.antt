@@ -1,12 +1,12 @@
 -- A generated workload as it is served. Are the events those of its script, and the outputs its three files?
 use Rattle.std.specs.Prelude.{List, [], ◌∷◌}
 use Rattle.mb_model.specs.declared.event.Event.{Event}
-use Rattle.mb_model.specs.declared.role.Role.TheVariants as role
-use Rattle.mb_model.specs.declared.tools.Workload.{Workload}
 use Rattle.mb_model.specs.Lines.{ReadsLines}
 use Rattle.mb_model.specs.Script.{IsScript, Drawn}
-use Rattle.mb_model.specs.Commands.{Output}
-use Rattle.mb_model.specs.GenerateCommand.{GenerateNames}
+use Rattle.mb_model_commands.specs.declared.role.Role.TheVariants as role
+use Rattle.mb_model_commands.specs.declared.workload.Workload.{Workload}
+use Rattle.mb_model_commands.specs.Commands.{Output}
+use Rattle.mb_model_commands.specs.GenerateCommand.{GenerateNames}
 
 -- the events are those of the script, with the draws that the noise gives them
 pub record HasEvents (files : Workload) (events : List Event) : Type 0 where

@@ -1,7 +1,7 @@
 -- The names of files, the numbers and the bytes in the words of these commands, as their definitions have them.
 use Rattle.std.specs.Prelude.{List}
-use Rattle.mb_model.specs.RunCommand.{RunNames as RunFiles}
-use Rattle.mb_model.specs.GenerateCommand.{GenerateNames as GenerateFiles}
+use Rattle.mb_model_commands.specs.RunCommand.{RunNames as RunFiles}
+use Rattle.mb_model_commands.specs.GenerateCommand.{GenerateNames as GenerateFiles}
 use Rattle.mb_tools_device.specs.declared.run.RunNames.{RunNames}
 use Rattle.mb_tools_device.specs.declared.generate.GenerateNames.{GenerateNames}
 use Rattle.mb_tools_device.specs.CutCommand.{CutNames as CutFiles}

@@ -1,7 +1,7 @@
 //! Laws of the definitions, as the contracts of functions that do nothing.
 
 ghost use Rattle.std.specs.Prelude.{ℕ, List};
-ghost use Rattle.mb_model.specs.Inputs.{IsClearInput};
+ghost use Rattle.mb_model_commands.specs.Inputs.{IsClearInput};
 ghost use Rattle.mb_tools_device.specs.CutCommand.{uncut_script_input};
 ghost use Rattle.mb_tools_device.specs.CutOutcomes.{CutsCountWhollyOrNotAtAll};
 ghost use Rattle.mb_tools_device.specs.MachineRuns.{PlainRunsAreTheMachines};

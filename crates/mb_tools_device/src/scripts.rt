@@ -3,7 +3,7 @@
 ghost use Rattle.std.specs.Prelude.{◌≡◌, ◌≤◌, length, All, IfOk, IfErr, MatchOption};
 ghost use Rattle.mb_model.specs.declared.limits.TheConstants.{EVENT_LIMIT};
 ghost use Rattle.mb_model.specs.Script.{IsScriptEvent};
-ghost use Rattle.mb_model.specs.Inputs.{draws_input};
+ghost use Rattle.mb_model_commands.specs.Inputs.{draws_input};
 ghost use Rattle.mb_console.specs.Ending.{HasInput, StopsAt};
 ghost use Rattle.mb_tools_device.specs.CutCommand.{AreUncut};
 ghost use Rattle.mb_tools_device.specs.MachineRuns.{is_cut};
@@ -11,7 +11,8 @@ ghost use Rattle.mb_tools_device.specs.Refusing.{IsFirstRefused};
 
 use mb_console::{End, Form, Unread, read_input};
 use mb_host::Host;
-use mb_model::{EVENT_LIMIT, Event, Events, Place, Role};
+use mb_model::{EVENT_LIMIT, Event, Events};
+use mb_model_commands::{Place, Role};
 use mb_script::{ScriptEnd, ShortNoise, line_of, place_draws, read_script};
 use std::alloc::Global;
 
@@ -23,8 +24,8 @@ impl Form for ScriptForm {
     ghost use Rattle.std.specs.Prelude.{◌≤◌, List, [], All, length};
     ghost use Rattle.mb_model.specs.declared.event.Event.{Event};
     ghost use Rattle.mb_model.specs.declared.limits.TheConstants.{EVENT_LIMIT};
-    ghost use Rattle.mb_model.specs.Inputs.{script_input};
     ghost use Rattle.mb_model.specs.Script.{IsScriptEvent};
+    ghost use Rattle.mb_model_commands.specs.Inputs.{script_input};
 
     type Value = Events;
 

@@ -2,10 +2,10 @@
 use Rattle.std.proofs.Common.{◌≡◌, ◌≢◌, ℕ, List, [], ◌∷◌, true, Option, Result, Err, refl, sym, ◌∙◌, subst, inl, inr}
 use Rattle.mb_model.specs.Board.{not_used}
 use Rattle.mb_model.specs.declared.key.PublicKey.{PublicKey}
-use Rattle.mb_model.specs.declared.role.Role.TheVariants as role
-use Rattle.mb_model.specs.Outside.{Outside, read_once}
-use Rattle.mb_model.specs.Inputs.{root_input}
-use Rattle.mb_model.specs.Commands.{Input, Command, Past, Ended, InputEnds, input_is_too_long, input_is_faulty, input_is_not_read, memory_lacks, PrintEnds, text_is_printed, text_is_not_printed, CommandEnds, ComesToRefusal, read, print, at_first}
+use Rattle.mb_model_commands.specs.declared.role.Role.TheVariants as role
+use Rattle.mb_model_commands.specs.Outside.{Outside, read_once}
+use Rattle.mb_model_commands.specs.Inputs.{root_input}
+use Rattle.mb_model_commands.specs.Commands.{Input, Command, Past, Ended, InputEnds, input_is_too_long, input_is_faulty, input_is_not_read, memory_lacks, PrintEnds, text_is_printed, text_is_not_printed, CommandEnds, ComesToRefusal, read, print, at_first}
 use Rattle.mb_console.specs.declared.end.End.{End}
 use Rattle.mb_console.specs.declared.end.End.TheVariants as end
 use Rattle.mb_console.specs.Ending.{CarriesOutAfter, CarriesOut}

@@ -2,10 +2,11 @@
 -- before an answer is printed?
 use Rattle.std.specs.Prelude.{◌≢◌, ℕ, List, Option}
 use Rattle.mb_model.specs.declared.key.PublicKey.{PublicKey}
-use Rattle.mb_model.specs.declared.role.Role.TheVariants as role
-use Rattle.mb_model.specs.Commands.{Command, read, find, write, print, lack, Ended, CommandEnds, ComesToRefusal}
-use Rattle.mb_model.specs.Commands.{at_first}
-use Rattle.mb_model.specs.Inputs.{root_input}
+use Rattle.mb_model_commands.specs.declared.role.Role.TheVariants as role
+use Rattle.mb_model_commands.specs.Commands.{Command, read, find, write, print, lack, Ended, CommandEnds}
+use Rattle.mb_model_commands.specs.Commands.{ComesToRefusal}
+use Rattle.mb_model_commands.specs.Commands.{at_first}
+use Rattle.mb_model_commands.specs.Inputs.{root_input}
 use Rattle.mb_fleet.specs.declared.row.Row.{Row}
 use Rattle.mb_fleet.specs.declared.item.Item.{Item}
 use Rattle.mb_fleet.specs.RegisterFormat.{register_format}

@@ -12,7 +12,8 @@ use crate::input::{ItemsForm, RegisterForm};
 use mb_console::{Arguments, End, Output, file, finish, read_as};
 use mb_fleet::{Fleet, Item, serve_items};
 use mb_host::Host;
-use mb_model::{PublicKey, Role};
+use mb_model::PublicKey;
+use mb_model_commands::Role;
 use mb_tools::PublicKeyForm;
 use std::alloc::Global;
 

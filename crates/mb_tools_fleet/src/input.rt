@@ -2,7 +2,8 @@
 
 use mb_console::{Form, Unread};
 use mb_fleet::{Fleet, FleetReadEnd, Item, read_items};
-use mb_model::{Items, Place};
+use mb_model::Items;
+use mb_model_commands::Place;
 use std::alloc::Global;
 
 /// A register.

@@ -3,12 +3,12 @@ use Rattle.std.proofs.Common.{◌≡◌, ℕ, ◌^◌, List, [], ◌∷◌, ◌+
 use Rattle.std.specs.Global.{Vec}
 use Rattle.mb_model.specs.Board.{not_used}
 use Rattle.mb_model.specs.declared.key.PublicKey.{PublicKey}
-use Rattle.mb_model.specs.declared.role.Role.TheVariants as role
-use Rattle.mb_model.specs.Outside.{Outside}
 use Rattle.mb_model.specs.Key.{key_bytes}
-use Rattle.mb_model.specs.Sign.{index_text}
-use Rattle.mb_model.specs.Commands.{Output, print, at_first}
-use Rattle.mb_model.specs.Inputs.{root_input}
+use Rattle.mb_model_commands.specs.declared.role.Role.TheVariants as role
+use Rattle.mb_model_commands.specs.Outside.{Outside}
+use Rattle.mb_model_commands.specs.Sign.{index_text}
+use Rattle.mb_model_commands.specs.Commands.{Output, print, at_first}
+use Rattle.mb_model_commands.specs.Inputs.{root_input}
 use Rattle.mb_hss.specs.declared.maker.Maker.{Maker}
 use Rattle.mb_hss.specs.declared.signing.HssEnd.{HssEnd}
 use Rattle.mb_hss.specs.declared.signing.HssEnd.TheVariants as cause

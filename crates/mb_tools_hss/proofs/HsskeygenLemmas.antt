@@ -1,8 +1,8 @@
 -- What carries out `hsskeygen`.
 use Rattle.std.proofs.Common.{◌≡◌, ℕ, List, [], ◌∷◌, Result, ◌∙◌, ap, subst}
-use Rattle.mb_model.specs.declared.role.Role.TheVariants as role
-use Rattle.mb_model.specs.Outside.{Outside}
-use Rattle.mb_model.specs.Commands.{Output, print, at_first}
+use Rattle.mb_model_commands.specs.declared.role.Role.TheVariants as role
+use Rattle.mb_model_commands.specs.Outside.{Outside}
+use Rattle.mb_model_commands.specs.Commands.{Output, print, at_first}
 use Rattle.mb_hss.specs.declared.maker.Maker.{Maker}
 use Rattle.mb_hss.specs.HssKeyFormat.{hss_key_format}
 use Rattle.mb_hss.specs.MakerFormat.{maker_format}

@@ -1,12 +1,12 @@
 -- What the command `endorse` does. Is each number of a maker used for one endorsement, and is the root key what was
 -- endorsed?
 use Rattle.std.specs.Prelude.{◌≡◌, ℕ, ◌+◌, ◌^◌, List, ◌∷◌, codes}
-use Rattle.mb_model.specs.declared.role.Role.TheVariants as role
 use Rattle.mb_model.specs.declared.key.PublicKey.{PublicKey}
 use Rattle.mb_model.specs.Key.{key_bytes}
-use Rattle.mb_model.specs.Sign.{index_text}
-use Rattle.mb_model.specs.Commands.{Command, read, either_command, write, print, refuse}
-use Rattle.mb_model.specs.Inputs.{root_input}
+use Rattle.mb_model_commands.specs.declared.role.Role.TheVariants as role
+use Rattle.mb_model_commands.specs.Sign.{index_text}
+use Rattle.mb_model_commands.specs.Commands.{Command, read, either_command, write, print, refuse}
+use Rattle.mb_model_commands.specs.Inputs.{root_input}
 use Rattle.mb_hss.specs.declared.maker.Maker.{Maker}
 use Rattle.mb_hss.specs.MakerFormat.{maker_format}
 use Rattle.mb_hss.specs.MakerSignatures.{maker_signature}

@@ -2,8 +2,8 @@
 use Rattle.std.specs.Prelude.{ℕ, List, codes}
 use Rattle.mb_model.specs.declared.key.PublicKey.{PublicKey}
 use Rattle.mb_model.specs.Texts.{line_with_lf}
-use Rattle.mb_model.specs.Commands.{Command, read, either_command, print, refuse}
-use Rattle.mb_model.specs.Inputs.{root_input}
+use Rattle.mb_model_commands.specs.Commands.{Command, read, either_command, print, refuse}
+use Rattle.mb_model_commands.specs.Inputs.{root_input}
 use Rattle.mb_hss.specs.declared.key.HssKey.{HssKey}
 use Rattle.mb_hss.specs.HssVerification.{HssVerifies}
 use Rattle.mb_tools_hss.specs.Endorse.{endorsed_text}

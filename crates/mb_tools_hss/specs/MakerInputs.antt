@@ -2,9 +2,9 @@
 -- fault.
 use Rattle.std.specs.Prelude.{◌≡◌, ℕ, List}
 use Rattle.mb_model.specs.declared.limits.TheConstants.{DRAW_LENGTH}
-use Rattle.mb_model.specs.declared.role.Role.TheVariants as role
-use Rattle.mb_model.specs.Commands.{Input}
-use Rattle.mb_model.specs.Inputs.{binary_input, leading_input}
+use Rattle.mb_model_commands.specs.declared.role.Role.TheVariants as role
+use Rattle.mb_model_commands.specs.Commands.{Input}
+use Rattle.mb_model_commands.specs.Inputs.{binary_input, leading_input}
 use Rattle.mb_hss.specs.declared.key.HssKey.{HssKey}
 use Rattle.mb_hss.specs.declared.maker.Maker.{Maker}
 use Rattle.mb_hss.specs.HssKeyFormat.{hss_key_format}

@@ -2,7 +2,7 @@
 
 ghost use Rattle.std.specs.Prelude.{◌+◌, ◌≤◌, ◌*◌, ◌≡◌, IfOk, map, string_bytes};
 ghost use Rattle.mb_model.specs.declared.key.PublicKey.{PublicKey as RootKey};
-ghost use Rattle.mb_model.specs.Sign.{index_text};
+ghost use Rattle.mb_model_commands.specs.Sign.{index_text};
 ghost use Rattle.mb_console.specs.Ending.{CarriesOut};
 ghost use Rattle.mb_console.specs.Words.{given_argument};
 ghost use Rattle.mb_hss.specs.declared.maker.Maker.{Maker};
@@ -19,7 +19,8 @@ use mb_console::{Arguments, End, Output, file, finish, read_as, refused};
 use mb_host::Host;
 use mb_hss::{HssEnd, Maker, sign, write_maker};
 use mb_lms::{HashCount, key_bytes};
-use mb_model::{NoMemory, Role};
+use mb_model::NoMemory;
+use mb_model_commands::Role;
 use mb_tools::PublicKeyForm;
 use std::alloc::Global;
 use std::sync::ledger::Ledger;

@@ -13,7 +13,8 @@ use mb_console::{Arguments, End, file, finish, read_as, refused};
 use mb_host::Host;
 use mb_hss::{HssKey, verify};
 use mb_lms::key_bytes;
-use mb_model::{PublicKey, Role};
+use mb_model::PublicKey;
+use mb_model_commands::Role;
 use mb_tools::{AnyBytes, PublicKeyForm};
 use std::alloc::Global;
 

@@ -2,7 +2,7 @@
 
 use mb_console::{Form, Unread};
 use mb_hss::{HssKey, Maker, read_hss_key, read_maker};
-use mb_model::Place;
+use mb_model_commands::Place;
 use std::alloc::Global;
 
 /// The file of a maker's key.

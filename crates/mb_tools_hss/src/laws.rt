@@ -1,7 +1,7 @@
 //! A law of the inputs of the commands; and the separator of an endorsement, tied to its number.
 
 ghost use Rattle.std.specs.Prelude.{ℕ, List};
-ghost use Rattle.mb_model.specs.Inputs.{IsClearInput};
+ghost use Rattle.mb_model_commands.specs.Inputs.{IsClearInput};
 ghost use Rattle.mb_tools_hss.specs.MakerInputs.{maker_noise_input, maker_input, hss_key_input, endorsement_input};
 ghost use Rattle.mb_tools_hss.specs.NumberLaws.{EndorsementNumbersAre};
 

@@ -5,9 +5,9 @@ use Rattle.mb_model.specs.declared.key.PublicKey.{PublicKey}
 use Rattle.mb_model.specs.declared.state.Report.{Report}
 use Rattle.mb_model.specs.Texts.{line_with_lf}
 use Rattle.mb_model.specs.Acceptance.{ChainRefusal, Accepts, IsRefused, chain_acceptance, chain_rejection, IsVerdict}
-use Rattle.mb_model.specs.Outside.{Outside}
-use Rattle.mb_model.specs.Commands.{print, at_first}
-use Rattle.mb_model.specs.VerifyCommand.{chain_refusal_line}
+use Rattle.mb_model_commands.specs.Outside.{Outside}
+use Rattle.mb_model_commands.specs.Commands.{print, at_first}
+use Rattle.mb_model_commands.specs.VerifyCommand.{chain_refusal_line}
 use Rattle.mb_policy.specs.declared.judging.Judgement.TheVariants as judgement
 use Rattle.mb_policy.specs.Policies.{PolicyItem}
 use Rattle.mb_policy.specs.Judging.{IsJudged}

@@ -1,7 +1,7 @@
 //! The form of a policy among the inputs.
 
 use mb_console::{Form, Unread};
-use mb_model::Place;
+use mb_model_commands::Place;
 use mb_policy::{Policy, PolicyEnd, read_policy};
 use std::alloc::Global;
 

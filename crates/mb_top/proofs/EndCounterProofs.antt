@@ -1,7 +1,7 @@
 -- The counterexamples of ends, refuted.
 use Rattle.std.proofs.Common.{◌≡◌, ◌≢◌, ℕ, ◌≤◌, Bool, true, nat_lt, List, [], ◌∷◌, length, refl, arith}
 use Rattle.mb_model.specs.Board.{not_used}
-use Rattle.mb_model.specs.Commands.{Ended}
+use Rattle.mb_model_commands.specs.Commands.{Ended}
 use Rattle.mb_console.specs.declared.words.Kind.{Kind}
 use Rattle.mb_console.specs.Words.{Argument, Row, AreWordsFor, IsCalled, IsCall}
 use Rattle.mb_console.proofs.WordLemmas.{all_rows, row_of_call}

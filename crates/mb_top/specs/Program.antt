@@ -1,7 +1,7 @@
 -- What the program does with its command line: the two words that it answers by itself, and all other words. Are there
 -- words for which nothing is said?
 use Rattle.std.specs.Prelude.{◌≡◌, ℕ, List, [], ◌∷◌, codes}
-use Rattle.mb_model.specs.Commands.{Ended, PrintEnds, at_first}
+use Rattle.mb_model_commands.specs.Commands.{Ended, PrintEnds, at_first}
 use Rattle.mb_top.specs.Top.{Ends}
 use Rattle.mb_console.specs.declared.end.End.{End}
 use Rattle.mb_console.specs.declared.end.End.TheVariants as end

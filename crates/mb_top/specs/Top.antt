@@ -1,18 +1,18 @@
 -- What the program does, by its words: which command they call, and how it ends.
 use Rattle.std.specs.Prelude.{◌≡◌, ◌⊎◌, List, ℕ, codes, Result}
 use Rattle.mb_model.specs.Board.{Used}
-use Rattle.mb_model.specs.Outside.{Outside}
 use Rattle.mb_model.specs.Board.{Held}
-use Rattle.mb_model.specs.Commands.{Command as Does, Ended, Stops, CommandEnds, at_first}
-use Rattle.mb_model.specs.RunCommand.{run}
-use Rattle.mb_model.specs.Keygen.{keygen}
-use Rattle.mb_model.specs.Sign.{sign, countersign}
-use Rattle.mb_model.specs.FactoryCommand.{factory}
-use Rattle.mb_model.specs.MigrateCommand.{migrate}
-use Rattle.mb_model.specs.VerifyCommand.{verify}
-use Rattle.mb_model.specs.AuditCommand.{audit}
-use Rattle.mb_model.specs.ChainCommands.{chain, attach}
-use Rattle.mb_model.specs.GenerateCommand.{generate}
+use Rattle.mb_model_commands.specs.Outside.{Outside}
+use Rattle.mb_model_commands.specs.Commands.{Command as Does, Ended, Stops, CommandEnds, at_first}
+use Rattle.mb_model_commands.specs.RunCommand.{run}
+use Rattle.mb_model_commands.specs.Keygen.{keygen}
+use Rattle.mb_model_commands.specs.Sign.{sign, countersign}
+use Rattle.mb_model_commands.specs.FactoryCommand.{factory}
+use Rattle.mb_model_commands.specs.MigrateCommand.{migrate}
+use Rattle.mb_model_commands.specs.VerifyCommand.{verify}
+use Rattle.mb_model_commands.specs.AuditCommand.{audit}
+use Rattle.mb_model_commands.specs.ChainCommands.{chain, attach}
+use Rattle.mb_model_commands.specs.GenerateCommand.{generate}
 use Rattle.mb_board.specs.Calls.{Seen}
 use Rattle.mb_console.specs.declared.end.End.{End}
 use Rattle.mb_console.specs.Ending.{ended_at, EndsOncePrinted}

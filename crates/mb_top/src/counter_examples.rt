@@ -1,7 +1,7 @@
 //! Values for which the definition of the program's ends does not hold.
 
 ghost use Rattle.std.specs.Prelude.{List, ℕ};
-ghost use Rattle.mb_model.specs.Commands.{Ended};
+ghost use Rattle.mb_model_commands.specs.Commands.{Ended};
 ghost use Rattle.mb_top.specs.EndCounterExamples.{EndCounterExamples};
 
 /// Ends that the program does not have: without a command its status is 2, and it answers no event.

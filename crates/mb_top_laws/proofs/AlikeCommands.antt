@@ -6,13 +6,13 @@ use Rattle.mb_model.specs.declared.key.PublicKey.{PublicKey}
 use Rattle.mb_model.specs.declared.order.Order.{Order}
 use Rattle.mb_model.specs.declared.state.State.{State}
 use Rattle.mb_model.specs.declared.tools.Keyfile.{Keyfile}
-use Rattle.mb_model.specs.Keygen.{KeygenNames, keygen}
-use Rattle.mb_model.specs.Sign.{SignNames, CountersignNames, sign, countersign, sign_by, use_index}
-use Rattle.mb_model.specs.FactoryCommand.{FactoryNames, factory, make_device, write_device}
-use Rattle.mb_model.specs.VerifyCommand.{VerifyNames, verify, tell_verdict}
-use Rattle.mb_model.specs.AuditCommand.{AuditNames, audit, audit_chain, compare}
-use Rattle.mb_model.specs.ChainCommands.{ChainNames, AttachNames, chain, chain_of, attach, attach_statement, write_entries}
 use Rattle.mb_model.specs.Acceptance.{Verdict, chain_acceptance, chain_rejection, IsVerdict}
+use Rattle.mb_model_commands.specs.Keygen.{KeygenNames, keygen}
+use Rattle.mb_model_commands.specs.Sign.{SignNames, CountersignNames, sign, countersign, sign_by, use_index}
+use Rattle.mb_model_commands.specs.FactoryCommand.{FactoryNames, factory, make_device, write_device}
+use Rattle.mb_model_commands.specs.VerifyCommand.{VerifyNames, verify, tell_verdict}
+use Rattle.mb_model_commands.specs.AuditCommand.{AuditNames, audit, audit_chain, compare}
+use Rattle.mb_model_commands.specs.ChainCommands.{ChainNames, AttachNames, chain, chain_of, attach, attach_statement, write_entries}
 use Rattle.mb_model_lemmas.proofs.ChainLemmas.{one_refusal, never_both, one_report}
 use Rattle.mb_top_laws.proofs.AlikeSteps.{Alike, alike_read, alike_found, alike_either, alike_write, alike_print, alike_refuse}
 use Rattle.mb_top_laws.proofs.InputsOnce.{leading_once, bounded_once, whole_once, key_once, owner_once, root_once, chain_once, draft_once, order_once, statement_once, image_once}

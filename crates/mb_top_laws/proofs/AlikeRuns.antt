@@ -5,15 +5,16 @@ use Rattle.mb_format.specs.Combinators.{same_bytes}
 use Rattle.mb_format.proofs.Fields.{same_bytes-refl, same_bytes-true}
 use Rattle.mb_model.specs.declared.event.Event.{Event}
 use Rattle.mb_model.specs.declared.event.Answered.{Answered}
-use Rattle.mb_model.specs.declared.role.Role.TheVariants as role
 use Rattle.mb_model.specs.Board.{Held, Used, image_of, loaded_once_more}
 use Rattle.mb_model.specs.Acknowledged.{LeavesMemory}
 use Rattle.mb_model.specs.Machine.{World, opening_world}
 use Rattle.mb_model.specs.Meaning.{IsWellFormed}
 use Rattle.mb_model.specs.Replies.{replies_text}
-use Rattle.mb_model.specs.Inputs.{Image}
-use Rattle.mb_model.specs.RunCommand.{RunNames, IsServed, run, serve_events, write_image}
-use Rattle.mb_model.specs.Commands.{serve, print, Past, Ended, WantsMemory, CommandEnds, end_seen_from, at_first}
+use Rattle.mb_model_commands.specs.declared.role.Role.TheVariants as role
+use Rattle.mb_model_commands.specs.Inputs.{Image}
+use Rattle.mb_model_commands.specs.RunCommand.{RunNames, IsServed, run, serve_events, write_image}
+use Rattle.mb_model_commands.specs.Commands.{serve, print, Past, Ended, WantsMemory, CommandEnds, end_seen_from}
+use Rattle.mb_model_commands.specs.Commands.{at_first}
 use Rattle.mb_model_lemmas.specs.RefusalLaws.{BringsBytes}
 use Rattle.mb_model_histories.specs.PowerLaws.{HasOwnAnswer}
 use Rattle.mb_model_histories.proofs.PowerLemmas.{runs_are_determined}

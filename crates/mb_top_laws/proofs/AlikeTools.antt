@@ -4,13 +4,13 @@ use Rattle.std.specs.List.{AllByRecursion}
 use Rattle.mb_format.specs.Format.{IsBytes}
 use Rattle.mb_format.proofs.Whole.{IsClearWhole-from_exact}
 use Rattle.mb_model.specs.declared.key.PublicKey.{PublicKey}
-use Rattle.mb_model.specs.declared.role.Place.TheVariants as fault
 use Rattle.mb_model.specs.declared.state.Codes.{Codes}
 use Rattle.mb_model.specs.declared.state.State.{State}
 use Rattle.mb_model.specs.Acceptance.{Verdict, chain_acceptance, chain_rejection}
-use Rattle.mb_model.specs.Inputs.{fault_place}
 use Rattle.mb_model.specs.Meaning.{IsWellFormed}
-use Rattle.mb_model.specs.MigrateCommand.{MigrateNames, old_image_input, migrate}
+use Rattle.mb_model_commands.specs.declared.role.Place.TheVariants as fault
+use Rattle.mb_model_commands.specs.Inputs.{fault_place}
+use Rattle.mb_model_commands.specs.MigrateCommand.{MigrateNames, old_image_input, migrate}
 use Rattle.mb_model_lemmas.proofs.FaultLemmas.{one_fault}
 use Rattle.mb_migrate.proofs.Migrations.{migrates_to_one, migrates_or_cannot}
 use Rattle.mb_hss.specs.declared.maker.Maker.{Maker}

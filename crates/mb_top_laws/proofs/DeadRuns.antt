@@ -23,10 +23,10 @@ use Rattle.mb_model.specs.WrittenImage.{written_image}
 use Rattle.mb_model.specs.Lines.{IsLine, ReadsLines}
 use Rattle.mb_model.specs.Script.{IsScriptEvent, IsScript, with_before, commands_in, drawn_events, Drawn}
 use Rattle.mb_model.specs.Replies.{replies_text}
-use Rattle.mb_model.specs.Inputs.{Image}
-use Rattle.mb_model.specs.RunCommand.{IsServed, run}
-use Rattle.mb_model.specs.Outside.{Outside, read_once}
-use Rattle.mb_model.specs.Commands.{Ended, text_is_printed, CommandEnds, at_first}
+use Rattle.mb_model_commands.specs.Inputs.{Image}
+use Rattle.mb_model_commands.specs.RunCommand.{IsServed, run}
+use Rattle.mb_model_commands.specs.Outside.{Outside, read_once}
+use Rattle.mb_model_commands.specs.Commands.{Ended, text_is_printed, CommandEnds, at_first}
 use Rattle.mb_model_lemmas.proofs.LineLemmas.{isnt, cons_same}
 use Rattle.mb_model_lemmas.proofs.WrittenImages.{written_is_well_formed, length-image}
 use Rattle.mb_model_runs.proofs.SoundLemmas.{run_is_sound}

@@ -4,8 +4,9 @@ use Rattle.std.specs.Prelude.{codes}
 use Rattle.std.proofs.lemmas.List.Elements.{All-nil}
 use Rattle.mb_model.specs.Board.{Held, held_at_load, not_used}
 use Rattle.mb_model.specs.Texts.{line_with_lf}
-use Rattle.mb_model.specs.Outside.{Outside, count_after_call, read_once, by_fault}
-use Rattle.mb_model.specs.Commands.{Ended, input_is_not_read, memory_lacks, text_is_printed, CommandEnds, at_first}
+use Rattle.mb_model_commands.specs.Outside.{Outside, count_after_call, read_once, by_fault}
+use Rattle.mb_model_commands.specs.Commands.{Ended, input_is_not_read, memory_lacks, text_is_printed, CommandEnds}
+use Rattle.mb_model_commands.specs.Commands.{at_first}
 use Rattle.mb_console.specs.Words.{Argument}
 use Rattle.mb_top.specs.declared.table.Command.TheVariants as command
 use Rattle.mb_top.specs.Top.{command_of}

@@ -16,17 +16,17 @@ use Rattle.mb_format.specs.Reading.{IsExact}
 use Rattle.mb_format.proofs.Fields.{same_bytes-refl, same_bytes-true}
 use Rattle.mb_format.proofs.Whole.{IsClearWhole-from_exact}
 use Rattle.mb_model.specs.declared.key.PublicKey.{PublicKey}
-use Rattle.mb_model.specs.declared.role.Place.{Place}
-use Rattle.mb_model.specs.declared.role.Role.{Role}
-use Rattle.mb_model.specs.declared.role.Role.TheVariants as role
 use Rattle.mb_model.specs.Board.{not_used}
-use Rattle.mb_model.specs.Commands.{Input, Command, read, write, print, HasRead, Past, Ended, end_seen_from, SaysLine, input_is_too_long, input_is_faulty, input_is_not_read, memory_lacks, PrintEnds, text_is_printed, text_is_not_printed, CommandEnds, at_first, IsFaultless, HasInputsFor, ComesToRefusal, role_word}
-use Rattle.mb_model.specs.Inputs.{binary_input, root_input}
 use Rattle.mb_model.specs.KeyFormat.{public_key_format}
-use Rattle.mb_model.specs.Outside.{Outside, read_once, by_fault, by_absence, WritesFile, Adds, HasRisen, count_after_call}
-use Rattle.mb_model.specs.Sign.{index_text}
 use Rattle.mb_model.specs.Texts.{line_with_lf}
 use Rattle.mb_model.proofs.KeyFormatLaws.{public_key_exact}
+use Rattle.mb_model_commands.specs.declared.role.Place.{Place}
+use Rattle.mb_model_commands.specs.declared.role.Role.{Role}
+use Rattle.mb_model_commands.specs.declared.role.Role.TheVariants as role
+use Rattle.mb_model_commands.specs.Commands.{Input, Command, read, write, print, HasRead, Past, Ended, end_seen_from, SaysLine, input_is_too_long, input_is_faulty, input_is_not_read, memory_lacks, PrintEnds, text_is_printed, text_is_not_printed, CommandEnds, at_first, IsFaultless, HasInputsFor, ComesToRefusal, role_word}
+use Rattle.mb_model_commands.specs.Inputs.{binary_input, root_input}
+use Rattle.mb_model_commands.specs.Outside.{Outside, read_once, by_fault, by_absence, WritesFile, Adds, HasRisen, count_after_call}
+use Rattle.mb_model_commands.specs.Sign.{index_text}
 use Rattle.mb_console.proofs.Completing.{raised_rises, command_completes}
 use Rattle.mb_model_lemmas.proofs.Splits.{some_same}
 use Rattle.mb_hss.specs.declared.key.HssKey.{HssKey}

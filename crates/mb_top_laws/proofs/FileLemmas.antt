@@ -1,7 +1,7 @@
 -- What a command leaves of the files if it ends without a write.
 use Rattle.std.proofs.Common.{◌≡◌, ◌≢◌, ◌<◌, ℕ, List, ◌∙◌, arith}
-use Rattle.mb_model.specs.Commands.{Input, Past, Ended, end_seen_from, Stops, InputEnds, input_is_too_long, input_is_faulty, input_is_not_read, memory_lacks}
-use Rattle.mb_model.specs.Outside.{read_once}
+use Rattle.mb_model_commands.specs.Commands.{Input, Past, Ended, end_seen_from, Stops, InputEnds, input_is_too_long, input_is_faulty, input_is_not_read, memory_lacks}
+use Rattle.mb_model_commands.specs.Outside.{read_once}
 use Rattle.mb_model_histories.proofs.KeyFileLemmas.{stopped_files, unread_files}
 
 -- the files are as they were, and the command is not done

@@ -1,8 +1,8 @@
 -- What a host shows that has not been called, and after calls that do not fail.
 use Rattle.std.proofs.Common.{◌≡◌, ◌≢◌, ℕ, ◌≤◌, List, [], ◌++◌, length, Some, refl, sym, ◌∙◌, ap, inl, inr, arith, lit≤}
 use Rattle.mb_format.specs.Format.{IsBytes}
-use Rattle.mb_model.specs.Outside.{Outside, HasRisen, count_after_call, WritesFile, Prints}
-use Rattle.mb_model.specs.Commands.{HasRead}
+use Rattle.mb_model_commands.specs.Outside.{Outside, HasRisen, count_after_call, WritesFile, Prints}
+use Rattle.mb_model_commands.specs.Commands.{HasRead}
 use Rattle.mb_model_histories.specs.KeyFileLaws.{Files}
 
 -- a host that has not been called

@@ -5,12 +5,12 @@ use Rattle.mb_format.proofs.Whole.{IsClearWhole-from_exact}
 use Rattle.mb_model.proofs.KeyFormatLaws.{public_key_exact, keyfile_exact}
 use Rattle.mb_model.proofs.EntryFormatLaws.{chain_exact}
 use Rattle.mb_model.specs.declared.event.Event.{Event}
-use Rattle.mb_model.specs.declared.role.Role.{Role}
-use Rattle.mb_model.specs.declared.role.Place.TheVariants as fault
 use Rattle.mb_model.specs.declared.state.State.{State}
 use Rattle.mb_model.specs.Lines.{FailsAtLine, TextFailsAtLine}
-use Rattle.mb_model.specs.Commands.{Input}
-use Rattle.mb_model.specs.Inputs.{Image, binary_input, text_input, leading_input, bounded_input, key_input, owner_input, draft_input, order_input, image_input, script_input, root_input, chain_input, statement_input, draws_input, fault_place}
+use Rattle.mb_model_commands.specs.declared.role.Role.{Role}
+use Rattle.mb_model_commands.specs.declared.role.Place.TheVariants as fault
+use Rattle.mb_model_commands.specs.Commands.{Input}
+use Rattle.mb_model_commands.specs.Inputs.{Image, binary_input, text_input, leading_input, bounded_input, key_input, owner_input, draft_input, order_input, image_input, script_input, root_input, chain_input, statement_input, draws_input, fault_place}
 use Rattle.mb_model_lemmas.proofs.LineLemmas.{HasLines-same, FailsAtLine-same, FailsAtLine-none}
 use Rattle.mb_model_lemmas.proofs.EventLemmas.{IsScript-same}
 use Rattle.mb_model_lemmas.proofs.DraftLemmas.{IsDraft-same}

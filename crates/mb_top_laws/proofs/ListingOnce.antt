@@ -6,8 +6,8 @@ use Rattle.std.proofs.lemmas.List.Elements.{All-head, All-tail}
 use Rattle.std.proofs.lemmas.List.Concat.{flat_map-cons}
 use Rattle.mb_format.specs.Format.{IsBytes}
 use Rattle.mb_format.proofs.Exact.{IsBytes-drop, IsClear-from_exact}
-use Rattle.mb_model.specs.declared.role.Place.{Place}
-use Rattle.mb_model.specs.declared.role.Place.TheVariants as fault
+use Rattle.mb_model_commands.specs.declared.role.Place.{Place}
+use Rattle.mb_model_commands.specs.declared.role.Place.TheVariants as fault
 use Rattle.mb_appvm.specs.declared.instruction.Instruction.{Instruction}
 use Rattle.mb_appvm.specs.Instructions.{instruction_format, Stands}
 use Rattle.mb_appvm.specs.Listing.{listing_bytes, LacksInstruction}

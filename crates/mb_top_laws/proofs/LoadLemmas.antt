@@ -3,22 +3,22 @@ use Rattle.std.proofs.Common.{◌≡◌, ℕ, ◌≤◌, ◌⊎◌, List, Option
 use Rattle.mb_model.specs.declared.event.Event.{Event}
 use Rattle.mb_model.specs.declared.event.Answered.{Answered}
 use Rattle.mb_model.specs.declared.key.PublicKey.{PublicKey}
-use Rattle.mb_model.specs.declared.role.Role.TheVariants as role
 use Rattle.mb_model.specs.declared.state.State.{State}
 use Rattle.mb_model.specs.Board.{Held, Used, not_used, counted_load, loaded_once_more, having_answered}
-use Rattle.mb_model.specs.Outside.{read_once}
-use Rattle.mb_model.specs.Inputs.{Image, image_input, script_input, draws_input}
-use Rattle.mb_model.specs.Keygen.{KeygenNames, keygen}
-use Rattle.mb_model.specs.Sign.{SignNames, CountersignNames, sign, countersign, sign_by, use_index}
-use Rattle.mb_model.specs.FactoryCommand.{FactoryNames, factory, make_device, write_device}
-use Rattle.mb_model.specs.MigrateCommand.{MigrateNames, migrate}
-use Rattle.mb_model.specs.VerifyCommand.{VerifyNames, verify, tell_verdict}
-use Rattle.mb_model.specs.AuditCommand.{AuditNames, audit, audit_chain, compare}
-use Rattle.mb_model.specs.ChainCommands.{ChainNames, AttachNames, chain, chain_of, attach, attach_statement, write_entries}
 use Rattle.mb_model.specs.Acceptance.{Verdict, chain_acceptance, chain_rejection}
-use Rattle.mb_model.specs.RunCommand.{RunNames, IsServed, run, read_script, read_noise, write_image}
-use Rattle.mb_model.specs.GenerateCommand.{GenerateNames, Prepared, generate, prepared_image, summarise}
-use Rattle.mb_model.specs.Commands.{Command, read, find, either_command, load, serve, rehearse, write, print, refuse, lack, Input, Past, Ended, end_seen_from, WantsMemory, InputEnds, input_is_too_long, input_is_faulty, input_is_not_read, memory_lacks, PrintEnds, text_is_printed, text_is_not_printed, CommandEnds, at_first}
+use Rattle.mb_model_commands.specs.declared.role.Role.TheVariants as role
+use Rattle.mb_model_commands.specs.Outside.{read_once}
+use Rattle.mb_model_commands.specs.Inputs.{Image, image_input, script_input, draws_input}
+use Rattle.mb_model_commands.specs.Keygen.{KeygenNames, keygen}
+use Rattle.mb_model_commands.specs.Sign.{SignNames, CountersignNames, sign, countersign, sign_by, use_index}
+use Rattle.mb_model_commands.specs.FactoryCommand.{FactoryNames, factory, make_device, write_device}
+use Rattle.mb_model_commands.specs.MigrateCommand.{MigrateNames, migrate}
+use Rattle.mb_model_commands.specs.VerifyCommand.{VerifyNames, verify, tell_verdict}
+use Rattle.mb_model_commands.specs.AuditCommand.{AuditNames, audit, audit_chain, compare}
+use Rattle.mb_model_commands.specs.ChainCommands.{ChainNames, AttachNames, chain, chain_of, attach, attach_statement, write_entries}
+use Rattle.mb_model_commands.specs.RunCommand.{RunNames, IsServed, run, read_script, read_noise, write_image}
+use Rattle.mb_model_commands.specs.GenerateCommand.{GenerateNames, Prepared, generate, prepared_image, summarise}
+use Rattle.mb_model_commands.specs.Commands.{Command, read, find, either_command, load, serve, rehearse, write, print, refuse, lack, Input, Past, Ended, end_seen_from, WantsMemory, InputEnds, input_is_too_long, input_is_faulty, input_is_not_read, memory_lacks, PrintEnds, text_is_printed, text_is_not_printed, CommandEnds, at_first}
 use Rattle.mb_policy.specs.declared.judging.Judgement.{Judgement}
 use Rattle.mb_policy.specs.declared.judging.Judgement.TheVariants as judgement
 use Rattle.mb_policy.specs.Policies.{PolicyItem}

@@ -2,12 +2,12 @@
 use Rattle.std.specs.Prelude.{◌≡◌, ◌≢◌, ℕ, false, List, [], codes, All, Option, None, Some, if◌then◌else◌}
 use Rattle.mb_format.specs.Combinators.{same_bytes}
 use Rattle.mb_model.specs.declared.state.State.{State}
-use Rattle.mb_model.specs.Outside.{Outside}
 use Rattle.mb_model.specs.Acknowledged.{LeavesMemory}
 use Rattle.mb_model.specs.Meaning.{IsWellFormed}
 use Rattle.mb_model.specs.WrittenImage.{written_image}
-use Rattle.mb_model.specs.Commands.{Command as Does, Ended, CommandEnds, IsFaultless, at_first}
-use Rattle.mb_model.specs.RunCommand.{RunNames, run}
+use Rattle.mb_model_commands.specs.Outside.{Outside}
+use Rattle.mb_model_commands.specs.Commands.{Command as Does, Ended, CommandEnds, IsFaultless, at_first}
+use Rattle.mb_model_commands.specs.RunCommand.{RunNames, run}
 use Rattle.mb_model_histories.specs.KeyFileLaws.{Files}
 use Rattle.mb_model_histories.specs.PowerLaws.{HasOwnAnswer}
 use Rattle.mb_console.specs.Words.{Argument}

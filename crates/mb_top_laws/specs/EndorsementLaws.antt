@@ -3,10 +3,10 @@
 use Rattle.std.specs.Prelude.{◌≡◌, ◌≢◌, ◌<◌, ◌⊎◌, ◌^◌, ℕ, List, [], ◌∷◌, AllPairs, codes, Some}
 use Rattle.mb_format.specs.Format.{Format, IsBytes, Spells}
 use Rattle.mb_model.specs.declared.key.PublicKey.{PublicKey}
-use Rattle.mb_model.specs.Commands.{Past, Ended, CommandEnds, at_first, IsFaultless}
 use Rattle.mb_model.specs.KeyFormat.{public_key_format}
-use Rattle.mb_model.specs.Outside.{Adds}
 use Rattle.mb_model.specs.Texts.{line_with_lf}
+use Rattle.mb_model_commands.specs.Commands.{Past, Ended, CommandEnds, at_first, IsFaultless}
+use Rattle.mb_model_commands.specs.Outside.{Adds}
 use Rattle.mb_model_histories.specs.KeyFileLaws.{Files}
 use Rattle.mb_hss.specs.declared.key.HssKey.{HssKey}
 use Rattle.mb_hss.specs.declared.maker.Maker.{Maker}

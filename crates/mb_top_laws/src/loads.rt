@@ -1,6 +1,6 @@
 //! Laws of how often commands load a board.
 
-ghost use Rattle.mb_model.specs.Commands.{Ended};
+ghost use Rattle.mb_model_commands.specs.Commands.{Ended};
 ghost use Rattle.mb_top_laws.specs.LoadLaws.{NothingIsLoaded, LoadsOnce, LoadsTwice};
 
 /// A command that serves no device loads no board. If they are done, `run` and `generate` have loaded one once, and

@@ -2,7 +2,8 @@
 
 use mb_cert::{ChainEnd, StatementLineEnd, read_chain, read_statement_line};
 use mb_console::{Form, Unread};
-use mb_model::{Chain, Place, Statement};
+use mb_model::{Chain, Statement};
+use mb_model_commands::Place;
 use std::alloc::Global;
 
 /// A chain.
@@ -13,7 +14,7 @@ impl Form for ChainForm {
     ghost use Rattle.std.specs.Prelude.{[]};
     ghost use Rattle.mb_model.specs.declared.entry.Chain.{Chain};
     ghost use Rattle.mb_model.specs.ChainFormat.{chain_format};
-    ghost use Rattle.mb_model.specs.Inputs.{chain_input};
+    ghost use Rattle.mb_model_commands.specs.Inputs.{chain_input};
 
     type Value = Chain;
 
@@ -43,7 +44,7 @@ pub struct AnyBytes;
 impl Form for AnyBytes {
     ghost use Rattle.std.specs.Prelude.{ℕ, ◌≤◌, List, [], length};
     ghost use Rattle.mb_model.specs.declared.limits.TheConstants.{FILE_LIMIT};
-    ghost use Rattle.mb_model.specs.Inputs.{chain_bytes_input};
+    ghost use Rattle.mb_model_commands.specs.Inputs.{chain_bytes_input};
 
     type Value = Vec<u8>;
 
@@ -70,7 +71,7 @@ impl Form for StatementLine {
     ghost use Rattle.std.specs.Prelude.{[]};
     ghost use Rattle.mb_model.specs.declared.entry.Statement.{Statement};
     ghost use Rattle.mb_model.specs.ChainFormat.{statement_format};
-    ghost use Rattle.mb_model.specs.Inputs.{statement_input};
+    ghost use Rattle.mb_model_commands.specs.Inputs.{statement_input};
 
     type Value = Statement;
 

@@ -5,8 +5,8 @@
 ghost use Rattle.std.specs.Prelude.{◌+◌, ◌≤◌, ◌*◌, IfOk, IfErr};
 ghost use Rattle.mb_model.specs.Meaning.{IsWellFormed};
 ghost use Rattle.mb_model.specs.Valid.{Valid};
-ghost use Rattle.mb_model.specs.MigrateCommand.{old_image_input};
-ghost use Rattle.mb_model.specs.Inputs.{image_input};
+ghost use Rattle.mb_model_commands.specs.MigrateCommand.{old_image_input};
+ghost use Rattle.mb_model_commands.specs.Inputs.{image_input};
 ghost use Rattle.mb_model_memory.specs.Storable.{Storable};
 ghost use Rattle.mb_image.specs.Ends.{fault_of};
 ghost use Rattle.mb_console.specs.Ending.{HasInput, StopsAt};
@@ -18,7 +18,8 @@ use mb_host::Host;
 use mb_image::{ImageEnd, stand_for};
 use mb_lms::HashCount;
 use mb_migrate::migrate;
-use mb_model::{CODE_LIMIT, Place, Role, State};
+use mb_model::{CODE_LIMIT, State};
+use mb_model_commands::{Place, Role};
 use std::alloc::Global;
 use std::sync::ledger::Ledger;
 
@@ -28,7 +29,7 @@ pub struct CodeForm;
 
 impl Form for CodeForm {
     ghost use Rattle.std.specs.Prelude.{ℕ, List, []};
-    ghost use Rattle.mb_model.specs.Inputs.{code_input};
+    ghost use Rattle.mb_model_commands.specs.Inputs.{code_input};
 
     type Value = Vec<u8>;
 

@@ -2,7 +2,8 @@
 
 use mb_bytes::read_public_key;
 use mb_console::{Form, Unread};
-use mb_model::{Keyfile, Place, PublicKey};
+use mb_model::{Keyfile, PublicKey};
+use mb_model_commands::Place;
 use mb_officer::read_keyfile;
 use std::alloc::Global;
 
@@ -12,8 +13,8 @@ pub struct Leading<const N: usize>;
 
 impl<const N: usize> Form for Leading<N> {
     ghost use Rattle.std.specs.Prelude.{ℕ, List, []};
-    ghost use Rattle.mb_model.specs.declared.role.Role.TheVariants.{Noise};
-    ghost use Rattle.mb_model.specs.Inputs.{leading_input};
+    ghost use Rattle.mb_model_commands.specs.declared.role.Role.TheVariants.{Noise};
+    ghost use Rattle.mb_model_commands.specs.Inputs.{leading_input};
 
     type Value = [u8; N];
 
@@ -42,7 +43,7 @@ pub struct KeyForm;
 impl Form for KeyForm {
     ghost use Rattle.std.specs.Prelude.{[]};
     ghost use Rattle.mb_model.specs.declared.tools.Keyfile.{Keyfile};
-    ghost use Rattle.mb_model.specs.Inputs.{key_input};
+    ghost use Rattle.mb_model_commands.specs.Inputs.{key_input};
 
     type Value = Keyfile;
 
@@ -71,7 +72,7 @@ pub struct PublicKeyForm;
 impl Form for PublicKeyForm {
     ghost use Rattle.std.specs.Prelude.{[]};
     ghost use Rattle.mb_model.specs.declared.key.PublicKey.{PublicKey};
-    ghost use Rattle.mb_model.specs.Inputs.{root_input};
+    ghost use Rattle.mb_model_commands.specs.Inputs.{root_input};
 
     type Value = PublicKey;
 

@@ -1,7 +1,8 @@
 //! The forms of the orders among the inputs: the draft of an order, and the line of one.
 
 use mb_console::{Form, Unread};
-use mb_model::{Order, Place};
+use mb_model::Order;
+use mb_model_commands::Place;
 use mb_officer::{DraftEnd, OrderLineEnd, read_draft, read_order_line};
 use std::alloc::Global;
 
@@ -13,7 +14,7 @@ impl Form for DraftForm {
     ghost use Rattle.std.specs.Prelude.{[]};
     ghost use Rattle.mb_model.specs.declared.order.Order.{Order};
     ghost use Rattle.mb_model.specs.OrderFormat.{order_format};
-    ghost use Rattle.mb_model.specs.Inputs.{draft_input};
+    ghost use Rattle.mb_model_commands.specs.Inputs.{draft_input};
 
     type Value = Order;
 
@@ -44,7 +45,7 @@ impl Form for OrderLine {
     ghost use Rattle.std.specs.Prelude.{[]};
     ghost use Rattle.mb_model.specs.declared.order.Order.{Order};
     ghost use Rattle.mb_model.specs.OrderFormat.{order_format};
-    ghost use Rattle.mb_model.specs.Inputs.{order_input};
+    ghost use Rattle.mb_model_commands.specs.Inputs.{order_input};
 
     type Value = Order;
 

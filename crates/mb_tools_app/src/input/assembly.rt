@@ -2,7 +2,8 @@
 
 use mb_appvm::{AsmEnd, assemble};
 use mb_console::{Form, Unread};
-use mb_model::{Bytes, Place};
+use mb_model::Bytes;
+use mb_model_commands::Place;
 use std::alloc::Global;
 
 /// An assembler text, whose value is a code of at most 32,768 bytes.

@@ -10,7 +10,8 @@ ghost use Rattle.mb_tools_app.specs.Reads.{HasListing};
 use mb_appvm::{DisasmEnd, disassemble};
 use mb_console::{End, read_input};
 use mb_host::Host;
-use mb_model::{Bytes, CODE_LIMIT, Place, Role};
+use mb_model::{Bytes, CODE_LIMIT};
+use mb_model_commands::{Place, Role};
 use std::alloc::Global;
 
 /// Reads a code, and lists it: the text has the line of each of its instructions.

@@ -1,5 +1,5 @@
 use Rattle.std.proofs.Common.{◌++◌, List, ℕ, codes, subst}
-use Rattle.mb_model.specs.Commands.{SaysLine}
+use Rattle.mb_model_commands.specs.Commands.{SaysLine}
 use Rattle.mb_console.proofs.end.say.Goals as goal
 
 pub returns-in-NotRead : goal.returns-in-NotRead

@@ -1,6 +1,6 @@
 use Rattle.std.proofs.Common.{map}
 use Rattle.std.proofs.lemmas.Result.{err_from_is_err_and}
-use Rattle.mb_model.specs.Commands.{print}
+use Rattle.mb_model_commands.specs.Commands.{print}
 use Rattle.mb_console.specs.Outputs.{output_of}
 use Rattle.mb_console.proofs.OutputLemmas.{alone_written, stops_carried}
 use Rattle.mb_console.proofs.output.finish.Goals as goal

@@ -1,6 +1,6 @@
 use Rattle.std.proofs.Common.{◌≤◌, ℕ, List, ◌++◌, length, sym, ap, subst, ◌∙◌}
 use Rattle.std.specs.Int.{div_ceil}
-use Rattle.mb_model.specs.Workload.{DrawnBytes}
+use Rattle.mb_model_commands.specs.Workload.{DrawnBytes}
 use Rattle.mb_generate.specs.Drawing.{IsDrawn}
 use Rattle.mb_generate.proofs.Drawings.{AreBytes, no_bytes, four_more, bytes_drawn, bytes_taken}
 use Rattle.mb_generate.proofs.draws.draw_bytes.Goals as goal

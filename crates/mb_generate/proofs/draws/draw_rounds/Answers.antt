@@ -1,6 +1,6 @@
 use Rattle.std.proofs.Common.{◌+◌, List, map, sym, ap, subst, ◌∙◌}
 use Rattle.std.proofs.lemmas.List.{map_push}
-use Rattle.mb_model.specs.Workload.{RoundDraws, DrawnRound}
+use Rattle.mb_model_commands.specs.Workload.{RoundDraws, DrawnRound}
 use Rattle.mb_generate.specs.Drawing.{IsDrawn, DrawnEach, round_of}
 use Rattle.mb_generate.proofs.Drawings.{one_more_drawn}
 use Rattle.mb_generate.proofs.draws.draw_rounds.Goals as goal

@@ -1,5 +1,5 @@
 use Rattle.std.proofs.Common.{map}
-use Rattle.mb_model.specs.Workload.{DrawnRound}
+use Rattle.mb_model_commands.specs.Workload.{DrawnRound}
 use Rattle.mb_generate.specs.Drawing.{IsDrawn, DrawnEach, round_of}
 use Rattle.mb_generate.proofs.draws.draw_rounds.Given as goal
 

@@ -1,5 +1,5 @@
 use Rattle.std.proofs.Common.{◌+◌, List, ℕ, sym, subst}
-use Rattle.mb_model.specs.Workload.{DrawnValue}
+use Rattle.mb_model_commands.specs.Workload.{DrawnValue}
 use Rattle.mb_generate.specs.Drawing.{IsDrawn, DrawnEach}
 use Rattle.mb_generate.proofs.Drawings.{one_more_drawn}
 use Rattle.mb_generate.proofs.draws.draw_values.Goals as goal

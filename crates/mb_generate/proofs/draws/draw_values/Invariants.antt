@@ -1,4 +1,4 @@
-use Rattle.mb_model.specs.Workload.{DrawnValue}
+use Rattle.mb_model_commands.specs.Workload.{DrawnValue}
 use Rattle.mb_generate.specs.Drawing.{IsDrawn, DrawnEach}
 use Rattle.mb_generate.proofs.draws.draw_values.Given as goal
 

@@ -1,9 +1,9 @@
 use Rattle.std.proofs.Common.{ap, ◌∙◌, arith}
 use Rattle.mb_model.specs.declared.order.KeyKind.TheVariants as kinds
-use Rattle.mb_model.specs.Workload.{plan_payload}
 use Rattle.std.proofs.lemmas.Result.{on_ok_weaker}
 use Rattle.mb_model.specs.declared.order.Payload.{Payload}
 use Rattle.mb_model.specs.declared.order.Act.TheVariants as act
+use Rattle.mb_model_commands.specs.Workload.{plan_payload}
 use Rattle.mb_generate.specs.Orders.{targeted}
 use Rattle.mb_generate.proofs.Scripting.{first_put}
 use Rattle.mb_generate.specs.Drawing.{draws_of}

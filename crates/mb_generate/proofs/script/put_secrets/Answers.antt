@@ -1,6 +1,6 @@
 use Rattle.std.proofs.Common.{ℕ, List, ◌++◌, sym, ap, ◌∙◌, append-nil, arith}
 use Rattle.mb_model.specs.Texts.{line_with_lf}
-use Rattle.mb_model.specs.Workload.{put_line}
+use Rattle.mb_model_commands.specs.Workload.{put_line}
 use Rattle.mb_generate.proofs.Scripting.{puts_none, secret_put}
 use Rattle.mb_generate.proofs.script.put_secrets.Goals as goal
 

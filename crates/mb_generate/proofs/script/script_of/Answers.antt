@@ -1,5 +1,5 @@
 use Rattle.std.proofs.Common.{◌≡◌, ◌+◌, ◌<◌, ◌≤◌, ℕ, List, [], ◌∷◌, ◌++◌, length, get_or, sym, ap, subst, ◌∙◌, refl, arith}
-use Rattle.mb_model.specs.Workload.{Draws, Plan, plans}
+use Rattle.mb_model_commands.specs.Workload.{Draws, Plan, plans}
 use Rattle.mb_generate.specs.declared.draws.RoundDrawn.{RoundDrawn}
 use Rattle.mb_generate.specs.Drawing.{draws_of}
 use Rattle.mb_generate.specs.Orders.{HaveUsed}

@@ -1,6 +1,6 @@
 use Rattle.std.proofs.Common.{◌≡◌, ◌+◌, ◌*◌, ◌≤◌, take, map}
 use Rattle.mb_model.specs.Lines.{text_of}
-use Rattle.mb_model.specs.Workload.{plans}
+use Rattle.mb_model_commands.specs.Workload.{plans}
 use Rattle.mb_generate.specs.Drawing.{round_of, draws_of}
 use Rattle.mb_generate.specs.Orders.{AreOfficers, HaveUsed}
 use Rattle.mb_generate.specs.Scripts.{with_rounds, lines_before_end}

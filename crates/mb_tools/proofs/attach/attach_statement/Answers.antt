@@ -1,5 +1,5 @@
 use Rattle.std.proofs.Common.{◌≡◌, true, false, is_some, sym, ◌∙◌, ap, subst}
-use Rattle.mb_model.specs.ChainCommands.{write_entries}
+use Rattle.mb_model_commands.specs.ChainCommands.{write_entries}
 use Rattle.mb_tools.specs.Names.{attach_files}
 use Rattle.mb_console.specs.Ending.{CarriesOut}
 use Rattle.mb_tools.proofs.ChainLemmas.{none_there, statement_attached, has_statement}

@@ -1,9 +1,9 @@
 use Rattle.std.proofs.Common.{ℕ, List, Some, None, Err, refl, sym, subst}
 use Rattle.std.proofs.lemmas.Result.{err_from_is_err_and}
-use Rattle.mb_model.specs.Inputs.{chain_bytes_input}
 use Rattle.mb_model.specs.Valid.{Valid}
-use Rattle.mb_model.specs.AuditCommand.{audit_chain, audit_under}
-use Rattle.mb_model.specs.Commands.{at_first}
+use Rattle.mb_model_commands.specs.Inputs.{chain_bytes_input}
+use Rattle.mb_model_commands.specs.AuditCommand.{audit_chain, audit_under}
+use Rattle.mb_model_commands.specs.Commands.{at_first}
 use Rattle.mb_model_memory.specs.Storable.{Storable}
 use Rattle.mb_tools.specs.Names.{audit_files}
 use Rattle.mb_console.specs.Ending.{CarriesOut}

@@ -1,5 +1,5 @@
 use Rattle.std.proofs.Common.{refl, ◌∙◌}
-use Rattle.mb_model.specs.Commands.{at_first}
+use Rattle.mb_model_commands.specs.Commands.{at_first}
 use Rattle.mb_tools.specs.Names.{keygen_files}
 use Rattle.mb_console.proofs.CommandLemmas.{memory_here}
 use Rattle.mb_tools.proofs.KeygenLemmas.{key_written}

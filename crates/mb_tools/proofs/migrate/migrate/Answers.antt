@@ -1,7 +1,7 @@
 use Rattle.std.proofs.Common.{refl}
 use Rattle.std.proofs.lemmas.Result.{err_from_is_err_and}
-use Rattle.mb_model.specs.MigrateCommand.{old_image_input, migrate, write_migrated_image}
-use Rattle.mb_model.specs.Commands.{at_first}
+use Rattle.mb_model_commands.specs.MigrateCommand.{old_image_input, migrate, write_migrated_image}
+use Rattle.mb_model_commands.specs.Commands.{at_first}
 use Rattle.mb_tools.specs.Names.{migrate_files}
 use Rattle.mb_console.proofs.CommandLemmas.{input_carried_out}
 use Rattle.mb_tools.proofs.MigrateLemmas.{migrated_carried_out}

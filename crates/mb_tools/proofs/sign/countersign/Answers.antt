@@ -1,8 +1,8 @@
 use Rattle.std.proofs.Common.{refl}
 use Rattle.std.proofs.lemmas.Result.{err_from_is_err_and}
-use Rattle.mb_model.specs.Inputs.{key_input}
-use Rattle.mb_model.specs.Sign.{countersign, countersign_order}
-use Rattle.mb_model.specs.Commands.{at_first}
+use Rattle.mb_model_commands.specs.Inputs.{key_input}
+use Rattle.mb_model_commands.specs.Sign.{countersign, countersign_order}
+use Rattle.mb_model_commands.specs.Commands.{at_first}
 use Rattle.mb_tools.specs.Names.{countersign_files}
 use Rattle.mb_console.proofs.CommandLemmas.{input_carried_out, read_on}
 use Rattle.mb_tools.proofs.sign.countersign.Goals as goal

@@ -1,8 +1,8 @@
 use Rattle.std.proofs.Common.{Err, refl, ap}
 use Rattle.std.proofs.lemmas.Result.{err_from_is_err_and}
-use Rattle.mb_model.specs.Inputs.{order_input}
 use Rattle.mb_model.specs.SignedOrders.{IsCountersignable}
-use Rattle.mb_model.specs.Commands.{at_first}
+use Rattle.mb_model_commands.specs.Inputs.{order_input}
+use Rattle.mb_model_commands.specs.Commands.{at_first}
 use Rattle.mb_tools.specs.Names.{countersign_files}
 use Rattle.mb_console.proofs.CommandLemmas.{input_carried_out}
 use Rattle.mb_tools.proofs.SignLemmas.{never_both, order_countersigned, order_not_countersigned}

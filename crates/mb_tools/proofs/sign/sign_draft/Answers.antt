@@ -1,7 +1,7 @@
 use Rattle.std.proofs.Common.{Err, refl, ap}
 use Rattle.std.proofs.lemmas.Result.{err_from_is_err_and}
-use Rattle.mb_model.specs.Inputs.{draft_input}
-use Rattle.mb_model.specs.Commands.{at_first}
+use Rattle.mb_model_commands.specs.Inputs.{draft_input}
+use Rattle.mb_model_commands.specs.Commands.{at_first}
 use Rattle.mb_tools.specs.Names.{sign_files}
 use Rattle.mb_console.proofs.CommandLemmas.{input_carried_out}
 use Rattle.mb_tools.proofs.SignLemmas.{never_both, draft_signed, draft_not_signed}

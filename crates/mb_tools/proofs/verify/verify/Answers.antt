@@ -1,8 +1,8 @@
 use Rattle.std.proofs.Common.{refl}
 use Rattle.std.proofs.lemmas.Result.{err_from_is_err_and}
-use Rattle.mb_model.specs.Inputs.{root_input}
-use Rattle.mb_model.specs.VerifyCommand.{verify, verify_under}
-use Rattle.mb_model.specs.Commands.{at_first}
+use Rattle.mb_model_commands.specs.Inputs.{root_input}
+use Rattle.mb_model_commands.specs.VerifyCommand.{verify, verify_under}
+use Rattle.mb_model_commands.specs.Commands.{at_first}
 use Rattle.mb_tools.specs.Names.{verify_files}
 use Rattle.mb_console.proofs.CommandLemmas.{input_carried_out, read_on}
 use Rattle.mb_tools.proofs.verify.verify.Goals as goal

@@ -1,9 +1,9 @@
 use Rattle.std.proofs.Common.{ℕ, List, refl, subst}
 use Rattle.std.proofs.lemmas.Result.{err_from_is_err_and}
-use Rattle.mb_model.specs.Inputs.{chain_bytes_input}
 use Rattle.mb_model.specs.Acceptance.{Accepts, IsRefused}
-use Rattle.mb_model.specs.VerifyCommand.{verify_chain}
-use Rattle.mb_model.specs.Commands.{at_first}
+use Rattle.mb_model_commands.specs.Inputs.{chain_bytes_input}
+use Rattle.mb_model_commands.specs.VerifyCommand.{verify_chain}
+use Rattle.mb_model_commands.specs.Commands.{at_first}
 use Rattle.mb_verifier.specs.Ends.{chain_refusal_of}
 use Rattle.mb_tools.specs.Names.{verify_files}
 use Rattle.mb_console.proofs.CommandLemmas.{input_carried_out, read_on}

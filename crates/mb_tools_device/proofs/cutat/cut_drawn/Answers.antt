@@ -1,5 +1,5 @@
 use Rattle.std.proofs.Common.{refl, inl}
-use Rattle.mb_model.specs.Commands.{at_first}
+use Rattle.mb_model_commands.specs.Commands.{at_first}
 use Rattle.mb_console.proofs.CommandLemmas.{finds, memory_unfound}
 use Rattle.mb_tools_device.specs.CutCommand.{IsCutRun, serve_first}
 use Rattle.mb_tools_device.specs.Names.{cut_files}

@@ -1,6 +1,6 @@
 use Rattle.std.proofs.Common.{refl, inl}
 use Rattle.std.proofs.lemmas.Result.{err_from_is_err_and}
-use Rattle.mb_model.specs.Commands.{at_first}
+use Rattle.mb_model_commands.specs.Commands.{at_first}
 use Rattle.mb_console.proofs.CommandLemmas.{input_carried_out, read_on}
 use Rattle.mb_tools_device.specs.CutCommand.{uncut_script_input, read_cut_noise}
 use Rattle.mb_tools_device.specs.Names.{cut_files}

@@ -1,7 +1,7 @@
 use Rattle.std.proofs.Common.{refl, inl}
 use Rattle.std.proofs.lemmas.Result.{err_from_is_err_and}
-use Rattle.mb_model.specs.Commands.{at_first}
-use Rattle.mb_model.specs.Inputs.{draws_input}
+use Rattle.mb_model_commands.specs.Commands.{at_first}
+use Rattle.mb_model_commands.specs.Inputs.{draws_input}
 use Rattle.mb_console.proofs.CommandLemmas.{input_carried_out, read_on}
 use Rattle.mb_tools_device.specs.CutCommand.{serve_twice}
 use Rattle.mb_tools_device.specs.Names.{cut_files}

@@ -3,8 +3,8 @@ use Rattle.mb_model.specs.declared.event.Event.{Event}
 use Rattle.mb_model.specs.Machine.{opening_world}
 use Rattle.mb_board.specs.Calls.{Seen}
 use Rattle.mb_model.specs.Board.{Used, IsLoaded, image_of, use_of, loaded_once_more, having_answered}
-use Rattle.mb_model.specs.Commands.{serve}
-use Rattle.mb_model.specs.RunCommand.{IsServed}
+use Rattle.mb_model_commands.specs.Commands.{serve}
+use Rattle.mb_model_commands.specs.RunCommand.{IsServed}
 use Rattle.mb_console.proofs.CommandLemmas.{memory_unloaded, load_goes, serve_goes}
 use Rattle.mb_tools_device.specs.CutCommand.{IsCutServed, tell_cut}
 use Rattle.mb_tools_device.proofs.CutLemmas.{served_past}

@@ -3,7 +3,7 @@ use Rattle.mb_model.specs.declared.event.Answered.{Answered}
 use Rattle.mb_model.specs.Machine.{opening_world}
 use Rattle.mb_board.specs.Calls.{Seen}
 use Rattle.mb_model.specs.Board.{Ledger, Used, IsLoaded, image_of, not_used, use_of, having_answered}
-use Rattle.mb_model.specs.Commands.{at_first, load, rehearse, serve}
+use Rattle.mb_model_commands.specs.Commands.{at_first, load, rehearse, serve}
 use Rattle.mb_console.specs.Ending.{CarriesOutRest}
 use Rattle.mb_console.proofs.CommandLemmas.{memory_unloaded}
 use Rattle.mb_tools_device.specs.CutCommand.{AnyLacksMemory, IsRehearsed, IsCutServed, tell_cut, serve_cut}

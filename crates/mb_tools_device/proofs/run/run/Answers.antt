@@ -1,8 +1,8 @@
 use Rattle.std.proofs.Common.{refl, inl}
 use Rattle.std.proofs.lemmas.Result.{err_from_is_err_and}
-use Rattle.mb_model.specs.Inputs.{image_input}
-use Rattle.mb_model.specs.RunCommand.{run, read_script}
-use Rattle.mb_model.specs.Commands.{at_first}
+use Rattle.mb_model_commands.specs.Inputs.{image_input}
+use Rattle.mb_model_commands.specs.RunCommand.{run, read_script}
+use Rattle.mb_model_commands.specs.Commands.{at_first}
 use Rattle.mb_tools_device.specs.Names.{run_files}
 use Rattle.mb_console.proofs.CommandLemmas.{input_carried_out, read_on}
 use Rattle.mb_tools_device.proofs.run.run.Goals as goal

@@ -2,7 +2,7 @@ use Rattle.std.proofs.Common.{refl, ◌∙◌, ap, inl, inr, arith}
 use Rattle.mb_model.specs.Machine.{opening_world}
 use Rattle.mb_board.specs.Calls.{Seen}
 use Rattle.mb_model.specs.Board.{Used, not_used, use_of, having_answered}
-use Rattle.mb_model.specs.Commands.{at_first}
+use Rattle.mb_model_commands.specs.Commands.{at_first}
 use Rattle.mb_tools_device.specs.Names.{run_files}
 use Rattle.mb_console.proofs.CommandLemmas.{memory_unloaded}
 use Rattle.mb_tools_device.proofs.RunLemmas.{loaded_shows, loaded_between, loaded_once, served_once, answered_count, loaded_use, served_whole, events_served}

@@ -1,9 +1,9 @@
 use Rattle.std.proofs.Common.{refl, inl}
 use Rattle.std.proofs.lemmas.Result.{err_from_is_err_and}
-use Rattle.mb_model.specs.Commands.{at_first}
-use Rattle.mb_model.specs.RunCommand.{serve_events}
+use Rattle.mb_model_commands.specs.Commands.{at_first}
+use Rattle.mb_model_commands.specs.RunCommand.{serve_events}
+use Rattle.mb_model_commands.specs.Inputs.{draws_input}
 use Rattle.mb_tools_device.specs.Names.{run_files}
-use Rattle.mb_model.specs.Inputs.{draws_input}
 use Rattle.mb_console.proofs.CommandLemmas.{input_carried_out, read_on}
 use Rattle.mb_tools_device.proofs.run.run_events.Goals as goal
 

@@ -1,7 +1,7 @@
 use Rattle.std.proofs.Common.{refl}
 use Rattle.std.proofs.lemmas.Result.{err_from_is_err_and}
-use Rattle.mb_model.specs.Inputs.{root_input}
-use Rattle.mb_model.specs.Commands.{at_first}
+use Rattle.mb_model_commands.specs.Inputs.{root_input}
+use Rattle.mb_model_commands.specs.Commands.{at_first}
 use Rattle.mb_console.proofs.CommandLemmas.{input_carried_out, read_on}
 use Rattle.mb_tools_fleet.specs.FleetCommand.{fleet, fleet_under}
 use Rattle.mb_tools_fleet.specs.FleetWords.{fleet_files}

@@ -1,5 +1,5 @@
 use Rattle.std.proofs.Common.{refl, ◌∙◌, ap}
-use Rattle.mb_model.specs.Commands.{at_first}
+use Rattle.mb_model_commands.specs.Commands.{at_first}
 use Rattle.mb_hss.specs.HssKeyFormat.{hss_key_format}
 use Rattle.mb_hss.specs.MakerKeys.{maker_key}
 use Rattle.mb_console.proofs.CommandLemmas.{memory_here}

@@ -1,6 +1,6 @@
 use Rattle.std.proofs.Common.{map, string_bytes, [], refl, ◌∙◌, subst}
 use Rattle.mb_model.specs.Board.{not_used}
-use Rattle.mb_model.specs.Commands.{PrintEnds, at_first}
+use Rattle.mb_model_commands.specs.Commands.{PrintEnds, at_first}
 use Rattle.mb_console.specs.Ending.{ended_at}
 use Rattle.mb_top.specs.Usage.{usage}
 use Rattle.mb_top.proofs.CommandLineLemmas.{help_carried_out, version_carried_out, other_carried_out}

@@ -3,15 +3,15 @@ use Rattle.std.specs.Prelude.{◌≡◌, ◌≢◌, ℕ, ◌≤◌, ◌⊎◌, B
 use Rattle.std.specs.Fmt.{decimal}
 use Rattle.mb_format.specs.Format.{IsBytes}
 use Rattle.mb_model.specs.declared.event.Answered.{Answered}
-use Rattle.mb_model.specs.declared.role.Role.{Role}
-use Rattle.mb_model.specs.declared.role.Role.TheVariants as role
-use Rattle.mb_model.specs.declared.role.Place.{Place}
-use Rattle.mb_model.specs.declared.role.Place.TheVariants as fault
 use Rattle.mb_model.specs.Texts.{line_with_lf}
 use Rattle.mb_model.specs.declared.limits.TheConstants.{FILE_LIMIT}
-use Rattle.mb_model.specs.Outside.{Outside, HasRisen, HoldsFile, HoldsTooMuch, read_once, FailsToRead}
-use Rattle.mb_model.specs.Outside.{WritesFile, FailsToWrite, Prints, FailsToPrint}
 use Rattle.mb_model.specs.Board.{Held, Used, not_used, loaded_once_more, having_answered}
+use Rattle.mb_model_commands.specs.declared.role.Role.{Role}
+use Rattle.mb_model_commands.specs.declared.role.Role.TheVariants as role
+use Rattle.mb_model_commands.specs.declared.role.Place.{Place}
+use Rattle.mb_model_commands.specs.declared.role.Place.TheVariants as fault
+use Rattle.mb_model_commands.specs.Outside.{Outside, HasRisen, HoldsFile, HoldsTooMuch, read_once, FailsToRead}
+use Rattle.mb_model_commands.specs.Outside.{WritesFile, FailsToWrite, Prints, FailsToPrint}
 
 -- ---- words
 

@@ -14,7 +14,6 @@ use Rattle.mb_model.specs.declared.order.Act.{Act}
 use Rattle.mb_model.specs.declared.order.Act.TheVariants as act
 use Rattle.mb_model.specs.declared.order.Target.TheVariants as target
 use Rattle.mb_model.specs.declared.order.Order.{Order}
-use Rattle.mb_model.specs.declared.tools.Workload.{Workload}
 use Rattle.mb_model.specs.Born.{officer_key}
 use Rattle.mb_model.specs.Signing.{public_of, signature_of}
 use Rattle.mb_model.specs.Layers.{equal_trusts}
@@ -25,6 +24,7 @@ use Rattle.mb_model.specs.OrderLines.{order_line}
 use Rattle.mb_model.specs.Rules.{kind_of, change_of, signing_layer}
 use Rattle.mb_model.specs.Lines.{text_of, spaced_words, hex_word}
 use Rattle.mb_model.specs.Script.{with_before}
+use Rattle.mb_model_commands.specs.declared.workload.Workload.{Workload}
 
 -- ---- what is drawn
 

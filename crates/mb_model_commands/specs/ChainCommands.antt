@@ -1,19 +1,17 @@
 -- What the commands `chain` and `attach` do. Is what a device hands out accepted wherever its maker is trusted?
-use Rattle.std.specs.Prelude.{◌≡◌, ◌≢◌, ℕ, List, ◌++◌, length, codes, Option, None, Some}
+use Rattle.std.specs.Prelude.{◌≢◌, ℕ, List, ◌++◌, length, codes, Option, None, Some}
 use Rattle.std.specs.Fmt.{decimal}
 use Rattle.mb_format.specs.Format.{Spells}
-use Rattle.mb_model.specs.declared.key.PublicKey.{PublicKey}
 use Rattle.mb_model.specs.declared.entry.Chain.{Chain}
 use Rattle.mb_model.specs.declared.entry.Statement.{Statement}
-use Rattle.mb_model.specs.declared.role.Role.TheVariants as role
 use Rattle.mb_model.specs.declared.state.State.{State}
 use Rattle.mb_model.specs.Texts.{line_with_lf}
-use Rattle.mb_model.specs.Log.{entries_of}
 use Rattle.mb_model.specs.ChainFormat.{chain_format}
-use Rattle.mb_model.specs.Attach.{bare_chain, stated_chain}
-use Rattle.mb_model.specs.Acceptance.{IsBornOf, AreGood, KeyEntry, key_of, report_of, Accepts}
-use Rattle.mb_model.specs.Commands.{Command, read, find, either_command, write, print, refuse}
-use Rattle.mb_model.specs.Inputs.{image_input, chain_input, statement_input}
+use Rattle.mb_model.specs.Attach.{stated_chain}
+use Rattle.mb_model.specs.DeviceChains.{IsChainOf}
+use Rattle.mb_model_commands.specs.declared.role.Role.TheVariants as role
+use Rattle.mb_model_commands.specs.Commands.{Command, read, find, either_command, write, print, refuse}
+use Rattle.mb_model_commands.specs.Inputs.{image_input, chain_input, statement_input}
 
 -- the names of the files of `chain`
 pub record ChainNames : Type 0 where
@@ -37,16 +35,6 @@ write_entries out chain = find (λ bytes. Spells chain_format bytes chain) (λ b
     (print (entries_text (length chain.entries))))
 
 -- ---- chain
-
--- The chain is the whole log of a device, without a statement. Under each key that signed the device's birth, no entry
--- is refused, and the chain is accepted for each key that was born in a region.
-pub record IsChainOf (state : State) (chain : Chain) : Type 0 where
-  pub is : chain ≡ bare_chain state.log
-  pub good : (maker : PublicKey) → IsBornOf maker state.log → AreGood maker chain.entries
-  pub accepted : (maker : PublicKey) (bytes : List ℕ) (key_number : ℕ) (made : KeyEntry)
-      → IsBornOf maker state.log → Spells chain_format bytes chain
-      → key_of (entries_of state.log) key_number ≡ Some made
-      → Accepts maker bytes key_number (report_of chain key_number made)
 
 -- writes the chain of a live device; refuses a dead one, which has no log
 abbrev pub chain_of : ChainNames → Option State → Command

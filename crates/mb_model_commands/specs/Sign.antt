@@ -1,15 +1,15 @@
 -- What the commands `sign` and `countersign` do. Is one index used for one signature, and is the draft what was signed?
 use Rattle.std.specs.Prelude.{◌≡◌, ℕ, List, ◌++◌, codes}
 use Rattle.std.specs.Fmt.{decimal}
-use Rattle.mb_model.specs.declared.role.Role.TheVariants as role
 use Rattle.mb_model.specs.declared.order.Order.{Order}
 use Rattle.mb_model.specs.declared.tools.Keyfile.{Keyfile}
 use Rattle.mb_model.specs.KeyFormat.{keyfile_format}
 use Rattle.mb_model.specs.Texts.{line_with_lf}
 use Rattle.mb_model.specs.OrderLines.{order_line}
 use Rattle.mb_model.specs.SignedOrders.{keyfile_after_use, signed_order, countersigned_order, IsCountersignable}
-use Rattle.mb_model.specs.Commands.{Command, read, either_command, write, print, refuse}
-use Rattle.mb_model.specs.Inputs.{key_input, draft_input, order_input}
+use Rattle.mb_model_commands.specs.declared.role.Role.TheVariants as role
+use Rattle.mb_model_commands.specs.Commands.{Command, read, either_command, write, print, refuse}
+use Rattle.mb_model_commands.specs.Inputs.{key_input, draft_input, order_input}
 
 -- the names of the files of `sign`
 pub record SignNames : Type 0 where

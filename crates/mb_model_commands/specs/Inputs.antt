@@ -3,10 +3,6 @@
 use Rattle.std.specs.Prelude.{◌≡◌, ℕ, ◌<◌, ◌≤◌, List, length, take, Option}
 use Rattle.mb_format.specs.Format.{Format, IsBytes, Spells, FailsWhole}
 use Rattle.mb_model.specs.declared.limits.TheConstants.{DRAW_LENGTH, CODE_LIMIT}
-use Rattle.mb_model.specs.declared.role.Role.{Role}
-use Rattle.mb_model.specs.declared.role.Role.TheVariants as role
-use Rattle.mb_model.specs.declared.role.Place.{Place}
-use Rattle.mb_model.specs.declared.role.Place.TheVariants as fault
 use Rattle.mb_model.specs.declared.key.PublicKey.{PublicKey}
 use Rattle.mb_model.specs.declared.entry.Chain.{Chain}
 use Rattle.mb_model.specs.declared.entry.Statement.{Statement}
@@ -23,7 +19,11 @@ use Rattle.mb_model.specs.Script.{IsScript, IsShortNoise, Drawn}
 use Rattle.mb_model.specs.Meaning.{IsWellFormed}
 use Rattle.mb_model.specs.Faults.{Fault, HasFault, bad_length, bad_root, bad_public, bad_region_two}
 use Rattle.mb_model.specs.Faults.{bad_region_three, bad_state}
-use Rattle.mb_model.specs.Commands.{Input}
+use Rattle.mb_model_commands.specs.declared.role.Role.{Role}
+use Rattle.mb_model_commands.specs.declared.role.Role.TheVariants as role
+use Rattle.mb_model_commands.specs.declared.role.Place.{Place}
+use Rattle.mb_model_commands.specs.declared.role.Place.TheVariants as fault
+use Rattle.mb_model_commands.specs.Commands.{Input}
 
 -- No bytes both mean a value and are at fault, so an input at fault ends its command.
 abbrev pub IsClearInput : {A : Type 0} → Input A → Type 0

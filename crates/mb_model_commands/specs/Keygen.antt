@@ -3,15 +3,15 @@
 use Rattle.std.specs.Prelude.{ℕ, List, ◌++◌, codes}
 use Rattle.sha2.specs.Sha256.{sha256}
 use Rattle.hex.specs.Hex.{encode_lower}
-use Rattle.mb_model.specs.declared.role.Role.TheVariants as role
 use Rattle.mb_model.specs.declared.tools.Keyfile.{Keyfile}
 use Rattle.mb_model.specs.Key.{key_bytes}
 use Rattle.mb_model.specs.Born.{officer_key}
 use Rattle.mb_model.specs.Signing.{public_of}
 use Rattle.mb_model.specs.KeyFormat.{keyfile_format}
 use Rattle.mb_model.specs.Texts.{line_with_lf}
-use Rattle.mb_model.specs.Commands.{Command, read, write, print}
-use Rattle.mb_model.specs.Inputs.{key_noise_input}
+use Rattle.mb_model_commands.specs.declared.role.Role.TheVariants as role
+use Rattle.mb_model_commands.specs.Commands.{Command, read, write, print}
+use Rattle.mb_model_commands.specs.Inputs.{key_noise_input}
 
 -- the names of the files
 pub record KeygenNames : Type 0 where

@@ -1,24 +1,24 @@
 -- What the command `generate` does. Is the workload that is served the same for everyone, and does the summary count
 -- what was answered?
-use Rattle.std.specs.Prelude.{◌≡◌, ℕ, List, length, Any, Option, None, Some}
+use Rattle.std.specs.Prelude.{◌≡◌, ℕ, List, length, Any, Option}
 use Rattle.sha2.specs.Sha256.{sha256}
 use Rattle.mb_model.specs.declared.event.Event.{Event}
 use Rattle.mb_model.specs.declared.event.Answered.{Answered}
 use Rattle.mb_model.specs.declared.reply.Reply.TheVariants as reply
-use Rattle.mb_model.specs.declared.role.Role.TheVariants as role
 use Rattle.mb_model.specs.declared.state.State.{State}
-use Rattle.mb_model.specs.declared.tools.Workload.{Workload}
 use Rattle.mb_model.specs.Machine.{World}
 use Rattle.mb_model.specs.Board.{Held, image_of}
 use Rattle.mb_model.specs.Acknowledged.{Shows}
-use Rattle.mb_model.specs.Meaning.{IsWellFormed}
+use Rattle.mb_model.specs.Meaning.{IsWellFormed, log_length}
 use Rattle.mb_model.specs.Lines.{ReadsLines, text_of}
 use Rattle.mb_model.specs.Script.{IsScript, Drawn}
 use Rattle.mb_model.specs.Listing.{summary}
-use Rattle.mb_model.specs.Workload.{IsWorkload}
-use Rattle.mb_model.specs.Commands.{Command, find, either_command, load, serve, write, print, lack}
-use Rattle.mb_model.specs.Inputs.{Image}
-use Rattle.mb_model.specs.RunCommand.{IsServed}
+use Rattle.mb_model_commands.specs.declared.role.Role.TheVariants as role
+use Rattle.mb_model_commands.specs.declared.workload.Workload.{Workload}
+use Rattle.mb_model_commands.specs.Workload.{IsWorkload}
+use Rattle.mb_model_commands.specs.Commands.{Command, find, either_command, load, serve, write, print, lack}
+use Rattle.mb_model_commands.specs.Inputs.{Image}
+use Rattle.mb_model_commands.specs.RunCommand.{IsServed}
 
 -- the number of the workload, how many rounds it has, and the names of its files
 pub record GenerateNames : Type 0 where
@@ -42,11 +42,6 @@ pub record IsPrepared (number rounds : ℕ) (made : Prepared) : Type 0 where
   pub undrawn : List Event
   pub script : ReadsLines IsScript made.files.script undrawn
   pub noise : Drawn undrawn made.files.noise made.events
-
--- how many entries a device's log has; a dead device has no log
-abbrev pub log_length : Option State → ℕ
-log_length None = 0
-log_length (Some state) = length state.log
 
 -- what the board holds shows a device whose log has this many entries
 pub record ShowsLog (final : Held) (entries : ℕ) : Type 0 where

@@ -7,8 +7,8 @@ use Rattle.mb_model.specs.Lines.{text_of}
 use Rattle.mb_model.specs.Listing.{listing}
 use Rattle.mb_model.specs.Acceptance.{ChainRefusal, bad_form, bad_signature, bad_order, breaks_rules, refusal_code}
 use Rattle.mb_model.specs.Acceptance.{Verdict, chain_acceptance, chain_rejection, IsVerdict}
-use Rattle.mb_model.specs.Commands.{Command, read, find, print, refuse}
-use Rattle.mb_model.specs.Inputs.{root_input, chain_bytes_input}
+use Rattle.mb_model_commands.specs.Commands.{Command, read, find, print, refuse}
+use Rattle.mb_model_commands.specs.Inputs.{root_input, chain_bytes_input}
 
 -- the names of the files, and the number of the key to report on
 pub record VerifyNames : Type 0 where

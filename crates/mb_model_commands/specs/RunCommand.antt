@@ -2,7 +2,6 @@
 use Rattle.std.specs.Prelude.{◌≡◌, ◌≢◌, ◌⊎◌, ℕ, List, map, All, Some}
 use Rattle.mb_model.specs.declared.event.Event.{Event}
 use Rattle.mb_model.specs.declared.event.Answered.{Answered}
-use Rattle.mb_model.specs.declared.role.Role.TheVariants as role
 use Rattle.mb_model.specs.declared.state.State.{State}
 use Rattle.mb_model.specs.Machine.{World, Run, opening_world, off}
 use Rattle.mb_model.specs.Board.{Memory, Held, IsLoaded, AreBytes, image_of}
@@ -11,8 +10,9 @@ use Rattle.mb_model.specs.Clean.{Clean}
 use Rattle.mb_model.specs.Regions.{KeptRightly}
 use Rattle.mb_model.specs.Runs.{IsSoundRun, StatementsStayAccepted}
 use Rattle.mb_model.specs.Replies.{replies_text}
-use Rattle.mb_model.specs.Inputs.{Image, image_input, script_input, draws_input}
-use Rattle.mb_model.specs.Commands.{Command, read, load, serve, write, print}
+use Rattle.mb_model_commands.specs.declared.role.Role.TheVariants as role
+use Rattle.mb_model_commands.specs.Inputs.{Image, image_input, script_input, draws_input}
+use Rattle.mb_model_commands.specs.Commands.{Command, read, load, serve, write, print}
 
 -- the names of the files
 pub record RunNames : Type 0 where

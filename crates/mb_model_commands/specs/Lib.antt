@@ -1,0 +1,13 @@
+pub mod Outside
+pub mod Commands
+pub mod Inputs
+pub mod Keygen
+pub mod Sign
+pub mod FactoryCommand
+pub mod MigrateCommand
+pub mod RunCommand
+pub mod VerifyCommand
+pub mod ChainCommands
+pub mod AuditCommand
+pub mod Workload
+pub mod GenerateCommand
