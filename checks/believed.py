@@ -130,8 +130,8 @@ def sections_of(page):
         for part in parts:
             for crate, name in NAMED.findall(part):
                 crates = [crate] if crate else [*FOLDER.findall(part), *own, *MODEL]
-                places = [pathlib.Path("crates", place, "specs", name) for place in crates]
-                files.update([place for place in places if place.exists()][:1])
+                places = [path for place in crates for path in pathlib.Path("crates", place, "specs").rglob(name)]
+                files.update(places[:1])
         sections[title] = files
     return sections
 

@@ -5,7 +5,7 @@
 # Nothing of the kit counts. A file counts whole, even if one of its definitions is enough.
 #
 #     believed.sh             each clause of `top`, and with them the traits `Host` and `Board`
-#     believed.sh FILE..      a file of definitions, as crates/mb_model/specs/Machine.antt
+#     believed.sh FILE..      a file of definitions, as crates/mb_model/specs/machine/Machine.antt
 #     believed.sh --files ..  lists the files too, each with its lines, and these constants
 set -u
 cd "$(dirname "$0")/.." || exit 2

@@ -13,7 +13,7 @@ sys.path.insert(0, "checks")
 from definitions import names_of
 
 files = {}
-for path in sorted(pathlib.Path("crates").glob("*/specs/*.antt")):
+for path in sorted(pathlib.Path("crates").glob("*/specs/**/*.antt")):
     for name in names_of(path.read_text()):
         files.setdefault(name, []).append(f"{path.parts[1]}/{path.stem}")
 doubles = {name: where for name, where in files.items() if len(where) > 1}

@@ -5,7 +5,7 @@ use Rattle.std.proofs.lemmas.List.{same_from_push}
 use Rattle.mb_format.specs.Format.{IsBytes}
 use Rattle.mb_format.proofs.Exact.{IsClear-from_exact}
 use Rattle.mb_model.specs.declared.region.Secret.{Secret}
-use Rattle.mb_model.specs.LayerEvents.{has_name}
+use Rattle.mb_model.specs.machine.LayerEvents.{has_name}
 use Rattle.mb_appvm.specs.declared.instruction.Plain.{Plain}
 use Rattle.mb_appvm.specs.declared.instruction.Plain.TheVariants as plain
 use Rattle.mb_appvm.specs.declared.instruction.Instruction.{Instruction}

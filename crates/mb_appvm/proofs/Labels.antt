@@ -5,7 +5,7 @@ use Rattle.std.specs.Str.{bytes_eq}
 use Rattle.std.proofs.lemmas.Bool.{false≢true, eq-eqb}
 use Rattle.mb_format.specs.Combinators.{same_bytes}
 use Rattle.mb_format.proofs.Fields.{same_bytes-true}
-use Rattle.mb_model.specs.Lines.{HasLines}
+use Rattle.mb_model.specs.chains.Lines.{HasLines}
 use Rattle.mb_model_lemmas.proofs.LineLemmas.{HasLines-same, HasLines-always, HasLines-nil}
 use Rattle.mb_words.specs.Words.{SplitsLine}
 use Rattle.mb_words.proofs.NextLines.{with_line}

@@ -7,8 +7,8 @@ use Rattle.std.proofs.lemmas.List.{take-append-drop, take_all, take_at, flat_map
 use Rattle.std.proofs.lemmas.List.Elements.{All-nil, All-cons, All-head, All-tail, All-push, All-append, All-weaker}
 use Rattle.std.proofs.lemmas.List.Concat.{flat_map-cons}
 use Rattle.std.proofs.lemmas.List.Sums.{sum_by-cons}
-use Rattle.mb_model.specs.Texts.{line_with_lf}
-use Rattle.mb_model.specs.Lines.{IsLine, text_of}
+use Rattle.mb_model.specs.outside.Texts.{line_with_lf}
+use Rattle.mb_model.specs.chains.Lines.{IsLine, text_of}
 use Rattle.mb_appvm.specs.declared.instruction.Instruction.{Instruction}
 use Rattle.mb_appvm.specs.declared.instruction.Instruction.TheVariants as instruction
 use Rattle.mb_appvm.specs.declared.keyword.Jump.TheVariants as jump

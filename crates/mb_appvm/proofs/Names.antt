@@ -7,7 +7,7 @@ use Rattle.std.proofs.lemmas.List.Folds.{find_at}
 use Rattle.std.proofs.lemmas.Option.{slice_get_past, slice_get-get_or}
 use Rattle.mb_format.specs.Combinators.{same_bytes}
 use Rattle.mb_model.specs.declared.region.Secret.{Secret}
-use Rattle.mb_model.specs.LayerEvents.{has_name}
+use Rattle.mb_model.specs.machine.LayerEvents.{has_name}
 use Rattle.mb_appvm.specs.Acting.{HasValue}
 
 same_is : (xs ys : List ℕ) → bytes_eq xs ys ≡ same_bytes xs ys

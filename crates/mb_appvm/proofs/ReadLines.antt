@@ -1,7 +1,7 @@
 -- How far the lines of a text have been read.
 use Rattle.std.proofs.Common.{◌≡◌, ℕ, ◌+◌, ◌<◌, ◌≤◌, List, [], ◌∷◌, ◌++◌, length, length-append, sym, ap, subst, arith, append_assoc}
 use Rattle.std.specs.List.{AllZip}
-use Rattle.mb_model.specs.Lines.{HasLines}
+use Rattle.mb_model.specs.chains.Lines.{HasLines}
 use Rattle.mb_model_lemmas.proofs.LineLemmas.{HasLines-same, HasLines-always, HasLines-nil, cons_same, cons_none}
 use Rattle.mb_words.specs.Words.{SplitsLine}
 use Rattle.mb_words.proofs.NextLines.{shorter, with_line}

@@ -7,9 +7,9 @@ use Rattle.std.specs.Fmt.{decimal}
 use Rattle.std.proofs.lemmas.Fmt.{decimal_by_steps, decimal_injective, decimal_nonempty}
 use Rattle.std.proofs.lemmas.List.Elements.{All-nil, All-cons, All-head, All-tail, All-append, All-weaker}
 use Rattle.mb_format.specs.Combinators.{same_bytes}
-use Rattle.mb_model.specs.RegionFormat.{is_name, is_name_byte}
-use Rattle.mb_model.specs.Script.{IsName}
-use Rattle.mb_model.specs.Lines.{IsNumber, number_limit}
+use Rattle.mb_model.specs.records.RegionFormat.{is_name, is_name_byte}
+use Rattle.mb_model.specs.chains.Script.{IsName}
+use Rattle.mb_model.specs.chains.Lines.{IsNumber, number_limit}
 use Rattle.mb_model_lemmas.proofs.LineLemmas.{Without, isnt, first_same, first_none}
 use Rattle.mb_appvm.specs.declared.instruction.Operation.TheVariants as op
 use Rattle.mb_appvm.specs.declared.instruction.Plain.{Plain}

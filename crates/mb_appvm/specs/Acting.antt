@@ -1,7 +1,7 @@
 -- What the code's machine means, and what acting on its stack leaves.
 use Rattle.std.specs.Prelude.{◌≡◌, ℕ, List, ◌++◌, length, find, Option, Some, None}
 use Rattle.mb_model.specs.declared.region.Secret.{Secret}
-use Rattle.mb_model.specs.LayerEvents.{has_name}
+use Rattle.mb_model.specs.machine.LayerEvents.{has_name}
 use Rattle.mb_appvm.specs.declared.instruction.Instruction.{Instruction}
 use Rattle.mb_appvm.specs.declared.instruction.Plain.{Plain}
 use Rattle.mb_appvm.specs.declared.environment.Environment.{Environment}

@@ -3,7 +3,7 @@ use Rattle.std.specs.Prelude.{◌≡◌, ℕ, zero, suc, ◌+◌, ◌-◌, ◌*�
 use Rattle.std.specs.Prelude.{bit_and, bit_or, bit_xor, List, [], ◌∷◌, ◌++◌, length, take, drop, get_or, find}
 use Rattle.std.specs.Prelude.{Option, Some, None, if◌then◌else◌}
 use Rattle.mb_model.specs.declared.region.Secret.{Secret}
-use Rattle.mb_model.specs.LayerEvents.{has_name}
+use Rattle.mb_model.specs.machine.LayerEvents.{has_name}
 use Rattle.mb_appvm.specs.declared.limits.TheConstants.{STACK_LIMIT, CALL_LIMIT, MEMORY_LENGTH, OUTPUT_LIMIT}
 use Rattle.mb_appvm.specs.declared.instruction.Operation.{Operation}
 use Rattle.mb_appvm.specs.declared.instruction.Operation.TheVariants as op

@@ -5,8 +5,8 @@ use Rattle.std.specs.List.{AllZip, list_any}
 use Rattle.std.specs.Fmt.{decimal}
 use Rattle.mb_model.specs.declared.limits.TheConstants.{CODE_LIMIT}
 use Rattle.mb_format.specs.Combinators.{same_bytes}
-use Rattle.mb_model.specs.Lines.{HasLines}
-use Rattle.mb_model.specs.Script.{IsName}
+use Rattle.mb_model.specs.chains.Lines.{HasLines}
+use Rattle.mb_model.specs.chains.Script.{IsName}
 use Rattle.mb_appvm.specs.declared.instruction.Operation.{Operation}
 use Rattle.mb_appvm.specs.declared.instruction.Operation.TheVariants as op
 use Rattle.mb_appvm.specs.declared.instruction.Plain.{Plain}

@@ -5,7 +5,7 @@ use Rattle.std.specs.List.{AllZip, list_any}
 use Rattle.std.specs.Global.{Vec}
 use Rattle.mb_model.specs.declared.limits.TheConstants.{CODE_LIMIT}
 use Rattle.mb_bytes.specs.Puts.{Appends}
-use Rattle.mb_model.specs.Lines.{HasLines}
+use Rattle.mb_model.specs.chains.Lines.{HasLines}
 use Rattle.mb_appvm.specs.declared.assembling.AsmEnd.{AsmEnd}
 use Rattle.mb_appvm.specs.declared.assembling.AsmEnd.TheVariants as end
 use Rattle.mb_appvm.specs.declared.lines.Said.{Said}

@@ -4,7 +4,7 @@ use Rattle.std.specs.Int.{w8, w16, w32}
 use Rattle.mb_model.specs.declared.limits.TheConstants.{NAME_LIMIT}
 use Rattle.mb_format.specs.Format.{Format, SpelledAt}
 use Rattle.mb_format.specs.Combinators.{number, between, table, nothing, sized_that, as_value, led}
-use Rattle.mb_model.specs.RegionFormat.{is_name}
+use Rattle.mb_model.specs.records.RegionFormat.{is_name}
 use Rattle.mb_appvm.specs.declared.instruction.Operation.TheVariants as op
 use Rattle.mb_appvm.specs.declared.instruction.Plain.{Plain}
 use Rattle.mb_appvm.specs.declared.instruction.Plain.TheVariants as plain

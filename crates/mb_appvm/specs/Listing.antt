@@ -1,7 +1,7 @@
 -- The text that is written of a code: a line for each instruction. Does it assemble to the same code?
 use Rattle.std.specs.Prelude.{◌≡◌, ◌≢◌, ℕ, ◌≤◌, List, [], ◌++◌, length, map, All, flat_map, Result, Ok, Err}
 use Rattle.mb_model.specs.declared.limits.TheConstants.{CODE_LIMIT}
-use Rattle.mb_model.specs.Lines.{text_of}
+use Rattle.mb_model.specs.chains.Lines.{text_of}
 use Rattle.mb_appvm.specs.declared.disassembling.DisasmEnd.{DisasmEnd}
 use Rattle.mb_appvm.specs.declared.disassembling.DisasmEnd.TheVariants as end
 use Rattle.mb_appvm.specs.declared.instruction.Instruction.{Instruction}

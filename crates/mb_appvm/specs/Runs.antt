@@ -5,7 +5,7 @@ use Rattle.mb_format.specs.Format.{IsBytes}
 use Rattle.mb_model.specs.declared.layer.Layers.{Layers}
 use Rattle.mb_model.specs.declared.region.Region.{Region}
 use Rattle.mb_model.specs.declared.region.Secret.{Secret}
-use Rattle.mb_model.specs.Layers.{is_upper, is_runnable}
+use Rattle.mb_model.specs.owners.Layers.{is_upper, is_runnable}
 use Rattle.mb_appvm.specs.declared.limits.TheConstants.{MEMORY_LENGTH}
 use Rattle.mb_appvm.specs.declared.running.AppEnd.{AppEnd}
 use Rattle.mb_appvm.specs.declared.running.AppEnd.TheVariants as end

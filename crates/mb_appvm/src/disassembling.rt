@@ -3,7 +3,7 @@
 ghost use Rattle.std.specs.Prelude.{◌≡◌, ◌≤◌, ◌++◌, length, IfOk};
 ghost use Rattle.std.specs.Fmt.{decimal};
 ghost use Rattle.mb_model.specs.declared.limits.TheConstants.{CODE_LIMIT};
-ghost use Rattle.mb_model.specs.Texts.{line_with_lf};
+ghost use Rattle.mb_model.specs.outside.Texts.{line_with_lf};
 ghost use Rattle.mb_bytes.specs.Puts.{Puts};
 ghost use Rattle.mb_appvm.specs.Assembly.{plain_word, operation_word, Assembles};
 ghost use Rattle.mb_appvm.specs.Listing.{instruction_line, DisassemblesTo};

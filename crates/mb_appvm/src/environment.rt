@@ -1,7 +1,7 @@
 //! What a run sees.
 
 ghost use Rattle.std.specs.Prelude.{◌≡◌, MatchOption};
-ghost use Rattle.mb_model.specs.Layers.{is_runnable};
+ghost use Rattle.mb_model.specs.owners.Layers.{is_runnable};
 ghost use Rattle.mb_appvm.specs.Runs.{is_readable};
 ghost use Rattle.mb_appvm.specs.Acting.{MayNotRead, MayRead};
 

@@ -5,7 +5,7 @@ ghost use Rattle.std.specs.Int.{w8};
 ghost use Rattle.mb_model.specs.declared.limits.TheConstants.{FILE_LIMIT, NAME_LIMIT};
 ghost use Rattle.mb_format.specs.Combinators.{table, between, sized_that};
 ghost use Rattle.mb_bytes.specs.Reads.{bad_at, Reads};
-ghost use Rattle.mb_model.specs.RegionFormat.{is_name};
+ghost use Rattle.mb_model.specs.records.RegionFormat.{is_name};
 ghost use Rattle.mb_appvm.specs.Instructions.{opcode_rows, opcode_byte, instruction_format};
 ghost use Rattle.mb_appvm.specs.Acting.{Fetches};
 

@@ -1,7 +1,7 @@
 //! The lines of an assembler text.
 
 ghost use Rattle.std.specs.Prelude.{◌≡◌, ◌↔◌, ◌++◌, ◌∷◌, IsTrue, Some, None};
-ghost use Rattle.mb_model.specs.Script.{IsName};
+ghost use Rattle.mb_model.specs.chains.Script.{IsName};
 ghost use Rattle.mb_words.specs.Words.{FindsSome};
 ghost use Rattle.mb_appvm.specs.Assembly.{jump_to, IsLabelName, SaysAssemblyLine};
 ghost use Rattle.mb_appvm.specs.declared.keyword.Keyword.TheVariants as key;

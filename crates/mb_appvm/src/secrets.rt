@@ -3,7 +3,7 @@
 ghost use Rattle.std.specs.Prelude.{◌≡◌, ◌↔◌, ◌+◌, ◌<◌, ◌≤◌, ◌++◌, position, take, drop, length};
 ghost use Rattle.std.specs.Prelude.{IsTrue, IfSome, MatchOption};
 ghost use Rattle.arrayvec.specs.ArrayVec.{array_vec_len};
-ghost use Rattle.mb_model.specs.LayerEvents.{has_name};
+ghost use Rattle.mb_model.specs.machine.LayerEvents.{has_name};
 ghost use Rattle.mb_appvm.specs.declared.limits.TheConstants.{STACK_LIMIT, MEMORY_LENGTH};
 ghost use Rattle.mb_appvm.specs.Acting.{surroundings_of, DoesOn, LacksSecret, HasSecret};
 ghost use Rattle.mb_appvm.specs.declared.instruction.Instruction.TheVariants as instruction;

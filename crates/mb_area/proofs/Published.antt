@@ -10,12 +10,12 @@ use Rattle.mb_model.proofs.HeaderFormatLaws.{header_exact}
 use Rattle.mb_model.specs.declared.stored.Root.{Root}
 use Rattle.mb_model.specs.declared.stored.Slot.{Slot}
 use Rattle.mb_model.specs.declared.stored.Header.{Header}
-use Rattle.mb_model.specs.Board.{Memory}
-use Rattle.mb_model.specs.HeaderFormat.{header_format}
-use Rattle.mb_model.specs.Meaning.{RootIn, HoldsContents}
-use Rattle.mb_model.specs.Pieces.{part}
-use Rattle.mb_model.specs.Sectors.{header_sector, code_sector, log_sector, BeginsAs}
-use Rattle.mb_model.specs.Flash.{sector, code_slot, HoldsHeader}
+use Rattle.mb_model.specs.outside.Board.{Memory}
+use Rattle.mb_model.specs.records.HeaderFormat.{header_format}
+use Rattle.mb_model.specs.memories.Meaning.{RootIn, HoldsContents}
+use Rattle.mb_model.specs.outside.Pieces.{part}
+use Rattle.mb_model.specs.memories.Sectors.{header_sector, code_sector, log_sector, BeginsAs}
+use Rattle.mb_model.specs.memories.Flash.{sector, code_slot, HoldsHeader}
 use Rattle.mb_model_lemmas.proofs.HeldSegments.{front_of_sector, front_of_slot}
 use Rattle.mb_model_lemmas.proofs.PublicLemmas.{bounded_by}
 use Rattle.mb_model_memory.specs.FlashInForce.{slot_in, AgreeForArea, IsFreeSlot, IsUncounted, DiffersOnlyIn, BeginsWithBytes, IsSectorWritten}

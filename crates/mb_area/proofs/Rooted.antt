@@ -8,11 +8,11 @@ use Rattle.mb_format.specs.Format.{IsBytes, Spells}
 use Rattle.mb_bytes.specs.Puts.{Writes}
 use Rattle.mb_model.specs.declared.stored.Pending.{Pending}
 use Rattle.mb_model.specs.declared.stored.Root.{Root}
-use Rattle.mb_model.specs.RootFormat.{pending_format, root_format}
-use Rattle.mb_model.specs.Board.{Memory, IsLoaded}
-use Rattle.mb_model.specs.Memory.{IsBlank, area_of_slot, HoldsRecord}
-use Rattle.mb_model.specs.Meaning.{RootIn, Contents, HoldsContents, state_of_contents}
-use Rattle.mb_model.specs.Clean.{root_of}
+use Rattle.mb_model.specs.records.RootFormat.{pending_format, root_format}
+use Rattle.mb_model.specs.outside.Board.{Memory, IsLoaded}
+use Rattle.mb_model.specs.memories.Memory.{IsBlank, area_of_slot, HoldsRecord}
+use Rattle.mb_model.specs.memories.Meaning.{RootIn, Contents, HoldsContents, state_of_contents}
+use Rattle.mb_model.specs.memories.Clean.{root_of}
 use Rattle.mb_model_lemmas.proofs.MeaningLemmas.{one_root}
 use Rattle.mb_model_memory.specs.Commits.{both_done, at_rest}
 use Rattle.mb_model_memory.specs.Holding.{KeepsContents}

@@ -4,11 +4,11 @@ use Rattle.std.specs.Prelude.{List, length, Option, None, Some, IfSome}
 use Rattle.mb_model.specs.declared.limits.TheConstants.{CODE_LIMIT, ENTRY_LIMIT, SECTOR_LENGTH}
 use Rattle.mb_model.specs.declared.stored.Header.{Header}
 use Rattle.mb_model.specs.declared.stored.Root.{Root}
-use Rattle.mb_model.specs.Board.{Memory}
-use Rattle.mb_model.specs.Flash.{sector, code_slot, HoldsHeader}
-use Rattle.mb_model.specs.HeaderFormat.{header_format}
-use Rattle.mb_model.specs.Meaning.{RootIn}
-use Rattle.mb_model.specs.Sectors.{header_sector, code_sector, BeginsAs}
+use Rattle.mb_model.specs.outside.Board.{Memory}
+use Rattle.mb_model.specs.memories.Flash.{sector, code_slot, HoldsHeader}
+use Rattle.mb_model.specs.records.HeaderFormat.{header_format}
+use Rattle.mb_model.specs.memories.Meaning.{RootIn}
+use Rattle.mb_model.specs.memories.Sectors.{header_sector, code_sector, BeginsAs}
 use Rattle.mb_model_memory.specs.FlashInForce.{slot_in, BeginsWithBytes, IsSectorWritten, IsUncounted}
 use Rattle.mb_model_memory.specs.NextHeaders.{free_slot, IsCodeWritten}
 use Rattle.mb_flash.specs.Sectors.{sectors_for}

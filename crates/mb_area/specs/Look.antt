@@ -1,7 +1,7 @@
 -- The first look at a device that comes up. Is each piece of work that is left found?
 use Rattle.std.specs.Prelude.{◌≡◌, ◌≢◌, List, ℕ, None}
 use Rattle.mb_model.specs.declared.stored.Root.{Root}
-use Rattle.mb_model.specs.Memory.{IsBlank}
+use Rattle.mb_model.specs.memories.Memory.{IsBlank}
 use Rattle.mb_area.specs.declared.first_look.Looked.{Looked}
 use Rattle.mb_area.specs.declared.first_look.Looked.TheVariants.{Settled, Unsettled, Unwiped}
 

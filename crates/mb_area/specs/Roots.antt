@@ -5,14 +5,14 @@ use Rattle.mb_model.specs.declared.entry.Entry.{Entry}
 use Rattle.mb_model.specs.declared.entry.SignedEntry.{SignedEntry}
 use Rattle.mb_model.specs.declared.state.Codes.{Codes}
 use Rattle.mb_model.specs.declared.stored.Root.{Root}
-use Rattle.mb_model.specs.RootFormat.{root_format}
-use Rattle.mb_model.specs.Board.{Memory}
-use Rattle.mb_model.specs.Memory.{HoldsRecord}
-use Rattle.mb_model.specs.Flash.{HoldsPublic}
-use Rattle.mb_model.specs.Meaning.{RootIn, Contents, state_of_contents}
-use Rattle.mb_model.specs.Clean.{root_of}
+use Rattle.mb_model.specs.records.RootFormat.{root_format}
+use Rattle.mb_model.specs.outside.Board.{Memory}
+use Rattle.mb_model.specs.memories.Memory.{HoldsRecord}
+use Rattle.mb_model.specs.memories.Flash.{HoldsPublic}
+use Rattle.mb_model.specs.memories.Meaning.{RootIn, Contents, state_of_contents}
+use Rattle.mb_model.specs.memories.Clean.{root_of}
 use Rattle.mb_model_memory.specs.Commits.{both_done, at_rest}
-use Rattle.mb_model.specs.StoredLog.{HasIndex}
+use Rattle.mb_model.specs.memories.StoredLog.{HasIndex}
 use Rattle.mb_model_memory.specs.Holding.{Holds, Means, KeepsContents, KeepsMeaning}
 
 -- an area holds some root record

@@ -3,8 +3,8 @@
 ghost use Rattle.std.specs.Prelude.{◌≡◌};
 ghost use Rattle.mb_layout.specs.Plans.{SamePlans};
 ghost use Rattle.mb_model.specs.declared.stored.Root.{Root};
-ghost use Rattle.mb_model.specs.Memory.{inactive_area_of_slot};
-ghost use Rattle.mb_model.specs.Meaning.{RootIn};
+ghost use Rattle.mb_model.specs.memories.Memory.{inactive_area_of_slot};
+ghost use Rattle.mb_model.specs.memories.Meaning.{RootIn};
 ghost use Rattle.mb_board.specs.Calls.{IsUp};
 ghost use Rattle.mb_area.specs.Roots.{HasSomeRoot};
 ghost use Rattle.mb_area.specs.Look.{IsLooked};

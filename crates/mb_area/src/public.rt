@@ -4,10 +4,10 @@ ghost use Rattle.std.specs.Prelude.{◌≡◌, ◌≤◌, ◌<◌, ◌+◌, ◌-
 ghost use Rattle.mb_model.specs.declared.limits.TheConstants.{CODE_LIMIT, ENTRY_LIMIT, SECTOR_COUNT, SECTOR_LENGTH};
 ghost use Rattle.mb_model.specs.declared.stored.Header.{Header};
 ghost use Rattle.mb_model.specs.declared.stored.Root.{Root};
-ghost use Rattle.mb_model.specs.Flash.{sector, code_slot, HoldsHeader};
-ghost use Rattle.mb_model.specs.HeaderFormat.{header_format};
-ghost use Rattle.mb_model.specs.Meaning.{RootIn};
-ghost use Rattle.mb_model.specs.Sectors.{header_sector, code_sector, log_sector, BeginsAs};
+ghost use Rattle.mb_model.specs.memories.Flash.{sector, code_slot, HoldsHeader};
+ghost use Rattle.mb_model.specs.records.HeaderFormat.{header_format};
+ghost use Rattle.mb_model.specs.memories.Meaning.{RootIn};
+ghost use Rattle.mb_model.specs.memories.Sectors.{header_sector, code_sector, log_sector, BeginsAs};
 ghost use Rattle.mb_board.specs.Calls.{IsPowered, IsUp, RanOnFlash};
 ghost use Rattle.mb_flash.specs.Sectors.{sectors_for};
 ghost use Rattle.mb_model_memory.specs.FlashInForce.{slot_in, AgreeForArea, BeginsWithBytes};

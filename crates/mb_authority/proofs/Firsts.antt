@@ -4,8 +4,8 @@ use Rattle.std.proofs.Math.Seq.{split_at}
 use Rattle.std.proofs.lemmas.List.{length-take-le, take_all}
 use Rattle.std.proofs.lemmas.List.Elements.{All-more}
 use Rattle.mb_model.specs.declared.order.Order.{Order}
-use Rattle.mb_model.specs.OrderFormat.{order_format, body_format}
-use Rattle.mb_model.specs.Rules.{IsFirstFailing}
+use Rattle.mb_model.specs.records.OrderFormat.{order_format, body_format}
+use Rattle.mb_model.specs.owners.Rules.{IsFirstFailing}
 
 -- the property holds of the items before this one, and not of this one
 pub found : {X : Type 0} (P : X → Type 0) (xs items : List X) (i : ℕ) (item d : X) → xs ≡ items → i < length xs → item ≡ get_or xs i d → All P (take i xs) → (P item → ⊥) → IsFirstFailing P items i item

@@ -1,8 +1,8 @@
 //! The changes that a layer admits, and the layers after a change.
 
 ghost use Rattle.std.specs.Prelude.{◌≡◌};
-ghost use Rattle.mb_model.specs.Layers.{trust_for};
-ghost use Rattle.mb_model.specs.Rules.{lets_load_in, admits, is_kept, kept_regions, may_cosign, loaded_layer, layer_from_order, layer_after, after};
+ghost use Rattle.mb_model.specs.owners.Layers.{trust_for};
+ghost use Rattle.mb_model.specs.owners.Rules.{lets_load_in, admits, is_kept, kept_regions, may_cosign, loaded_layer, layer_from_order, layer_after, after};
 
 use crate::kinds::{is_load, is_own_load};
 use crate::layers::{is_in, is_owned, layer_of};
@@ -127,7 +127,7 @@ fn layer_after(
 
 /// The layers after a change of the kind that puts `placed` in place of `layer`. A layer above it stays reliable only
 /// if it admits the change; all else stays.
-#[tactic(auto, unfolding(mb_model::specs::Rules::after))]
+#[tactic(auto, unfolding(mb_model::specs::owners::Rules::after))]
 pub fn after(layers: &Layers, kind: ChangeKind, layer: u8, cosigned: Pair, placed: &Layer) -> Layers
     ensures { result ≡ after layers.now kind layer cosigned placed.now }
 {

@@ -1,8 +1,8 @@
 //! The kinds of changes.
 
 ghost use Rattle.std.specs.Prelude.{◌≡◌};
-ghost use Rattle.mb_model.specs.Rules.{is_load, is_own_load, renews};
-ghost use Rattle.mb_model.specs.OrderChecks.{change_by};
+ghost use Rattle.mb_model.specs.owners.Rules.{is_load, is_own_load, renews};
+ghost use Rattle.mb_model.specs.machine.OrderChecks.{change_by};
 
 use mb_model::{Act, ChangeKind, Order};
 

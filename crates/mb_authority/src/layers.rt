@@ -1,7 +1,7 @@
 //! Layers by their numbers.
 
 ghost use Rattle.std.specs.Prelude.{◌≡◌};
-ghost use Rattle.mb_model.specs.Layers.{layer_of, is_owned, is_upper, is_in, is_runnable};
+ghost use Rattle.mb_model.specs.owners.Layers.{layer_of, is_owned, is_upper, is_in, is_runnable};
 
 use mb_model::{Layer, Layers, Pair};
 

@@ -1,8 +1,8 @@
 //! Who has to sign an order, and the state of the layers that it needs.
 
 ghost use Rattle.std.specs.Prelude.{◌≡◌};
-ghost use Rattle.mb_model.specs.Rules.{authority, stands_for_order, signing_layer};
-ghost use Rattle.mb_model.specs.OrderChecks.{change_by};
+ghost use Rattle.mb_model.specs.owners.Rules.{authority, stands_for_order, signing_layer};
+ghost use Rattle.mb_model.specs.machine.OrderChecks.{change_by};
 
 use crate::kinds::change_by;
 use crate::layers::{is_owned, is_runnable, is_upper, layer_of};

@@ -2,8 +2,8 @@
 
 ghost use Rattle.std.specs.Prelude.{◌↔◌, All, IsTrue, MatchOption};
 ghost use Rattle.mb_model.specs.declared.order.Target.{Target};
-ghost use Rattle.mb_model.specs.Rules.{TargetHolds, IsFirstFailing};
-ghost use Rattle.mb_model.specs.OrderFormat.{order_format};
+ghost use Rattle.mb_model.specs.owners.Rules.{TargetHolds, IsFirstFailing};
+ghost use Rattle.mb_model.specs.records.OrderFormat.{order_format};
 
 use crate::layers::layer_of;
 use mb_lms::key_hash;

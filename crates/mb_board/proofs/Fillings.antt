@@ -6,8 +6,8 @@ use Rattle.std.proofs.lemmas.Bool.{cases_lt}
 use Rattle.std.proofs.lemmas.List.FromFn.{length-map-range_with_len, map-range_with_len_more}
 use Rattle.mb_model.specs.declared.event.Tear.{Tear}
 use Rattle.mb_board.specs.declared.fuse.Cut.{Cut}
-use Rattle.mb_model.specs.Pieces.{part}
-use Rattle.mb_model.specs.Board.{memory_with_bytes}
+use Rattle.mb_model.specs.outside.Pieces.{part}
+use Rattle.mb_model.specs.outside.Board.{memory_with_bytes}
 use Rattle.mb_model.proofs.Places.{length-part, part-put, put-put}
 use Rattle.mb_board.specs.Cuts.{filling, torn_by, LeavesWhatItKeeps}
 use Rattle.mb_board.specs.Shown.{BankContents}

@@ -1,6 +1,6 @@
 -- What a level of the ratchet reaches lies in one sector.
 use Rattle.std.proofs.Common.{◌≡◌, ℕ, ◌+◌, ◌%◌, ◌<◌, ◌≤◌, ◌⊎◌, inl, inr, arith}
-use Rattle.mb_model.specs.Memory.{SlotOffsets, slots}
+use Rattle.mb_model.specs.memories.Memory.{SlotOffsets, slots}
 use Rattle.mb_board.specs.Reach.{ReachesSlot, Reached, selector, in_first_area, in_second_area}
 
 -- the three slots

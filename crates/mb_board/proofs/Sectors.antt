@@ -4,7 +4,7 @@ use Rattle.std.proofs.Common.{◌≡◌, ◌≢◌, ℕ, ◌+◌, ◌*◌, ◌<�
 use Rattle.std.proofs.Math.Seq.{take-add}
 use Rattle.std.proofs.lemmas.Bool.{cases_order}
 use Rattle.std.proofs.lemmas.List.{length-replicate, get_or-replicate}
-use Rattle.mb_model.specs.Board.{memory_with_bytes}
+use Rattle.mb_model.specs.outside.Board.{memory_with_bytes}
 use Rattle.mb_model.proofs.Places.{length-part, length-put, take-put_below, part-put, part-put_below, part-put_above}
 use Rattle.mb_board.specs.Kept.{sector_of, IsSameUnchanged}
 

@@ -1,7 +1,7 @@
 -- What a write call of a board leaves. What can a power loss do in the middle of a write?
 use Rattle.std.specs.Prelude.{◌≡◌, ℕ, ◌+◌, ◌≤◌, nat_lt, List, length, Bool, true, false, if◌then◌else◌}
 use Rattle.std.specs.Prelude.{Result, Ok, Err, OnErr, None}
-use Rattle.mb_model.specs.Board.{Memory, Ledger, Meter, Held, IsLoaded, phase_at, memory_with_bytes}
+use Rattle.mb_model.specs.outside.Board.{Memory, Ledger, Meter, Held, IsLoaded, phase_at, memory_with_bytes}
 
 -- whether power is on after calls with this result: not after a stop
 abbrev pub power_of : {A E : Type 0} → Result A E → Bool

@@ -7,7 +7,7 @@ use Rattle.mb_model.specs.declared.limits.TheConstants.{FILL_LIMIT}
 use Rattle.mb_model.specs.declared.event.Event.{Event}
 use Rattle.mb_model.specs.declared.event.Event.TheVariants as event
 use Rattle.mb_model.specs.declared.event.Tear.{Tear}
-use Rattle.mb_model.specs.Board.{Meter}
+use Rattle.mb_model.specs.outside.Board.{Meter}
 use Rattle.mb_board.specs.Calls.{counted_write, stops_by}
 use Rattle.mb_board.specs.declared.fuse.Cut.{Cut}
 

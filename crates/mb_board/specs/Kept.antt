@@ -1,7 +1,7 @@
 -- What holds of the fields of a memory: a sector without a write since the bytes were kept is as it was.
 use Rattle.std.specs.Prelude.{◌≡◌, ℕ, ◌*◌, ◌<◌, Bool, false, List, length, get_or}
 use Rattle.mb_model.specs.declared.limits.TheConstants.{SECTOR_LENGTH}
-use Rattle.mb_model.specs.Pieces.{part}
+use Rattle.mb_model.specs.outside.Pieces.{part}
 use Rattle.mb_board.specs.declared.bank.Bank.TheInside.{Inside}
 
 abbrev pub sector_of : ℕ → List ℕ → List ℕ

@@ -2,7 +2,7 @@
 -- beneath it?
 use Rattle.std.specs.Prelude.{◌≡◌, ℕ, ◌+◌, ◌≤◌, ◌⊎◌}
 use Rattle.mb_model.specs.declared.limits.TheConstants.{AREA_LENGTH}
-use Rattle.mb_model.specs.Memory.{slots}
+use Rattle.mb_model.specs.memories.Memory.{slots}
 
 -- a level reaches the slots whose number is not below it: level 1 all three, level 2 those of both regions, and level 3
 -- that of region 3

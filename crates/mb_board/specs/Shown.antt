@@ -1,6 +1,6 @@
 -- What is seen of a board that simulates a device.
 use Rattle.std.specs.Prelude.{ℕ, List, [], Bool, Result}
-use Rattle.mb_model.specs.Board.{Memory, Ledger}
+use Rattle.mb_model.specs.outside.Board.{Memory, Ledger}
 use Rattle.mb_board.specs.Calls.{power_of, level_of}
 use Rattle.mb_board.specs.Cuts.{Armed, fuse_after}
 

@@ -1,7 +1,7 @@
 -- What holds of the fields of a board that simulates a device.
 use Rattle.std.specs.Prelude.{◌≡◌, ◌+◌, ◌≤◌, length, option_to_list, vec_capacity, All}
 use Rattle.mb_model.specs.declared.limits.TheConstants.{EVENT_LIMIT}
-use Rattle.mb_model.specs.Script.{IsScriptEvent}
+use Rattle.mb_model.specs.chains.Script.{IsScriptEvent}
 use Rattle.mb_board.specs.declared.sim.SimBoard.TheInside.{Inside}
 
 pub record IsSoundBoard (board : Inside) : Type 0 where

@@ -3,8 +3,8 @@
 ghost use Rattle.std.specs.Prelude.{◌≡◌, ◌+◌, ◌*◌, ◌%◌, ◌≤◌, ◌<◌, [], length, replicate, true, IfOk};
 ghost use Rattle.mb_format.specs.Format.{IsBytes};
 ghost use Rattle.mb_model.specs.declared.limits.TheConstants.{SECTOR_LENGTH};
-ghost use Rattle.mb_model.specs.Pieces.{part};
-ghost use Rattle.mb_model.specs.Board.{memory_with_bytes, erased_bytes, zeros};
+ghost use Rattle.mb_model.specs.outside.Pieces.{part};
+ghost use Rattle.mb_model.specs.outside.Board.{memory_with_bytes, erased_bytes, zeros};
 ghost use Rattle.mb_board.specs.Cuts.{HasFill, filling, torn_by};
 ghost use Rattle.mb_board.specs.Kept.{IsSameUnchanged, sector_of};
 ghost use Rattle.mb_board.specs.Shown.{just_kept};
@@ -153,7 +153,7 @@ impl Bank {
 }
 
 /// Stores bytes in a memory at the offset `at`.
-#[tactic(auto, unfolding(mb_model::specs::Board::memory_with_bytes))]
+#[tactic(auto, unfolding(mb_model::specs::outside::Board::memory_with_bytes))]
 fn write(memory: &mut Vec<u8>, at: usize, bytes: &[u8])
     requires { at + length bytes.now ≤ length memory.old.items }
     ensures { memory.new.items ≡ memory_with_bytes at bytes.now memory.old.items }
@@ -162,7 +162,7 @@ fn write(memory: &mut Vec<u8>, at: usize, bytes: &[u8])
 }
 
 /// Sets `count` bytes of a memory, from the offset `at` on, to 0xFF.
-#[tactic(auto, unfolding(mb_model::specs::Board::memory_with_bytes, mb_model::specs::Board::erased_bytes))]
+#[tactic(auto, unfolding(mb_model::specs::outside::Board::memory_with_bytes, mb_model::specs::outside::Board::erased_bytes))]
 fn erase(memory: &mut Vec<u8>, at: usize, count: usize)
     requires { at + count ≤ length memory.old.items }
     ensures { memory.new.items ≡ memory_with_bytes at (erased_bytes count) memory.old.items }
@@ -171,7 +171,7 @@ fn erase(memory: &mut Vec<u8>, at: usize, count: usize)
 }
 
 /// Sets each byte of a memory to zero.
-#[tactic(auto, unfolding(mb_model::specs::Board::zeros))]
+#[tactic(auto, unfolding(mb_model::specs::outside::Board::zeros))]
 fn clear(memory: &mut Vec<u8>)
     ensures { memory.new.items ≡ zeros (length memory.old.items) }
 {
@@ -197,7 +197,7 @@ fn spoil(memory: &mut Vec<u8>, at: usize, count: usize, tear: &Tear)
 }
 
 /// Stores `count` bytes of the filling of a tear at the offset `at`.
-#[tactic(auto, unfolding(mb_model::specs::Board::memory_with_bytes))]
+#[tactic(auto, unfolding(mb_model::specs::outside::Board::memory_with_bytes))]
 fn store_filling(memory: &mut Vec<u8>, at: usize, count: usize, tear: &Tear)
     requires fill { HasFill tear.now }
     requires within { at + count ≤ length memory.old.items }

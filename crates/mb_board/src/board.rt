@@ -3,10 +3,10 @@
 ghost use Rattle.std.specs.Prelude.{◌≡◌, ◌+◌, ◌*◌, ◌/◌, ◌-◌, ◌<◌, ◌≤◌, ◌++◌, ◌∷◌, [], true, false, length, All, IfSome, IfNone, OnOk, OnErr, List, Some, None};
 ghost use Rattle.mb_format.specs.Format.{IsBytes};
 ghost use Rattle.mb_model.specs.declared.limits.TheConstants.{EVENT_LIMIT, IMAGE_LENGTH, SECTOR_LENGTH, WRITE_LIMIT};
-ghost use Rattle.mb_model.specs.Pieces.{part};
-ghost use Rattle.mb_model.specs.Script.{IsScriptEvent};
-ghost use Rattle.mb_model.specs.Board.{IsLoaded, image_of, memory_with_bytes, erased_bytes, counted_load, ledger_at_load, power_after, memory_after, armed_after, stops_by_answer};
-ghost use Rattle.mb_model.specs.Acknowledged.{MayAnswer};
+ghost use Rattle.mb_model.specs.outside.Pieces.{part};
+ghost use Rattle.mb_model.specs.chains.Script.{IsScriptEvent};
+ghost use Rattle.mb_model.specs.outside.Board.{IsLoaded, image_of, memory_with_bytes, erased_bytes, counted_load, ledger_at_load, power_after, memory_after, armed_after, stops_by_answer};
+ghost use Rattle.mb_model.specs.memories.Acknowledged.{MayAnswer};
 ghost use Rattle.mb_board.specs.Calls.{power_of, level_of, metered, Torn, Seen, held_in};
 ghost use Rattle.mb_board.specs.Reach.{Reached, Readable};
 

@@ -5,10 +5,10 @@ ghost use Rattle.std.specs.Result.{is_ok};
 ghost use Rattle.std.proofs.Common.{ap, refl};
 ghost use Rattle.mb_format.specs.Format.{IsBytes};
 ghost use Rattle.mb_model.specs.declared.limits.TheConstants.{EVENT_LIMIT, IMAGE_LENGTH, SECTOR_LENGTH, WRITE_LIMIT};
-ghost use Rattle.mb_model.specs.Pieces.{part};
-ghost use Rattle.mb_model.specs.Script.{IsScriptEvent};
-ghost use Rattle.mb_model.specs.Board.{IsLoaded, image_of, counted_load, ledger_at_load, memory_with_bytes, erased_bytes, power_after, memory_after, armed_after, stops_by_answer};
-ghost use Rattle.mb_model.specs.Acknowledged.{MayAnswer};
+ghost use Rattle.mb_model.specs.outside.Pieces.{part};
+ghost use Rattle.mb_model.specs.chains.Script.{IsScriptEvent};
+ghost use Rattle.mb_model.specs.outside.Board.{IsLoaded, image_of, counted_load, ledger_at_load, memory_with_bytes, erased_bytes, power_after, memory_after, armed_after, stops_by_answer};
+ghost use Rattle.mb_model.specs.memories.Acknowledged.{MayAnswer};
 ghost use Rattle.mb_board.specs.Calls.{Torn, held_by};
 ghost use Rattle.mb_board.specs.Cuts.{unused, passes, left_by, cut_after, meter_of, is_armed};
 ghost use Rattle.mb_board.specs.Reach.{Reached};
@@ -94,7 +94,7 @@ pub struct SimBoard {
 }
 
 impl Model for SimBoard {
-    ghost use Rattle.mb_model.specs.Board.{phase_at};
+    ghost use Rattle.mb_model.specs.outside.Board.{phase_at};
     ghost use Rattle.mb_board.specs.Shown.{BoardShown};
     ghost use Rattle.mb_board.specs.Sound.{IsSoundBoard};
 

@@ -6,11 +6,12 @@ use Rattle.mb_ratchet.specs.declared.state.Up.{Up}
 use Rattle.mb_ratchet.specs.declared.state.R1.{R1}
 use Rattle.mb_model.specs.declared.state.State.{State}
 use Rattle.mb_model.specs.declared.stored.Root.{Root}
-use Rattle.mb_model.specs.Board.{Memory, Meter, IsLoaded}
-use Rattle.mb_model.specs.Memory.{IsBlank, life_byte, inactive_area_of_slot}
-use Rattle.mb_model.specs.Meaning.{RootIn, Contents, state_of_contents, HasMeaning, is_dead, is_live, StandsFor}
-use Rattle.mb_model.specs.Clean.{root_of}
-use Rattle.mb_model.specs.Valid.{Valid}
+use Rattle.mb_model.specs.outside.Board.{Memory, Meter, IsLoaded}
+use Rattle.mb_model.specs.memories.Memory.{IsBlank, life_byte, inactive_area_of_slot}
+use Rattle.mb_model.specs.memories.Meaning.{RootIn, Contents, state_of_contents, HasMeaning, is_dead, is_live}
+use Rattle.mb_model.specs.memories.Meaning.{StandsFor}
+use Rattle.mb_model.specs.memories.Clean.{root_of}
+use Rattle.mb_model.specs.memories.Valid.{Valid}
 use Rattle.mb_model_memory.specs.Commits.{at_rest}
 use Rattle.mb_model_memory.specs.Holding.{Holds, Means, KeepsContents, KeepsMeaning}
 use Rattle.mb_model_memory.proofs.CommitLemmas.{live_contents}

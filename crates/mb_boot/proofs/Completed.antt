@@ -13,14 +13,15 @@ use Rattle.mb_model.specs.declared.key.KeySeed.{KeySeed}
 use Rattle.mb_model.specs.declared.stored.Header.{Header}
 use Rattle.mb_model.specs.declared.stored.Outgoing.{Outgoing}
 use Rattle.mb_model.specs.declared.stored.Root.{Root}
-use Rattle.mb_model.specs.EntryFormat.{entry_format}
-use Rattle.mb_model.specs.HeaderFormat.{entry_bytes_format, unsigned_limit, unsigned_format, header_format, log_format}
-use Rattle.mb_model.specs.Sectors.{BeginsAs}
-use Rattle.mb_model.specs.Flash.{AreBytesOf}
-use Rattle.mb_model.specs.Signing.{signature_of}
-use Rattle.mb_model.specs.SignedTexts.{entry_text}
-use Rattle.mb_model.specs.OrderEffects.{entry_signed_by}
-use Rattle.mb_model.specs.StoredLog.{entries_signed_for}
+use Rattle.mb_model.specs.records.EntryFormat.{entry_format}
+use Rattle.mb_model.specs.records.HeaderFormat.{entry_bytes_format, unsigned_limit, unsigned_format, header_format}
+use Rattle.mb_model.specs.records.HeaderFormat.{log_format}
+use Rattle.mb_model.specs.memories.Sectors.{BeginsAs}
+use Rattle.mb_model.specs.memories.Flash.{AreBytesOf}
+use Rattle.mb_model.specs.signatures.Signing.{signature_of}
+use Rattle.mb_model.specs.machine.SignedTexts.{entry_text}
+use Rattle.mb_model.specs.machine.OrderEffects.{entry_signed_by}
+use Rattle.mb_model.specs.memories.StoredLog.{entries_signed_for}
 use Rattle.mb_model.proofs.FormatBounds.{header_short, log_short}
 use Rattle.mb_model.proofs.HeaderFormatLaws.{header_exact}
 use Rattle.mb_model_lemmas.proofs.HeldSegments.{small_header, room_for_unsigned}

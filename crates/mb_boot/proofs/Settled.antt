@@ -7,27 +7,28 @@ use Rattle.mb_model.specs.declared.state.State.{State}
 use Rattle.mb_model.specs.declared.stored.Fate.{Fate}
 use Rattle.mb_model.specs.declared.stored.Header.{Header}
 use Rattle.mb_model.specs.declared.stored.Root.{Root}
-use Rattle.mb_model.specs.HeaderFormat.{header_format}
-use Rattle.mb_model.specs.Log.{entries_of, layers_of}
-use Rattle.mb_model.specs.RootFormat.{root_format}
-use Rattle.mb_model.specs.Board.{Memory, IsLoaded}
-use Rattle.mb_model.specs.Memory.{IsBlank, HoldsRecord}
-use Rattle.mb_model.specs.Sectors.{header_sector, log_sector, BeginsAs}
-use Rattle.mb_model.specs.Flash.{sector, HoldsHeader, HoldsLog, HoldsPublic}
-use Rattle.mb_model.specs.StoredLog.{outgoing_of, log_completed_by}
-use Rattle.mb_model.specs.Meaning.{RootIn, Contents, state_of_contents, region_after_fate, fate_of_two, fate_of_three}
-use Rattle.mb_model.specs.Clean.{root_of}
-use Rattle.mb_model.specs.Valid.{IsValidState}
+use Rattle.mb_model.specs.records.HeaderFormat.{header_format}
+use Rattle.mb_model.specs.owners.Log.{entries_of, layers_of}
+use Rattle.mb_model.specs.records.RootFormat.{root_format}
+use Rattle.mb_model.specs.outside.Board.{Memory, IsLoaded}
+use Rattle.mb_model.specs.memories.Memory.{IsBlank, HoldsRecord}
+use Rattle.mb_model.specs.memories.Sectors.{header_sector, log_sector, BeginsAs}
+use Rattle.mb_model.specs.memories.Flash.{sector, HoldsHeader, HoldsLog, HoldsPublic}
+use Rattle.mb_model.specs.memories.StoredLog.{outgoing_of, log_completed_by}
+use Rattle.mb_model.specs.memories.Meaning.{RootIn, Contents, state_of_contents, region_after_fate, fate_of_two}
+use Rattle.mb_model.specs.memories.Meaning.{fate_of_three}
+use Rattle.mb_model.specs.memories.Clean.{root_of}
+use Rattle.mb_model.specs.memories.Valid.{IsValidState}
 use Rattle.mb_model_lemmas.proofs.HeldSegments.{begins_with, segments_fit}
 use Rattle.mb_model_lemmas.proofs.PublicLemmas.{IsBounded, bounded_by, length-signed_for}
 use Rattle.mb_model_memory.specs.Commits.{two_done, both_done, at_rest, has_both}
-use Rattle.mb_model.specs.Spared.{SparesSectors}
+use Rattle.mb_model.specs.memories.Spared.{SparesSectors}
 use Rattle.mb_model_memory.specs.FlashInForce.{AgreeForArea, IsUncounted, IsSectorWritten}
 use Rattle.mb_model_memory.specs.Holding.{Holds, Means, KeepsContents, KeepsMeaning}
 use Rattle.mb_model_memory.specs.InForce.{AgreeBesides}
 use Rattle.mb_model_memory.specs.NextHeaders.{header_settled}
 use Rattle.mb_model_memory.specs.Storable.{IsStorableState}
-use Rattle.mb_model.specs.RegionFormat.{CanBeWritten}
+use Rattle.mb_model.specs.records.RegionFormat.{CanBeWritten}
 use Rattle.mb_model_memory.proofs.HoldingLemmas.{contents_keep, keeps_then}
 use Rattle.mb_model_memory.proofs.CommitLemmas.{live_contents, both_done_means, work_ends}
 use Rattle.mb_model_memory.proofs.FlashFrames.{log_stays, signed_log_stays}

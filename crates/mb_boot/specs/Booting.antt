@@ -2,11 +2,11 @@
 use Rattle.std.specs.Prelude.{◌≡◌, ℕ, List, Bool, true, false, Option, Some, Result, Ok, Err}
 use Rattle.mb_model.specs.declared.state.State.{State}
 use Rattle.mb_model.specs.declared.stored.Root.{Root}
-use Rattle.mb_model.specs.Board.{Memory, Meter}
-use Rattle.mb_model.specs.Memory.{IsBlank, inactive_area_of_slot}
-use Rattle.mb_model.specs.Meaning.{RootIn, StandsFor}
-use Rattle.mb_model.specs.Clean.{Clean}
-use Rattle.mb_model.specs.Valid.{Valid}
+use Rattle.mb_model.specs.outside.Board.{Memory, Meter}
+use Rattle.mb_model.specs.memories.Memory.{IsBlank, inactive_area_of_slot}
+use Rattle.mb_model.specs.memories.Meaning.{RootIn, StandsFor}
+use Rattle.mb_model.specs.memories.Clean.{Clean}
+use Rattle.mb_model.specs.memories.Valid.{Valid}
 use Rattle.mb_model_memory.specs.Holding.{Means}
 use Rattle.mb_area.specs.declared.first_look.Looked.{Looked}
 use Rattle.mb_area.specs.Look.{IsLooked}

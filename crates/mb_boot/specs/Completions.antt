@@ -8,11 +8,11 @@ use Rattle.mb_model.specs.declared.key.KeySeed.{KeySeed}
 use Rattle.mb_model.specs.declared.stored.Header.{Header}
 use Rattle.mb_model.specs.declared.stored.Outgoing.{Outgoing}
 use Rattle.mb_model.specs.declared.stored.Root.{Root}
-use Rattle.mb_model.specs.EntryFormat.{entry_format}
-use Rattle.mb_model.specs.HeaderFormat.{header_format}
-use Rattle.mb_model.specs.Sectors.{BeginsAs}
-use Rattle.mb_model.specs.OrderEffects.{entry_signed_by}
-use Rattle.mb_model.specs.StoredLog.{outgoing_of}
+use Rattle.mb_model.specs.records.EntryFormat.{entry_format}
+use Rattle.mb_model.specs.records.HeaderFormat.{header_format}
+use Rattle.mb_model.specs.memories.Sectors.{BeginsAs}
+use Rattle.mb_model.specs.machine.OrderEffects.{entry_signed_by}
+use Rattle.mb_model.specs.memories.StoredLog.{outgoing_of}
 use Rattle.mb_model_lemmas.specs.SegmentLaws.{SpellsLog}
 use Rattle.mb_boot.specs.declared.pending.Signer.{Signer}
 

@@ -3,12 +3,12 @@ use Rattle.std.specs.Prelude.{◌≡◌, ℕ, ◌+◌, ◌-◌, List, [], ◌++�
 use Rattle.mb_model.specs.declared.entry.SignedEntry.{SignedEntry}
 use Rattle.mb_model.specs.declared.state.State.{State}
 use Rattle.mb_model.specs.declared.stored.Root.{Root}
-use Rattle.mb_model.specs.Board.{Memory}
-use Rattle.mb_model.specs.Flash.{HoldsLog, HoldsPublic}
-use Rattle.mb_model.specs.StoredLog.{entries_signed_for, outgoing_of}
-use Rattle.mb_model.specs.Meaning.{RootIn, Contents, state_of_contents}
-use Rattle.mb_model.specs.Clean.{root_of}
-use Rattle.mb_model.specs.Valid.{IsValidState}
+use Rattle.mb_model.specs.outside.Board.{Memory}
+use Rattle.mb_model.specs.memories.Flash.{HoldsLog, HoldsPublic}
+use Rattle.mb_model.specs.memories.StoredLog.{entries_signed_for, outgoing_of}
+use Rattle.mb_model.specs.memories.Meaning.{RootIn, Contents, state_of_contents}
+use Rattle.mb_model.specs.memories.Clean.{root_of}
+use Rattle.mb_model.specs.memories.Valid.{IsValidState}
 use Rattle.mb_board.specs.Calls.{Seen, IsUp}
 use Rattle.mb_model_memory.specs.Commits.{both_done, at_rest}
 use Rattle.mb_model_memory.specs.Holding.{Holds, Means}

@@ -2,8 +2,8 @@
 use Rattle.std.specs.Prelude.{◌≡◌, ℕ, List, None, IsSome}
 use Rattle.mb_model.specs.declared.stored.Header.{Header}
 use Rattle.mb_model.specs.declared.stored.Root.{Root}
-use Rattle.mb_model.specs.Flash.{HoldsHeader}
-use Rattle.mb_model.specs.StoredLog.{outgoing_of}
+use Rattle.mb_model.specs.memories.Flash.{HoldsHeader}
+use Rattle.mb_model.specs.memories.StoredLog.{outgoing_of}
 use Rattle.mb_signer.specs.declared.bench.Bench.{Bench}
 use Rattle.mb_signer.specs.Benches.{HasTree}
 use Rattle.mb_boot.specs.Completions.{signer_of}

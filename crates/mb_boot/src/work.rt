@@ -3,11 +3,11 @@
 ghost use Rattle.std.specs.Prelude.{◌≡◌, ◌≤◌, ◌+◌, IsSome, OnOk, ◌*◌};
 ghost use Rattle.mb_model.specs.declared.stored.Header.{Header};
 ghost use Rattle.mb_model.specs.declared.stored.Root.{Root};
-ghost use Rattle.mb_model.specs.Flash.{sector, HoldsHeader};
-ghost use Rattle.mb_model.specs.Meaning.{RootIn};
-ghost use Rattle.mb_model.specs.Sectors.{header_sector};
+ghost use Rattle.mb_model.specs.memories.Flash.{sector, HoldsHeader};
+ghost use Rattle.mb_model.specs.memories.Meaning.{RootIn};
+ghost use Rattle.mb_model.specs.memories.Sectors.{header_sector};
 ghost use Rattle.mb_board.specs.Calls.{Ran, RanOnBbram, RanOnFlash};
-ghost use Rattle.mb_model.specs.Spared.{SparesSectors};
+ghost use Rattle.mb_model.specs.memories.Spared.{SparesSectors};
 ghost use Rattle.mb_model_memory.specs.FlashInForce.{AgreeForArea};
 ghost use Rattle.mb_model_memory.specs.Holding.{KeepsContents, KeepsMeaning};
 ghost use Rattle.mb_boot.specs.Settling.{IsLiveBoard, IsLiveWith, IsOnlyRoot, AppliesBoth, AddsToLog, CompletesLog, CountsLog, SignsRecord, Settles};

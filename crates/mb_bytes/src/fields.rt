@@ -6,7 +6,7 @@
 ghost use Rattle.std.specs.Prelude.{◌≡◌, ◌<◌, ◌≤◌, ◌++◌, ◌^◌, length, IfOk};
 ghost use Rattle.std.specs.Int.{w8, w16, w32};
 ghost use Rattle.mb_format.specs.Combinators.{number, between, flag, mark, sized};
-ghost use Rattle.mb_model.specs.RegionFormat.{is_name};
+ghost use Rattle.mb_model.specs.records.RegionFormat.{is_name};
 ghost use Rattle.mb_bytes.specs.Reads.{bad_at, Reads, ReadsAs};
 ghost use Rattle.mb_bytes.specs.Puts.{Puts};
 

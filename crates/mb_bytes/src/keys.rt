@@ -4,10 +4,10 @@ ghost use Rattle.std.specs.Prelude.{◌≡◌, ◌≤◌, length};
 ghost use Rattle.std.specs.Int.{w32};
 ghost use Rattle.mb_format.specs.Combinators.{table};
 ghost use Rattle.mb_model.specs.declared.limits.TheConstants.{FILE_LIMIT};
-ghost use Rattle.mb_model.specs.Key.{tree_type, chains_type};
-ghost use Rattle.mb_model.specs.KeyFormat.{tree_rows, chains_rows, public_key_format, key_seed_format};
-ghost use Rattle.mb_model.specs.LayerFormat.{trust_byte, trust_format, one_trust};
-ghost use Rattle.mb_model.specs.EntryFormat.{key_kind_byte, key_kind_format};
+ghost use Rattle.mb_model.specs.signatures.Key.{tree_type, chains_type};
+ghost use Rattle.mb_model.specs.records.KeyFormat.{tree_rows, chains_rows, public_key_format, key_seed_format};
+ghost use Rattle.mb_model.specs.records.LayerFormat.{trust_byte, trust_format, one_trust};
+ghost use Rattle.mb_model.specs.records.EntryFormat.{key_kind_byte, key_kind_format};
 ghost use Rattle.mb_bytes.specs.Reads.{bad_at, Reads, ReadsWhole};
 ghost use Rattle.mb_bytes.specs.Puts.{Puts};
 
@@ -42,7 +42,7 @@ fn chains_at(cursor: &mut Cursor) -> Result<Chains, BadRecord>
 }
 
 /// A public key (RFC 8554, section 5.3): the two type numbers, the identifier and the root of the tree, four fields.
-#[tactic(auto, unfolding(mb_model::specs::KeyFormat::public_key_format))]
+#[tactic(auto, unfolding(mb_model::specs::records::KeyFormat::public_key_format))]
 pub fn public_key_at(cursor: &mut Cursor) -> Result<PublicKey, BadRecord>
     ensures { Reads bad_at public_key_format cursor.old result cursor.new }
 {
@@ -69,7 +69,7 @@ pub fn read_public_key(bytes: &[u8]) -> Result<PublicKey, BadRecord>
 }
 
 /// The seed of a key: its identifier and its secret.
-#[tactic(auto, unfolding(mb_model::specs::KeyFormat::key_seed_format))]
+#[tactic(auto, unfolding(mb_model::specs::records::KeyFormat::key_seed_format))]
 pub fn key_seed_at(cursor: &mut Cursor) -> Result<KeySeed, BadRecord>
     ensures { Reads bad_at key_seed_format cursor.old result cursor.new }
 {
@@ -79,7 +79,7 @@ pub fn key_seed_at(cursor: &mut Cursor) -> Result<KeySeed, BadRecord>
 }
 
 /// A trust, in a byte.
-#[tactic(auto, unfolding(mb_model::specs::LayerFormat::trust_format))]
+#[tactic(auto, unfolding(mb_model::specs::records::LayerFormat::trust_format))]
 pub fn trust_at(cursor: &mut Cursor) -> Result<Trust, BadRecord>
     ensures { Reads bad_at trust_format cursor.old result cursor.new }
 {
@@ -100,7 +100,7 @@ pub fn one_trust_at(cursor: &mut Cursor) -> Result<Trusts, BadRecord>
 }
 
 /// The kind of a region's key, in a byte.
-#[tactic(auto, unfolding(mb_model::specs::EntryFormat::key_kind_format))]
+#[tactic(auto, unfolding(mb_model::specs::records::EntryFormat::key_kind_format))]
 pub fn key_kind_at(cursor: &mut Cursor) -> Result<KeyKind, BadRecord>
     ensures { Reads bad_at key_kind_format cursor.old result cursor.new }
 {
@@ -138,7 +138,7 @@ pub fn chains_type(chains: Chains) -> u32
 }
 
 /// Appends the 56 bytes of a public key (RFC 8554, section 5.3).
-#[tactic(auto, unfolding(mb_model::specs::KeyFormat::public_key_format))]
+#[tactic(auto, unfolding(mb_model::specs::records::KeyFormat::public_key_format))]
 pub fn put_public_key(out: &mut Vec<u8>, key: &PublicKey) -> Result<(), NoMemory>
     ensures { Puts (public_key_format.spelling key.now) out.old result out.new }
 {
@@ -149,7 +149,7 @@ pub fn put_public_key(out: &mut Vec<u8>, key: &PublicKey) -> Result<(), NoMemory
 }
 
 /// Appends the identifier and the secret of a key.
-#[tactic(auto, unfolding(mb_model::specs::KeyFormat::key_seed_format))]
+#[tactic(auto, unfolding(mb_model::specs::records::KeyFormat::key_seed_format))]
 pub fn put_key_seed(out: &mut Vec<u8>, key: &KeySeed) -> Result<(), NoMemory>
     ensures { Puts (key_seed_format.spelling key.now) out.old result out.new }
 {
@@ -168,7 +168,7 @@ fn trust_number(trust: Trust) -> u8
 }
 
 /// Appends the byte of a trust.
-#[tactic(auto, unfolding(mb_model::specs::LayerFormat::trust_format))]
+#[tactic(auto, unfolding(mb_model::specs::records::LayerFormat::trust_format))]
 pub fn put_trust(out: &mut Vec<u8>, trust: Trust) -> Result<(), NoMemory>
     ensures { Puts (trust_format.spelling trust) out.old result out.new }
 {
@@ -185,7 +185,7 @@ fn key_kind_number(kind: KeyKind) -> u8
 }
 
 /// Appends the byte of the kind of a region's key.
-#[tactic(auto, unfolding(mb_model::specs::EntryFormat::key_kind_format))]
+#[tactic(auto, unfolding(mb_model::specs::records::EntryFormat::key_kind_format))]
 pub fn put_key_kind(out: &mut Vec<u8>, kind: KeyKind) -> Result<(), NoMemory>
     ensures { Puts (key_kind_format.spelling kind) out.old result out.new }
 {

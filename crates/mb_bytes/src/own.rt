@@ -151,7 +151,7 @@ impl WriteField for bool {
 
 /// A public key (RFC 8554, section 5.3).
 impl Field for PublicKey {
-    ghost use Rattle.mb_model.specs.KeyFormat.{public_key_format};
+    ghost use Rattle.mb_model.specs.records.KeyFormat.{public_key_format};
     ghost use Rattle.mb_model.proofs.KeyFormatLaws.{public_key_exact};
 
     type Value = PublicKey;

@@ -5,8 +5,8 @@ use Rattle.mb_format.specs.Combinators.{items, times, optional}
 use Rattle.mb_model.specs.declared.entry.SignedEntry.{SignedEntry}
 use Rattle.mb_model.specs.declared.entry.Statement.{Statement}
 use Rattle.mb_model.specs.declared.entry.Chain.{Chain}
-use Rattle.mb_model.specs.EntryFormat.{entry_format, signed_entry_format}
-use Rattle.mb_model.specs.ChainFormat.{statement_format, chain_format}
+use Rattle.mb_model.specs.records.EntryFormat.{entry_format, signed_entry_format}
+use Rattle.mb_model.specs.records.ChainFormat.{statement_format, chain_format}
 use Rattle.mb_cert.specs.Bounds.{StatementFits, ChainFits}
 
 pub message_fits : (statement : Statement) → statement_format.Allowed statement → StatementFits statement

@@ -3,9 +3,9 @@ use Rattle.std.proofs.Common.{ℕ, ◌<◌, List, [], ◌∷◌, length, refl, s
 use Rattle.std.specs.Prelude.{Result, Ok, Err}
 use Rattle.mb_format.specs.Format.{Spells}
 use Rattle.mb_model.specs.declared.entry.Statement.{Statement}
-use Rattle.mb_model.specs.Texts.{IsHex}
-use Rattle.mb_model.specs.ChainFormat.{statement_format}
-use Rattle.mb_model.specs.OrderLines.{IsStatementLine}
+use Rattle.mb_model.specs.outside.Texts.{IsHex}
+use Rattle.mb_model.specs.records.ChainFormat.{statement_format}
+use Rattle.mb_model.specs.chains.OrderLines.{IsStatementLine}
 use Rattle.mb_model.proofs.FormatBounds.{statement_short}
 use Rattle.mb_model_lemmas.proofs.LineLemmas.{cons_same}
 use Rattle.mb_model_lemmas.proofs.WordLemmas.{IsHex-same}

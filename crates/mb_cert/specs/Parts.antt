@@ -5,7 +5,7 @@ use Rattle.mb_format.specs.Format.{Format}
 use Rattle.mb_format.specs.Combinators.{between, counted}
 use Rattle.mb_model.specs.declared.limits.TheConstants.{ENTRY_LIMIT}
 use Rattle.mb_model.specs.declared.entry.SignedEntry.{SignedEntry}
-use Rattle.mb_model.specs.EntryFormat.{signed_entry_format}
+use Rattle.mb_model.specs.records.EntryFormat.{signed_entry_format}
 
 -- the entries of a chain, after their number
 unfoldable pub chain_entries_format : Format (List SignedEntry)

@@ -1,8 +1,8 @@
 -- How the line of a statement is read. Is what is read exactly what stands there?
 use Rattle.std.specs.Prelude.{ℕ, List, Result, Ok, Err}
 use Rattle.mb_model.specs.declared.entry.Statement.{Statement}
-use Rattle.mb_model.specs.Lines.{ReadsLines, TextFailsAtLine}
-use Rattle.mb_model.specs.OrderLines.{IsStatementLine}
+use Rattle.mb_model.specs.chains.Lines.{ReadsLines, TextFailsAtLine}
+use Rattle.mb_model.specs.chains.OrderLines.{IsStatementLine}
 use Rattle.mb_cert.specs.declared.statement_line.StatementLineEnd.{StatementLineEnd}
 use Rattle.mb_cert.specs.declared.statement_line.StatementLineEnd.TheVariants as end
 

@@ -2,8 +2,8 @@
 
 ghost use Rattle.std.specs.Prelude.{◌≡◌, take, None};
 ghost use Rattle.std.specs.List.{position};
-ghost use Rattle.mb_model.specs.Attach.{is_change_above, cut_at, stated_chain};
-ghost use Rattle.mb_model.specs.ChainFormat.{statement_format, chain_format};
+ghost use Rattle.mb_model.specs.chains.Attach.{is_change_above, cut_at, stated_chain};
+ghost use Rattle.mb_model.specs.records.ChainFormat.{statement_format, chain_format};
 
 use mb_model::{Chain, Entry, Items, SignedEntry, Statement};
 

@@ -1,9 +1,9 @@
 //! The signer of an entry.
 
 ghost use Rattle.std.specs.Prelude.{◌≡◌, ◌↔◌, IfOk, IsTrue};
-ghost use Rattle.mb_model.specs.EntryFormat.{entry_format};
-ghost use Rattle.mb_model.specs.Merkle.{leaf_number, Verifies};
-ghost use Rattle.mb_model.specs.SignedTexts.{entry_text};
+ghost use Rattle.mb_model.specs.records.EntryFormat.{entry_format};
+ghost use Rattle.mb_model.specs.signatures.Merkle.{leaf_number, Verifies};
+ghost use Rattle.mb_model.specs.machine.SignedTexts.{entry_text};
 
 use mb_layout::write_entry;
 use mb_lms::verify;
@@ -22,7 +22,7 @@ pub fn leaf_number(signature: &[u8; SIGNATURE_LENGTH]) -> u32
 
 /// Whether the entry's signature is one of the entry under the key (RFC 8554, section 5.4.2). Memory is taken for the
 /// bytes of the entry.
-#[tactic(auto, unfolding(mb_model::specs::SignedTexts::entry_text))]
+#[tactic(auto, unfolding(mb_model::specs::machine::SignedTexts::entry_text))]
 pub fn certifies(alloc: Global, key: &PublicKey, signed: &SignedEntry) -> Result<bool, NoMemory>
     requires { entry_format.Allowed signed.now.entry }
     ensures { IfOk result (λ yes. IsTrue yes ↔ Verifies key.now (entry_text signed.now.entry) signed.now.signature) }

@@ -2,7 +2,7 @@
 
 ghost use Rattle.std.specs.Prelude.{◌<◌, ◌≤◌, length};
 ghost use Rattle.mb_model.specs.declared.limits.TheConstants.{FILE_LIMIT};
-ghost use Rattle.mb_model.specs.ChainFormat.{chain_format};
+ghost use Rattle.mb_model.specs.records.ChainFormat.{chain_format};
 ghost use Rattle.mb_bytes.specs.Reads.{Reads, ReadsWhole};
 ghost use Rattle.mb_bytes.specs.Puts.{Puts, Writes};
 ghost use Rattle.mb_cert.specs.Ends.{chain_at};
@@ -35,9 +35,9 @@ pub fn read_chain(alloc: Global, bytes: &[u8]) -> Result<Chain, ChainEnd>
 /// A chain.
 struct ChainField;
 
-#[tactic(auto, unfolding(mb_model::specs::ChainFormat::chain_format, crate::specs::Parts::chain_entries_format))]
+#[tactic(auto, unfolding(mb_model::specs::records::ChainFormat::chain_format, crate::specs::Parts::chain_entries_format))]
 impl Field for ChainField {
-    ghost use Rattle.mb_model.specs.ChainFormat.{chain_format};
+    ghost use Rattle.mb_model.specs.records.ChainFormat.{chain_format};
     ghost use Rattle.mb_model.proofs.EntryFormatLaws.{chain_exact};
 
     type Value = Chain;
@@ -58,7 +58,7 @@ impl Field for ChainField {
     ghost exact = { chain_exact };
 }
 
-#[tactic(auto, unfolding(mb_model::specs::ChainFormat::chain_format, crate::specs::Parts::chain_entries_format))]
+#[tactic(auto, unfolding(mb_model::specs::records::ChainFormat::chain_format, crate::specs::Parts::chain_entries_format))]
 impl WriteField for ChainField {
     ghost use Rattle.mb_cert.specs.Bounds.{ChainFits};
 
@@ -83,9 +83,9 @@ fn entries_at(alloc: Global, cursor: &mut Cursor<'_>) -> Result<Log, ChainEnd>
 /// An entry and its signature.
 struct SignedEntryField;
 
-#[tactic(auto, unfolding(mb_model::specs::EntryFormat::signed_entry_format))]
+#[tactic(auto, unfolding(mb_model::specs::records::EntryFormat::signed_entry_format))]
 impl Field for SignedEntryField {
-    ghost use Rattle.mb_model.specs.EntryFormat.{signed_entry_format};
+    ghost use Rattle.mb_model.specs.records.EntryFormat.{signed_entry_format};
     ghost use Rattle.mb_model.proofs.EntryFormatLaws.{signed_entry_exact};
 
     type Value = SignedEntry;
@@ -105,7 +105,7 @@ impl Field for SignedEntryField {
     ghost exact = { signed_entry_exact };
 }
 
-#[tactic(auto, unfolding(mb_model::specs::EntryFormat::signed_entry_format))]
+#[tactic(auto, unfolding(mb_model::specs::records::EntryFormat::signed_entry_format))]
 impl WriteField for SignedEntryField {
     ghost Fits = { λ _. Unit {0} };
 

@@ -2,7 +2,7 @@
 
 ghost use Rattle.std.specs.Prelude.{◌≤◌, length};
 ghost use Rattle.mb_model.specs.declared.limits.TheConstants.{FILE_LIMIT};
-ghost use Rattle.mb_model.specs.ChainFormat.{statement_format};
+ghost use Rattle.mb_model.specs.records.ChainFormat.{statement_format};
 ghost use Rattle.mb_bytes.specs.Reads.{ReadsWhole};
 ghost use Rattle.mb_bytes.specs.Puts.{Writes};
 ghost use Rattle.mb_cert.specs.Ends.{chain_at};
@@ -18,9 +18,9 @@ use std::alloc::Global;
 /// A statement.
 pub(crate) struct StatementField;
 
-#[tactic(auto, unfolding(mb_model::specs::ChainFormat::statement_format))]
+#[tactic(auto, unfolding(mb_model::specs::records::ChainFormat::statement_format))]
 impl Field for StatementField {
-    ghost use Rattle.mb_model.specs.ChainFormat.{statement_format};
+    ghost use Rattle.mb_model.specs.records.ChainFormat.{statement_format};
     ghost use Rattle.mb_model.proofs.EntryFormatLaws.{statement_exact};
 
     type Value = Statement;
@@ -45,7 +45,7 @@ impl Field for StatementField {
     ghost exact = { statement_exact };
 }
 
-#[tactic(auto, unfolding(mb_model::specs::ChainFormat::statement_format))]
+#[tactic(auto, unfolding(mb_model::specs::records::ChainFormat::statement_format))]
 impl WriteField for StatementField {
     ghost use Rattle.mb_cert.specs.Bounds.{StatementFits};
 

@@ -2,8 +2,8 @@
 
 ghost use Rattle.std.specs.Prelude.{◌∷◌, [], IfOk};
 ghost use Rattle.mb_format.specs.Format.{Spells};
-ghost use Rattle.mb_model.specs.ChainFormat.{statement_format};
-ghost use Rattle.mb_model.specs.OrderLines.{IsStatementLine};
+ghost use Rattle.mb_model.specs.records.ChainFormat.{statement_format};
+ghost use Rattle.mb_model.specs.chains.OrderLines.{IsStatementLine};
 ghost use Rattle.mb_words.specs.Words.{Finds};
 ghost use Rattle.mb_cert.specs.StatementReading.{ReadsStatementLine};
 

@@ -3,7 +3,7 @@ use Rattle.std.proofs.Common.{◌≡◌, ℕ, ◌<◌, ◌≤◌, ◌-◌, List,
 use Rattle.std.proofs.lemmas.List.{length-append, length-take, take_all}
 use Rattle.mb_format.specs.Format.{IsBytes, FailsWhole}
 use Rattle.mb_format.proofs.Exact.{IsBytes-drop}
-use Rattle.mb_model.specs.OrderFormat.{order_format}
+use Rattle.mb_model.specs.records.OrderFormat.{order_format}
 use Rattle.mb_model.proofs.OrderFormatLaws.{order_exact}
 use Rattle.mb_model.proofs.FormatBounds.{order_short}
 use Rattle.mb_bytes.specs.declared.cursor.Cursor.{Cursor}

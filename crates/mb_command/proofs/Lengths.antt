@@ -15,16 +15,16 @@ use Rattle.mb_model.specs.declared.order.KeyKind.{KeyKind}
 use Rattle.mb_model.specs.declared.order.Target.{Target}
 use Rattle.mb_model.specs.declared.order.Target.TheVariants.{Serial, Length, Owner, Code}
 use Rattle.mb_model.specs.declared.order.Payload.{Payload}
-use Rattle.mb_model.specs.Rules.{kind_of}
+use Rattle.mb_model.specs.owners.Rules.{kind_of}
 use Rattle.mb_model.specs.declared.order.Act.{Act}
 use Rattle.mb_model.specs.declared.order.Act.TheVariants.{Establish, Load, Emergency, NewKey}
 use Rattle.mb_model.specs.declared.order.Order.{Order}
-use Rattle.mb_model.specs.Key.{tree_type, chains_type}
-use Rattle.mb_model.specs.KeyFormat.{public_key_format}
-use Rattle.mb_model.specs.LayerFormat.{trust_byte, trust_format}
-use Rattle.mb_model.specs.EntryFormat.{key_kind_byte, key_kind_format}
-use Rattle.mb_model.specs.Layers.{are_equal}
-use Rattle.mb_model.specs.OrderFormat.{target_format, form_byte, form_of, given_trusts, differs_in, payload_format, act_by, body_format, order_body, order_format}
+use Rattle.mb_model.specs.signatures.Key.{tree_type, chains_type}
+use Rattle.mb_model.specs.records.KeyFormat.{public_key_format}
+use Rattle.mb_model.specs.records.LayerFormat.{trust_byte, trust_format}
+use Rattle.mb_model.specs.records.EntryFormat.{key_kind_byte, key_kind_format}
+use Rattle.mb_model.specs.owners.Layers.{are_equal}
+use Rattle.mb_model.specs.records.OrderFormat.{target_format, form_byte, form_of, given_trusts, differs_in, payload_format, act_by, body_format, order_body, order_format}
 
 length-number : {w : Width} → IsWide w → (n : ℕ) → length (number_bytes w n) ≡ byte_len w
 unfolding number_bytes

@@ -21,12 +21,12 @@ use Rattle.mb_model.specs.declared.order.Countersignature.{Countersignature}
 use Rattle.mb_model.specs.declared.order.OrderKind.{OrderKind}
 use Rattle.mb_model.specs.declared.order.OrderKind.TheVariants as kind
 use Rattle.mb_model.specs.declared.order.OrderForm.{OrderForm}
-use Rattle.mb_model.specs.Key.{tree_type, chains_type}
-use Rattle.mb_model.specs.KeyFormat.{tree_rows, chains_rows, public_key_format}
-use Rattle.mb_model.specs.LayerFormat.{trust_byte, trust_rows, trust_format}
-use Rattle.mb_model.specs.EntryFormat.{key_kind_byte, key_kind_rows, key_kind_format}
-use Rattle.mb_model.specs.Rules.{kind_of, least_layer}
-use Rattle.mb_model.specs.OrderFormat.{TargetTag, serial_tag, length_tag, owner_tag, code_tag, target_byte, target_rows, target_tag, demanded_serial, demanded_length, demanded_owner, demanded_code, target_by, target_format, form_byte, form_rows, form, other_rows, given_trusts, establish_in, load_in, emergency_in, made_in, payload_format, act_by, Body, body_by, sized_signature_format, Climb, countersignature_format, climb_after, countersignature_limit, countersignatures_format}
+use Rattle.mb_model.specs.signatures.Key.{tree_type, chains_type}
+use Rattle.mb_model.specs.records.KeyFormat.{tree_rows, chains_rows, public_key_format}
+use Rattle.mb_model.specs.records.LayerFormat.{trust_byte, trust_rows, trust_format}
+use Rattle.mb_model.specs.records.EntryFormat.{key_kind_byte, key_kind_rows, key_kind_format}
+use Rattle.mb_model.specs.owners.Rules.{kind_of, least_layer}
+use Rattle.mb_model.specs.records.OrderFormat.{TargetTag, serial_tag, length_tag, owner_tag, code_tag, target_byte, target_rows, target_tag, demanded_serial, demanded_length, demanded_owner, demanded_code, target_by, target_format, form_byte, form_rows, form, other_rows, given_trusts, establish_in, load_in, emergency_in, made_in, payload_format, act_by, Body, body_by, sized_signature_format, Climb, countersignature_format, climb_after, countersignature_limit, countersignatures_format}
 use Rattle.mb_model.proofs.OrderFormatLaws.{target_exact, target_keyed, form_list, act_by-exact}
 use Rattle.mb_command.specs.Beginnings.{IsInhabited}
 use Rattle.mb_command.specs.Surveys.{countersignatures_above}

@@ -5,8 +5,8 @@ use Rattle.mb_model.specs.declared.order.Act.{Act}
 use Rattle.mb_model.specs.declared.order.Act.TheVariants.{Establish, Surrender, Load, Emergency, NewKey}
 use Rattle.mb_model.specs.declared.order.Countersignature.{Countersignature}
 use Rattle.mb_model.specs.declared.order.Order.{Order}
-use Rattle.mb_model.specs.OrderFormat.{differs_in, payload_format, act_by, body_of, body_format, sized_signature_format, Climb, countersignature_format, climb_after, countersignatures_format, order_format}
-use Rattle.mb_model.specs.Rules.{kind_of}
+use Rattle.mb_model.specs.records.OrderFormat.{differs_in, payload_format, act_by, body_of, body_format, sized_signature_format, Climb, countersignature_format, climb_after, countersignatures_format, order_format}
+use Rattle.mb_model.specs.owners.Rules.{kind_of}
 use Rattle.mb_model.proofs.FormatBounds.{most_two}
 use Rattle.mb_command.specs.Writing.{HasShortCode, HasShortSignature, IsSizedOrder}
 

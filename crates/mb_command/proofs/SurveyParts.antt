@@ -10,8 +10,8 @@ use Rattle.mb_format.proofs.Fields.{wide8, wide32, raw_exact, number_exact, betw
 use Rattle.mb_format.proofs.Compositions.{pair_exact, times_exact, items_exact}
 use Rattle.mb_bytes.specs.declared.cursor.Cursor.{Cursor}
 use Rattle.mb_bytes.proofs.Exactly.{stands}
-use Rattle.mb_model.specs.Key.{tree_type, chains_type}
-use Rattle.mb_model.specs.KeyFormat.{tree_rows, chains_rows, public_key_format}
+use Rattle.mb_model.specs.signatures.Key.{tree_type, chains_type}
+use Rattle.mb_model.specs.records.KeyFormat.{tree_rows, chains_rows, public_key_format}
 use Rattle.mb_model.specs.declared.key.Trust.{Trust}
 use Rattle.mb_model.specs.declared.order.Act.{Act}
 use Rattle.mb_model.specs.declared.order.Act.TheVariants.{Establish, Surrender, Load, Emergency, NewKey}
@@ -19,11 +19,11 @@ use Rattle.mb_model.specs.declared.order.Target.TheVariants.{Serial, Length, Own
 use Rattle.mb_model.specs.declared.order.OrderForm.{OrderForm}
 use Rattle.mb_model.specs.declared.order.OrderKind.{OrderKind}
 use Rattle.mb_model.specs.declared.order.OrderKind.TheVariants as kind
-use Rattle.mb_model.specs.Layers.{equal_trusts}
-use Rattle.mb_model.specs.LayerFormat.{trust_byte, trust_format}
-use Rattle.mb_model.specs.EntryFormat.{key_kind_format}
-use Rattle.mb_model.specs.Rules.{kind_of, least_layer}
-use Rattle.mb_model.specs.OrderFormat.{establish_in, load_in, emergency_in, made_in, form_of, body_of, target_tag, TargetTag, serial_tag, length_tag, owner_tag, code_tag, target_rows, target_byte, demanded_serial, demanded_length, demanded_owner, demanded_code, target_by, target_format, form_rows, form_byte, other_rows, differing_trusts, given_trusts, payload_format, act_by, Body, body_by, body_format, sized_signature_format, Climb, countersignature_format, climb_after, countersignature_limit, countersignatures_format, order_format}
+use Rattle.mb_model.specs.owners.Layers.{equal_trusts}
+use Rattle.mb_model.specs.records.LayerFormat.{trust_byte, trust_format}
+use Rattle.mb_model.specs.records.EntryFormat.{key_kind_format}
+use Rattle.mb_model.specs.owners.Rules.{kind_of, least_layer}
+use Rattle.mb_model.specs.records.OrderFormat.{establish_in, load_in, emergency_in, made_in, form_of, body_of, target_tag, TargetTag, serial_tag, length_tag, owner_tag, code_tag, target_rows, target_byte, demanded_serial, demanded_length, demanded_owner, demanded_code, target_by, target_format, form_rows, form_byte, other_rows, differing_trusts, given_trusts, payload_format, act_by, Body, body_by, body_format, sized_signature_format, Climb, countersignature_format, climb_after, countersignature_limit, countersignatures_format, order_format}
 use Rattle.mb_model.proofs.KeyFormatLaws.{tree_table, chains_table, public_key_exact, trust_exact}
 use Rattle.mb_model.proofs.OrderFormatLaws.{target_table, target_exact, target_by-exact, given_exact, act_by-exact, body_by-exact, body_exact, sized_signature_exact, below_four, countersignature_exact, most_small, countersignatures_exact}
 use Rattle.mb_command.specs.declared.stuck.Stuck.{Stuck}

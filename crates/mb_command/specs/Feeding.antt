@@ -1,6 +1,6 @@
 -- A reader that is fed an order in pieces. What do its answers say of the bytes that it was fed so far?
 use Rattle.std.specs.Prelude.{◌≡◌, ℕ, List, Result, Ok, Err}
-use Rattle.mb_model.specs.OrderFormat.{order_format}
+use Rattle.mb_model.specs.records.OrderFormat.{order_format}
 use Rattle.mb_command.specs.declared.reader.Taken.{Taken}
 use Rattle.mb_command.specs.declared.reader.Taken.TheVariants.{Begun, Ended}
 use Rattle.mb_command.specs.declared.reader.OrderReader.{OrderReader}

@@ -3,7 +3,7 @@ use Rattle.std.specs.Prelude.{ℕ, ◌≤◌, List, ◌++◌}
 use Rattle.std.specs.Int.{w8}
 use Rattle.mb_format.specs.Combinators.{number}
 use Rattle.mb_model.specs.declared.order.Countersignature.{Countersignature}
-use Rattle.mb_model.specs.OrderFormat.{Body, Climb, countersignature_format}
+use Rattle.mb_model.specs.records.OrderFormat.{Body, Climb, countersignature_format}
 use Rattle.mb_command.specs.declared.body.SignedPart.{SignedPart}
 
 -- the part of an order that is signed

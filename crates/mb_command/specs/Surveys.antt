@@ -6,8 +6,9 @@ use Rattle.mb_format.specs.Combinators.{between, items, led}
 use Rattle.std.specs.Int.{w8}
 use Rattle.mb_model.specs.declared.order.Countersignature.{Countersignature}
 use Rattle.mb_model.specs.declared.order.OrderKind.{OrderKind}
-use Rattle.mb_model.specs.OrderFormat.{Body, countersignature_format, climb_after, countersignature_limit, order_format}
-use Rattle.mb_model.specs.Rules.{kind_of}
+use Rattle.mb_model.specs.records.OrderFormat.{Body, countersignature_format, climb_after, countersignature_limit}
+use Rattle.mb_model.specs.records.OrderFormat.{order_format}
+use Rattle.mb_model.specs.owners.Rules.{kind_of}
 use Rattle.mb_bytes.specs.declared.cursor.Cursor.{Cursor}
 use Rattle.mb_bytes.specs.Reads.{SameBytes}
 use Rattle.mb_command.specs.declared.stuck.Stuck.{Stuck}

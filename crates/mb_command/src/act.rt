@@ -2,12 +2,12 @@
 
 ghost use Rattle.std.specs.Prelude.{◌≡◌, ◌+◌, ◌≤◌, not, length};
 ghost use Rattle.mb_model.specs.declared.limits.TheConstants.{CODE_LIMIT};
-ghost use Rattle.mb_model.specs.Rules.{kind_of};
+ghost use Rattle.mb_model.specs.owners.Rules.{kind_of};
 ghost use Rattle.std.specs.Int.{w8};
 ghost use Rattle.mb_format.specs.Combinators.{listed};
-ghost use Rattle.mb_model.specs.Layers.{are_equal};
-ghost use Rattle.mb_model.specs.LayerFormat.{trust_byte};
-ghost use Rattle.mb_model.specs.OrderFormat.{other_rows, differing_trusts, given_trusts, differs_in, payload_format, act_by};
+ghost use Rattle.mb_model.specs.owners.Layers.{are_equal};
+ghost use Rattle.mb_model.specs.records.LayerFormat.{trust_byte};
+ghost use Rattle.mb_model.specs.records.OrderFormat.{other_rows, differing_trusts, given_trusts, differs_in, payload_format, act_by};
 ghost use Rattle.mb_bytes.specs.Reads.{bad_at, Reads};
 ghost use Rattle.mb_bytes.specs.Puts.{Puts};
 ghost use Rattle.mb_command.specs.Ends.{order_text_at};
@@ -56,7 +56,7 @@ fn given_trusts_at(cursor: &mut Cursor, differs: bool) -> Result<Trusts, BadReco
     }
 }
 
-#[tactic(auto, unfolding(mb_model::specs::OrderFormat::payload_format))]
+#[tactic(auto, unfolding(mb_model::specs::records::OrderFormat::payload_format))]
 fn payload_at(alloc: Global, cursor: &mut Cursor, differs: bool) -> Result<Payload, OrderEnd>
     ensures { Reads order_text_at (payload_format differs) cursor.old result cursor.new }
 {
@@ -111,7 +111,7 @@ pub fn act_at(alloc: Global, cursor: &mut Cursor, form: OrderForm) -> Result<Act
 }
 
 /// Appends the trusts that an act gives its layer: one trust if they are equal, else both.
-#[tactic(auto, unfolding(mb_model::specs::LayerFormat::trust_format))]
+#[tactic(auto, unfolding(mb_model::specs::records::LayerFormat::trust_format))]
 fn put_given(out: &mut Vec<u8>, trusts: Trusts, differs: bool) -> Result<(), NoMemory>
     ensures { Puts ((given_trusts differs).spelling trusts) out.old result out.new }
 {
@@ -122,7 +122,7 @@ fn put_given(out: &mut Vec<u8>, trusts: Trusts, differs: bool) -> Result<(), NoM
     put_trust(out, trusts.two)
 }
 
-#[tactic(auto, unfolding(mb_model::specs::OrderFormat::payload_format))]
+#[tactic(auto, unfolding(mb_model::specs::records::OrderFormat::payload_format))]
 fn put_payload(out: &mut Vec<u8>, payload: &Payload) -> Result<(), NoMemory>
     requires { length payload.now.code ≤ CODE_LIMIT }
     ensures { Puts ((payload_format (not (are_equal payload.now.trust))).spelling payload.now) out.old result out.new }
@@ -158,7 +158,7 @@ fn given_length(trusts: Trusts) -> u32
 }
 
 /// The length of what an order does, in bytes.
-#[tactic(auto, unfolding(mb_model::specs::OrderFormat::payload_format))]
+#[tactic(auto, unfolding(mb_model::specs::records::OrderFormat::payload_format))]
 pub fn act_length(act: &Act) -> u32
     requires { (act_by (kind_of act.now) (differs_in act.now)).Allowed act.now }
     ensures length { result ≡ length ((act_by (kind_of act.now) (differs_in act.now)).spelling act.now) }

@@ -2,7 +2,7 @@
 
 ghost use Rattle.std.specs.Prelude.{◌≡◌, ◌≤◌, length, take, IfOk};
 ghost use Rattle.mb_model.specs.declared.limits.TheConstants.{TARGET_LIMIT};
-ghost use Rattle.mb_model.specs.OrderFormat.{body_by, body_format, body_of, order_body, order_format};
+ghost use Rattle.mb_model.specs.records.OrderFormat.{body_by, body_format, body_of, order_body, order_format};
 ghost use Rattle.mb_bytes.specs.Reads.{ReadsAs};
 ghost use Rattle.mb_bytes.specs.Puts.{Puts};
 ghost use Rattle.mb_command.specs.Ends.{order_text_at};
@@ -45,7 +45,7 @@ fn after_form_at(
 }
 
 /// Reads the signed part of an order.
-#[tactic(auto, unfolding(mb_model::specs::OrderFormat::body_format))]
+#[tactic(auto, unfolding(mb_model::specs::records::OrderFormat::body_format))]
 pub fn body_at(alloc: Global, cursor: &mut Cursor) -> Result<SignedPart, OrderEnd>
     ensures reads { ReadsAs body_in order_text_at body_format cursor.old result cursor.new }
     ensures layer { IfOk result HasLayer }
@@ -55,7 +55,7 @@ pub fn body_at(alloc: Global, cursor: &mut Cursor) -> Result<SignedPart, OrderEn
 }
 
 /// Appends the signed part of an order.
-#[tactic(auto, unfolding(mb_model::specs::OrderFormat::body_format))]
+#[tactic(auto, unfolding(mb_model::specs::records::OrderFormat::body_format))]
 pub fn put_body(out: &mut Vec<u8>, order: &Order) -> Result<(), NoMemory>
     requires targets { length order.now.targets ≤ TARGET_LIMIT }
     requires code { HasShortCode order.now.act }

@@ -3,7 +3,7 @@
 ghost use Rattle.std.specs.Prelude.{◌≤◌, ◌-◌, length, IfOk};
 ghost use Rattle.std.specs.List.{All};
 ghost use Rattle.mb_model.specs.declared.limits.TheConstants.{SIGNATURE_LIMIT};
-ghost use Rattle.mb_model.specs.OrderFormat.{Body, sized_signature_format, countersignature_format, countersignatures_format};
+ghost use Rattle.mb_model.specs.records.OrderFormat.{Body, sized_signature_format, countersignature_format, countersignatures_format};
 ghost use Rattle.mb_bytes.specs.Reads.{Reads};
 ghost use Rattle.mb_bytes.specs.Puts.{Puts};
 ghost use Rattle.mb_command.specs.Ends.{order_text_at};
@@ -18,7 +18,7 @@ use mb_model::{Bytes, Countersignature, Countersignatures, Items, NoMemory, SIGN
 use std::alloc::Global;
 
 /// Reads a signature after its length in two bytes.
-#[tactic(auto, unfolding(mb_model::specs::OrderFormat::sized_signature_format))]
+#[tactic(auto, unfolding(mb_model::specs::records::OrderFormat::sized_signature_format))]
 pub fn signature_at(alloc: Global, cursor: &mut Cursor) -> Result<Bytes, OrderEnd>
     ensures { Reads order_text_at sized_signature_format cursor.old result cursor.new }
 {
@@ -46,7 +46,7 @@ fn countersignature_at(
 
 /// Reads the countersignatures of an order with this signed part: a byte for their number, and as many, their layers
 /// ascending.
-#[tactic(auto, unfolding(mb_model::specs::OrderFormat::countersignatures_format))]
+#[tactic(auto, unfolding(mb_model::specs::records::OrderFormat::countersignatures_format))]
 pub fn countersignatures_at(
     alloc: Global,
     cursor: &mut Cursor,
@@ -68,7 +68,7 @@ pub fn countersignatures_at(
 }
 
 /// Appends the length of a signature, in two bytes, and the signature.
-#[tactic(auto, unfolding(mb_model::specs::OrderFormat::sized_signature_format))]
+#[tactic(auto, unfolding(mb_model::specs::records::OrderFormat::sized_signature_format))]
 pub fn put_signature(out: &mut Vec<u8>, signature: &Bytes) -> Result<(), NoMemory>
     requires { length signature.now ≤ SIGNATURE_LIMIT }
     ensures { Puts (sized_signature_format.spelling signature.now) out.old result out.new }

@@ -3,8 +3,8 @@
 ghost use Rattle.std.specs.Prelude.{◌≡◌, ◌≤◌};
 ghost use Rattle.std.specs.Int.{w8};
 ghost use Rattle.mb_format.specs.Combinators.{listed};
-ghost use Rattle.mb_model.specs.Rules.{kind_of, least_layer};
-ghost use Rattle.mb_model.specs.OrderFormat.{order_byte, form_byte, form, form_rows, differs_in, form_of, countersignature_limit};
+ghost use Rattle.mb_model.specs.owners.Rules.{kind_of, least_layer};
+ghost use Rattle.mb_model.specs.records.OrderFormat.{order_byte, form_byte, form, form_rows, differs_in, form_of, countersignature_limit};
 ghost use Rattle.mb_bytes.specs.Reads.{bad_at, Reads};
 
 use mb_bytes::Cursor;

@@ -2,7 +2,7 @@
 
 ghost use Rattle.std.specs.Prelude.{◌≤◌, IfErr, IfSome};
 ghost use Rattle.mb_command.specs.declared.order.TheConstants.{ORDER_LIMIT};
-ghost use Rattle.mb_model.specs.OrderFormat.{order_format};
+ghost use Rattle.mb_model.specs.records.OrderFormat.{order_format};
 ghost use Rattle.mb_bytes.specs.Reads.{ReadsWhole};
 ghost use Rattle.mb_bytes.specs.Puts.{Puts, Writes};
 ghost use Rattle.mb_command.specs.Ends.{order_text_at};
@@ -24,9 +24,9 @@ pub const ORDER_LIMIT: usize = 65_536;
 /// An order.
 pub struct OrderField;
 
-#[tactic(auto, unfolding(mb_model::specs::OrderFormat::order_format))]
+#[tactic(auto, unfolding(mb_model::specs::records::OrderFormat::order_format))]
 impl Field for OrderField {
-    ghost use Rattle.mb_model.specs.OrderFormat.{order_format};
+    ghost use Rattle.mb_model.specs.records.OrderFormat.{order_format};
     ghost use Rattle.mb_model.proofs.OrderFormatLaws.{order_exact};
 
     type Value = Order;
@@ -76,7 +76,7 @@ pub fn read_order(alloc: Global, bytes: &[u8]) -> Result<Order, OrderEnd>
     reader.finish(alloc)
 }
 
-#[tactic(auto, unfolding(mb_model::specs::OrderFormat::order_format))]
+#[tactic(auto, unfolding(mb_model::specs::records::OrderFormat::order_format))]
 fn put_order(out: &mut Vec<u8>, order: &Order) -> Result<(), NoMemory>
     requires { IsSizedOrder order.now }
     ensures { Puts (order_format.spelling order.now) out.old result out.new }

@@ -1,7 +1,7 @@
 //! An order that is read in pieces.
 
 ghost use Rattle.std.specs.Prelude.{◌≡◌, ◌≤◌, ◌++◌, List, ℕ, ◌-◌, take, [], Err, IfOk};
-ghost use Rattle.mb_model.specs.OrderFormat.{order_format};
+ghost use Rattle.mb_model.specs.records.OrderFormat.{order_format};
 ghost use Rattle.mb_bytes.specs.Reads.{ReadsWhole};
 ghost use Rattle.mb_command.specs.declared.order.TheConstants.{ORDER_LIMIT};
 ghost use Rattle.mb_command.specs.declared.end.OrderEnd.{OrderEnd};

@@ -1,7 +1,7 @@
 //! What owners sign of an order.
 
 ghost use Rattle.std.specs.Prelude.{◌≡◌, IfOk};
-ghost use Rattle.mb_model.specs.OrderFormat.{order_body, order_format};
+ghost use Rattle.mb_model.specs.records.OrderFormat.{order_body, order_format};
 
 use crate::body::body_length;
 use crate::order::write_order;

@@ -5,7 +5,7 @@
 ghost use Rattle.std.specs.Prelude.{◌≤◌, ◌+◌, ◌-◌, length, IfOk};
 ghost use Rattle.mb_format.specs.Format.{IsBytes};
 ghost use Rattle.mb_model.specs.declared.limits.TheConstants.{FILE_LIMIT};
-ghost use Rattle.mb_model.specs.OrderFormat.{countersignature_format, order_format};
+ghost use Rattle.mb_model.specs.records.OrderFormat.{countersignature_format, order_format};
 ghost use Rattle.mb_command.specs.Surveys.{Surveys, NothingTold, IsLayerOf, countersignatures_above, IsSettled};
 
 use crate::kind::most_countersigned;

@@ -3,9 +3,10 @@
 ghost use Rattle.std.specs.Prelude.{false};
 ghost use Rattle.std.specs.Int.{w8};
 ghost use Rattle.mb_format.specs.Combinators.{listed};
-ghost use Rattle.mb_model.specs.LayerFormat.{trust_byte, trust_format};
-ghost use Rattle.mb_model.specs.EntryFormat.{key_kind_format};
-ghost use Rattle.mb_model.specs.OrderFormat.{other_rows, differing_trusts, given_trusts, payload_format, act_by};
+ghost use Rattle.mb_model.specs.records.LayerFormat.{trust_byte, trust_format};
+ghost use Rattle.mb_model.specs.records.EntryFormat.{key_kind_format};
+ghost use Rattle.mb_model.specs.records.OrderFormat.{other_rows, differing_trusts, given_trusts, payload_format};
+ghost use Rattle.mb_model.specs.records.OrderFormat.{act_by};
 ghost use Rattle.mb_command.specs.Surveys.{Surveys, NothingTold, IsTold};
 
 use crate::act::other_trust_at;

@@ -4,7 +4,7 @@ ghost use Rattle.std.specs.Prelude.{◌≤◌};
 ghost use Rattle.std.specs.Int.{w8};
 ghost use Rattle.mb_format.specs.Combinators.{raw, between, pair, table, listed, counted};
 ghost use Rattle.mb_model.specs.declared.limits.TheConstants.{TARGET_LIMIT};
-ghost use Rattle.mb_model.specs.OrderFormat.{target_rows, target_byte, target_format, form_rows, form_byte, body_by, body_format};
+ghost use Rattle.mb_model.specs.records.OrderFormat.{target_rows, target_byte, target_format, form_rows, form_byte, body_by, body_format};
 ghost use Rattle.mb_command.specs.Surveys.{Surveys, NothingTold, IsTold, IsHeadingOf};
 
 use crate::kind::{form_at, least_layer};

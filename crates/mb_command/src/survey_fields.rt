@@ -6,9 +6,9 @@
 ghost use Rattle.std.specs.Prelude.{ℕ, ◌≤◌, ◌<◌, ◌≡◌, ◌+◌, length, drop, get_or, IfOk};
 ghost use Rattle.std.specs.Int.{w8, w16, w32, from_be_bytes};
 ghost use Rattle.mb_model.specs.declared.limits.TheConstants.{CODE_LIMIT, SIGNATURE_LIMIT};
-ghost use Rattle.mb_model.specs.Key.{tree_type, chains_type};
-ghost use Rattle.mb_model.specs.KeyFormat.{tree_rows, chains_rows, public_key_format};
-ghost use Rattle.mb_model.specs.OrderFormat.{sized_signature_format};
+ghost use Rattle.mb_model.specs.signatures.Key.{tree_type, chains_type};
+ghost use Rattle.mb_model.specs.records.KeyFormat.{tree_rows, chains_rows, public_key_format};
+ghost use Rattle.mb_model.specs.records.OrderFormat.{sized_signature_format};
 ghost use Rattle.mb_format.specs.Combinators.{raw, number, between, table, sized};
 ghost use Rattle.mb_command.specs.Surveys.{IsStuck, Surveys, NothingTold, IsTold};
 

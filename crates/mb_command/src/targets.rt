@@ -4,7 +4,8 @@ ghost use Rattle.std.specs.Prelude.{◌≡◌, ◌+◌, ◌≤◌, length};
 ghost use Rattle.std.specs.Int.{w8};
 ghost use Rattle.mb_model.specs.declared.limits.TheConstants.{TARGET_LIMIT};
 ghost use Rattle.mb_format.specs.Combinators.{between, counted};
-ghost use Rattle.mb_model.specs.OrderFormat.{serial_tag, length_tag, owner_tag, code_tag, target_by, target_format};
+ghost use Rattle.mb_model.specs.records.OrderFormat.{serial_tag, length_tag, owner_tag, code_tag, target_by};
+ghost use Rattle.mb_model.specs.records.OrderFormat.{target_format};
 ghost use Rattle.mb_bytes.specs.Reads.{bad_at, Reads};
 ghost use Rattle.mb_bytes.specs.Puts.{Puts};
 ghost use Rattle.mb_command.specs.Ends.{order_text_at};
@@ -48,9 +49,9 @@ fn code_at(cursor: &mut Cursor) -> Result<Target, BadRecord>
 /// A target, after the byte that says which of the four kinds it is.
 struct TargetField;
 
-#[tactic(auto, unfolding(mb_model::specs::OrderFormat::target_format))]
+#[tactic(auto, unfolding(mb_model::specs::records::OrderFormat::target_format))]
 impl Field for TargetField {
-    ghost use Rattle.mb_model.specs.OrderFormat.{target_format};
+    ghost use Rattle.mb_model.specs.records.OrderFormat.{target_format};
     ghost use Rattle.mb_model.proofs.OrderFormatLaws.{target_exact};
 
     type Value = Target;
@@ -75,7 +76,7 @@ impl Field for TargetField {
     ghost exact = { target_exact };
 }
 
-#[tactic(auto, unfolding(mb_model::specs::OrderFormat::target_format))]
+#[tactic(auto, unfolding(mb_model::specs::records::OrderFormat::target_format))]
 impl WriteField for TargetField {
     ghost Fits = { λ _. Unit {0} };
 
@@ -120,7 +121,7 @@ pub fn put_targets(out: &mut Vec<u8>, targets: &Targets) -> Result<(), NoMemory>
     put_items::<TargetField>(out, targets.as_slice())
 }
 
-#[tactic(auto, unfolding(mb_model::specs::OrderFormat::target_format))]
+#[tactic(auto, unfolding(mb_model::specs::records::OrderFormat::target_format))]
 fn target_length(target: &Target) -> u32
     requires { target_format.Allowed target.now }
     ensures length { result ≡ length (target_format.spelling target.now) }

@@ -1,7 +1,7 @@
 -- What carries out a command, step by step, whichever command it is.
 use Rattle.std.proofs.Common.{◌≡◌, ℕ, true, false, List, ◌++◌, codes, Result, Ok, Err, refl, subst, inl, inr}
 use Rattle.mb_model.specs.declared.event.Answered.{Answered}
-use Rattle.mb_model.specs.Board.{Held, Used, loaded_once_more, having_answered}
+use Rattle.mb_model.specs.outside.Board.{Held, Used, loaded_once_more, having_answered}
 use Rattle.mb_model_commands.specs.Outside.{Outside, read_once, WritesFile, FailsToWrite, Prints, FailsToPrint}
 use Rattle.mb_model_commands.specs.Commands.{Input, Output, Command, read, find, either_command, load, serve, rehearse, write, print, refuse, lack, Past, SaysLine, Stops, WantsMemory, input_is_too_long, input_is_faulty, input_is_not_read, memory_lacks, text_is_printed, text_is_not_printed, CommandEnds, input_line, role_word, place_words}
 use Rattle.mb_console.specs.declared.end.End.{End}

@@ -2,7 +2,7 @@
 use Rattle.std.proofs.Common.{◌≡◌, ℕ, ◌+◌, ◌<◌, ◌≤◌, ◌⊎◌, Bool, true, false, List, ◌++◌, codes, length, Option, Some, if◌then◌else◌, refl, sym, ◌∙◌, ap, subst, inl, inr, arith}
 use Rattle.std.proofs.Common.{nat_lt}
 use Rattle.std.proofs.lemmas.Bool.{ltb-false}
-use Rattle.mb_model.specs.Board.{loaded_once_more, having_answered}
+use Rattle.mb_model.specs.outside.Board.{loaded_once_more, having_answered}
 use Rattle.mb_model_commands.specs.declared.role.Place.{Place}
 use Rattle.mb_model_commands.specs.Outside.{Outside, HasRisen, count_after_call, count_limit, by_fault, by_absence}
 use Rattle.mb_model_commands.specs.Commands.{Input, Command, read, find, either_command, load, serve, rehearse, write, print, refuse, lack, Past, Ended, SaysLine, InputEnds, input_is_too_long, input_is_faulty, input_is_not_read, memory_lacks, text_is_printed, text_is_not_printed, CommandEnds, IsFaultless, HasInputsFor, ComesToRefusal, end_seen_from, role_word}

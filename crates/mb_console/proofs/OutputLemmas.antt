@@ -1,7 +1,7 @@
 -- Outputs that are written one after another.
 use Rattle.std.proofs.Common.{◌≡◌, List, [], ◌∷◌, map, true, Result, Ok, Err, refl, sym, subst, inl, inr}
 use Rattle.std.specs.Prelude.{IfErr}
-use Rattle.mb_model.specs.Board.{Held, Used}
+use Rattle.mb_model.specs.outside.Board.{Held, Used}
 use Rattle.mb_model_commands.specs.Outside.{Outside, WritesFile, FailsToWrite}
 use Rattle.mb_model_commands.specs.Commands.{Output as Written, Command, write, Past}
 use Rattle.mb_console.specs.declared.output.Output.{Output}

@@ -2,7 +2,7 @@
 -- status?
 use Rattle.std.specs.Prelude.{◌≡◌, ℕ, List, [], ◌++◌, codes, Option, None, Some, Result, Ok, Err}
 use Rattle.std.specs.Fmt.{decimal}
-use Rattle.mb_model.specs.Board.{Held, Used, not_used}
+use Rattle.mb_model.specs.outside.Board.{Held, Used, not_used}
 use Rattle.mb_model_commands.specs.declared.role.Role.{Role}
 use Rattle.mb_model_commands.specs.declared.role.Place.{Place}
 use Rattle.mb_model_commands.specs.Outside.{Outside, HoldsTooMuch, read_once, FailsToRead}

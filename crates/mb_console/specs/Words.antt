@@ -3,7 +3,7 @@
 use Rattle.std.specs.Prelude.{◌≡◌, ◌≢◌, ◌≤◌, ◌⊎◌, ℕ, Bool, true, false, List, [], ◌∷◌, ◌++◌, map, slice_get}
 use Rattle.std.specs.Prelude.{Option, Some}
 use Rattle.std.specs.Fmt.{decimal}
-use Rattle.mb_model.specs.Lines.{number_limit}
+use Rattle.mb_model.specs.chains.Lines.{number_limit}
 use Rattle.mb_script.specs.Reading.{IsFill}
 use Rattle.mb_console.specs.declared.words.Kind.{Kind}
 use Rattle.mb_console.specs.declared.words.Kind.TheVariants as kind

@@ -1,7 +1,7 @@
 //! The ends of commands that are not done, and their lines and exit statuses.
 
 ghost use Rattle.std.specs.Prelude.{◌≡◌, ◌+◌, ◌≤◌, ◌++◌, length, decimal, codes, List, ℕ, vec_len, vec_capacity, ◌<◌, IfOk};
-ghost use Rattle.mb_model.specs.Texts.{line_with_lf};
+ghost use Rattle.mb_model.specs.outside.Texts.{line_with_lf};
 ghost use Rattle.mb_model_commands.specs.Commands.{SaysLine, input_line, role_word, place_words};
 ghost use Rattle.mb_console.specs.Ending.{after_space, end_line, end_status, RefusesWith};
 

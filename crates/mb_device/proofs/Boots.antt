@@ -9,14 +9,14 @@ use Rattle.mb_model.specs.declared.event.Event.TheVariants as event
 use Rattle.mb_model.specs.declared.reply.Reply.{Reply}
 use Rattle.mb_model.specs.declared.reply.Reply.TheVariants as reply
 use Rattle.mb_model.specs.declared.state.State.{State}
-use Rattle.mb_model.specs.Board.{Memory, Meter, phase_at}
-use Rattle.mb_model.specs.Clean.{Clean}
-use Rattle.mb_model.specs.Machine.{Phase, off, dead, ratchet, World, Machine, machine_step, lacks_memory}
-use Rattle.mb_model.specs.Meaning.{StandsFor, HasMeaning, is_dead, is_live}
-use Rattle.mb_model.specs.Memory.{IsBlank}
+use Rattle.mb_model.specs.outside.Board.{Memory, Meter, phase_at}
+use Rattle.mb_model.specs.memories.Clean.{Clean}
+use Rattle.mb_model.specs.machine.Machine.{Phase, off, dead, ratchet, World, Machine, machine_step, lacks_memory}
+use Rattle.mb_model.specs.memories.Meaning.{StandsFor, HasMeaning, is_dead, is_live}
+use Rattle.mb_model.specs.memories.Memory.{IsBlank}
 use Rattle.mb_model.specs.declared.reply.Refusal.TheVariants.{Zeroised}
-use Rattle.mb_model.specs.Refusals.{refusal_reply}
-use Rattle.mb_model.specs.Valid.{Valid}
+use Rattle.mb_model.specs.machine.Refusals.{refusal_reply}
+use Rattle.mb_model.specs.memories.Valid.{Valid}
 use Rattle.mb_board.specs.Calls.{held_by}
 use Rattle.mb_model_memory.specs.Holding.{Means, IsReady}
 use Rattle.mb_device_orders.specs.Remembering.{Knows}

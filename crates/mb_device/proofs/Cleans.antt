@@ -9,12 +9,13 @@ use Rattle.mb_model.specs.declared.event.Event.TheVariants as event
 use Rattle.mb_model.specs.declared.reply.Reply.{Reply}
 use Rattle.mb_model.specs.declared.reply.Reply.TheVariants as reply
 use Rattle.mb_model.specs.declared.state.State.{State}
-use Rattle.mb_model.specs.Spared.{SparesSectors}
-use Rattle.mb_model.specs.Acknowledged.{LeavesMemory, LeavesCleanMemory, HoldsNoOther, HasToBeClean, power_is_on, device_was_tampered, nothing_was_left, AreWiping}
-use Rattle.mb_model.specs.Board.{Memory, Held, AreBytes, memory_after}
-use Rattle.mb_model.specs.Clean.{Clean}
-use Rattle.mb_model.specs.Machine.{World, Step, machine_step, lacks_memory, loses_power, may_be_cut, may_have_written}
-use Rattle.mb_model.specs.Meaning.{HasMeaning, is_dead, is_live, StandsFor}
+use Rattle.mb_model.specs.memories.Spared.{SparesSectors}
+use Rattle.mb_model.specs.memories.Acknowledged.{LeavesMemory, LeavesCleanMemory, HoldsNoOther, HasToBeClean, power_is_on, device_was_tampered, nothing_was_left, AreWiping}
+use Rattle.mb_model.specs.outside.Board.{Memory, Held, AreBytes, memory_after}
+use Rattle.mb_model.specs.memories.Clean.{Clean}
+use Rattle.mb_model.specs.machine.Machine.{World, Step, machine_step, lacks_memory, loses_power, may_be_cut}
+use Rattle.mb_model.specs.machine.Machine.{may_have_written}
+use Rattle.mb_model.specs.memories.Meaning.{HasMeaning, is_dead, is_live, StandsFor}
 use Rattle.mb_model_lemmas.proofs.LineLemmas.{cons_same}
 use Rattle.mb_model_lemmas.proofs.MeaningLemmas.{one_meaning}
 use Rattle.mb_model_lemmas.proofs.RefusalLemmas.{written_is_on, tampered_is_dead}

@@ -6,13 +6,14 @@ use Rattle.std.proofs.lemmas.List.Elements.{All-head, All-tail, All-pop}
 use Rattle.mb_model.specs.declared.event.Event.{Event}
 use Rattle.mb_model.specs.declared.event.Answered.{Answered}
 use Rattle.mb_model.specs.declared.reply.Reply.{Reply}
-use Rattle.mb_model.specs.Acknowledged.{Shows, HasToBeClean, power_is_on, device_was_tampered, nothing_was_left, AreWiping, LeavesMemory, LeavesCleanMemory, MayAnswer}
+use Rattle.mb_model.specs.memories.Acknowledged.{Shows, HasToBeClean, power_is_on, device_was_tampered, nothing_was_left, AreWiping, LeavesMemory, LeavesCleanMemory, MayAnswer}
 use Rattle.mb_model.specs.declared.state.State.{State}
-use Rattle.mb_model.specs.Board.{Memory, Held, Ledger, Used, AreBytes, image_of, memory_after, use_of, having_answered}
-use Rattle.mb_model.specs.Clean.{Clean}
-use Rattle.mb_model.specs.Spared.{SparesSectors}
-use Rattle.mb_model.specs.Machine.{World, Step, Run, may_be_cut}
-use Rattle.mb_model.specs.Script.{IsScriptEvent}
+use Rattle.mb_model.specs.outside.Board.{Memory, Held, Ledger, Used, AreBytes, image_of, memory_after, use_of}
+use Rattle.mb_model.specs.outside.Board.{having_answered}
+use Rattle.mb_model.specs.memories.Clean.{Clean}
+use Rattle.mb_model.specs.memories.Spared.{SparesSectors}
+use Rattle.mb_model.specs.machine.Machine.{World, Step, Run, may_be_cut}
+use Rattle.mb_model.specs.chains.Script.{IsScriptEvent}
 use Rattle.mb_model_lemmas.proofs.RefusalLemmas.{written_is_on}
 use Rattle.mb_model_lemmas.proofs.ValidStates.{kept_rightly}
 use Rattle.mb_device.specs.declared.device.Device.{Device}

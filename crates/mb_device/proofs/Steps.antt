@@ -6,13 +6,13 @@ use Rattle.mb_model.specs.declared.event.Event.{Event}
 use Rattle.mb_model.specs.declared.reply.Reply.{Reply}
 use Rattle.mb_model.specs.declared.reply.Reply.TheVariants as reply
 use Rattle.mb_model.specs.declared.state.State.{State}
-use Rattle.mb_model.specs.Board.{Memory, Meter, Held}
-use Rattle.mb_model.specs.Clean.{Clean}
-use Rattle.mb_model.specs.Machine.{Phase, off, ratchet, World, Machine, may_want_memory, may_be_cut, machine_step, lacks_memory, loses_power}
-use Rattle.mb_model.specs.Meaning.{StandsFor}
+use Rattle.mb_model.specs.outside.Board.{Memory, Meter, Held}
+use Rattle.mb_model.specs.memories.Clean.{Clean}
+use Rattle.mb_model.specs.machine.Machine.{Phase, off, ratchet, World, Machine, may_want_memory, may_be_cut, machine_step, lacks_memory, loses_power}
+use Rattle.mb_model.specs.memories.Meaning.{StandsFor}
 use Rattle.mb_model.specs.declared.reply.Refusal.{Refusal}
-use Rattle.mb_model.specs.Refusals.{refusal_reply}
-use Rattle.mb_model.specs.Valid.{Valid}
+use Rattle.mb_model.specs.machine.Refusals.{refusal_reply}
+use Rattle.mb_model.specs.memories.Valid.{Valid}
 use Rattle.mb_board.specs.Calls.{held_by}
 use Rattle.mb_model_memory.specs.Holding.{IsReady}
 use Rattle.mb_device.specs.declared.device.Device.{Device}

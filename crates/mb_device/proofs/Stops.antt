@@ -2,7 +2,7 @@
 use Rattle.std.proofs.Common.{◌≡◌, ℕ, refl}
 use Rattle.mb_model.specs.declared.reply.Reply.{Reply}
 use Rattle.mb_model.specs.declared.reply.Reply.TheVariants as reply
-use Rattle.mb_model.specs.Board.{stops_by_answer}
+use Rattle.mb_model.specs.outside.Board.{stops_by_answer}
 use Rattle.mb_board.specs.Calls.{stops_by}
 use Rattle.mb_device.specs.Stepping.{stop_told}
 

@@ -6,10 +6,10 @@ use Rattle.mb_model.specs.declared.event.Event.{Event}
 use Rattle.mb_model.specs.declared.event.Event.TheVariants as event
 use Rattle.mb_model.specs.declared.event.Tear.{Tear}
 use Rattle.mb_model.specs.declared.reply.Reply.TheVariants as reply
-use Rattle.mb_model.specs.Board.{Memory, Meter, Held, phase_at, zeros, power_after, memory_after, armed_after}
-use Rattle.mb_model.specs.Machine.{Phase, off, World, machine_step}
-use Rattle.mb_model.specs.Meaning.{is_dead}
-use Rattle.mb_model.specs.Memory.{IsBlank}
+use Rattle.mb_model.specs.outside.Board.{Memory, Meter, Held, phase_at, zeros, power_after, memory_after, armed_after}
+use Rattle.mb_model.specs.machine.Machine.{Phase, off, World, machine_step}
+use Rattle.mb_model.specs.memories.Meaning.{is_dead}
+use Rattle.mb_model.specs.memories.Memory.{IsBlank}
 use Rattle.mb_board.specs.Calls.{held_by}
 use Rattle.mb_device.specs.declared.device.Device.{Device}
 use Rattle.mb_device.specs.declared.device.Device.TheVariants as device

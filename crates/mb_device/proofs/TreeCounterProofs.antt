@@ -12,10 +12,10 @@ use Rattle.mb_model.specs.declared.state.Fact.{Fact}
 use Rattle.mb_model.specs.declared.state.Fact.TheVariants as fact
 use Rattle.mb_model.specs.declared.state.State.{State}
 use Rattle.mb_model.specs.declared.state.View.{View}
-use Rattle.mb_model.specs.Log.{keys_in, keys_made_by}
-use Rattle.mb_model.specs.OrderChecks.{view_of}
-use Rattle.mb_model.specs.OrderEffects.{fact_of, names_next, entry_of}
-use Rattle.mb_model.specs.Work.{ready_by, first_by, bodies_by, bodies_for}
+use Rattle.mb_model.specs.owners.Log.{keys_in, keys_made_by}
+use Rattle.mb_model.specs.machine.OrderChecks.{view_of}
+use Rattle.mb_model.specs.machine.OrderEffects.{fact_of, names_next, entry_of}
+use Rattle.mb_model.specs.machine.Work.{ready_by, first_by, bodies_by, bodies_for}
 use Rattle.mb_model_lemmas.proofs.LogLemmas.{made-push}
 use Rattle.mb_outbound.specs.declared.kept.RegionTree.{RegionTree}
 use Rattle.mb_outbound.specs.KeptTrees.{IsKeptFor}

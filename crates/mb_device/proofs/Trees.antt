@@ -7,9 +7,9 @@ use Rattle.mb_model.specs.declared.event.Event.TheVariants as event
 use Rattle.mb_model.specs.declared.reply.Refusal.{Refusal}
 use Rattle.mb_model.specs.declared.reply.Reply.{Reply}
 use Rattle.mb_model.specs.declared.reply.Reply.TheVariants as reply
-use Rattle.mb_model.specs.Listing.{is_done, is_signed}
-use Rattle.mb_model.specs.Machine.{World}
-use Rattle.mb_model.specs.Refusals.{refusal_reply}
+use Rattle.mb_model.specs.chains.Listing.{is_done, is_signed}
+use Rattle.mb_model.specs.machine.Machine.{World}
+use Rattle.mb_model.specs.machine.Refusals.{refusal_reply}
 use Rattle.mb_outbound.specs.declared.kept.RegionTree.{RegionTree}
 use Rattle.mb_outbound.specs.KeptTrees.{IsKeptFor}
 use Rattle.mb_device_orders.specs.declared.remembering.Known.{Known}

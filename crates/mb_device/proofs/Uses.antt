@@ -11,20 +11,20 @@ use Rattle.mb_model.specs.declared.reply.Reply.TheVariants as reply
 use Rattle.mb_model.specs.declared.region.RegionKey.{RegionKey}
 use Rattle.mb_model.specs.declared.region.Region.{Region}
 use Rattle.mb_model.specs.declared.region.Secret.{Secret}
-use Rattle.mb_model.specs.ChainFormat.{statement_format}
+use Rattle.mb_model.specs.records.ChainFormat.{statement_format}
 use Rattle.std.specs.List.{list_any}
 use Rattle.mb_model.specs.declared.state.State.{State}
-use Rattle.mb_model.specs.Board.{Memory, Meter, Held}
-use Rattle.mb_model.specs.Layers.{is_runnable, is_upper}
-use Rattle.mb_model.specs.LayerEvents.{Outcome, put_event, get_event, drop_event, sign_event, sign_with, value_reply, has_name, has_number, with_secret, with_use, statement_of}
-use Rattle.mb_model.specs.Log.{entries_of, number_of}
-use Rattle.mb_model.specs.Machine.{ratchet, World, Told, running_state_in, region_event, Machine, machine_step, may_want_memory}
-use Rattle.mb_model.specs.Regions.{region_of, with_region}
+use Rattle.mb_model.specs.outside.Board.{Memory, Meter, Held}
+use Rattle.mb_model.specs.owners.Layers.{is_runnable, is_upper}
+use Rattle.mb_model.specs.machine.LayerEvents.{Outcome, put_event, get_event, drop_event, sign_event, sign_with, value_reply, has_name, has_number, with_secret, with_use, statement_of}
+use Rattle.mb_model.specs.owners.Log.{entries_of, number_of}
+use Rattle.mb_model.specs.machine.Machine.{ratchet, World, Told, running_state_in, region_event, Machine, machine_step, may_want_memory}
+use Rattle.mb_model.specs.owners.Regions.{region_of, with_region}
 use Rattle.mb_model.specs.declared.reply.Refusal.{Refusal}
 use Rattle.mb_model.specs.declared.reply.Refusal.TheVariants.{WrongLayer, RegionFull, KeySpent}
-use Rattle.mb_model.specs.Refusals.{refusal_reply}
-use Rattle.mb_model.specs.Script.{IsScriptEvent}
-use Rattle.mb_model.specs.Valid.{Valid, IsValidState}
+use Rattle.mb_model.specs.machine.Refusals.{refusal_reply}
+use Rattle.mb_model.specs.chains.Script.{IsScriptEvent}
+use Rattle.mb_model.specs.memories.Valid.{Valid, IsValidState}
 use Rattle.mb_board.specs.Calls.{held_by, held_in, IsMetered, IsUp, Seen}
 use Rattle.mb_model_lemmas.proofs.ValidSteps.{machine_valid}
 use Rattle.mb_model_memory.specs.Holding.{IsReady}

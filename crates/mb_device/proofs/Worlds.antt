@@ -6,12 +6,12 @@ use Rattle.mb_model.specs.declared.event.Event.TheVariants as event
 use Rattle.mb_model.specs.declared.reply.Reply.{Reply}
 use Rattle.mb_model.specs.declared.reply.Reply.TheVariants as reply
 use Rattle.mb_model.specs.declared.state.State.{State}
-use Rattle.mb_model.specs.Board.{phase_at}
-use Rattle.mb_model.specs.Layers.{is_runnable}
-use Rattle.mb_model.specs.Machine.{Phase, off, dead, ratchet, World, Told, running_state, running_state_in, boot_event, go_event, region_event, CommandStep, Machine}
+use Rattle.mb_model.specs.outside.Board.{phase_at}
+use Rattle.mb_model.specs.owners.Layers.{is_runnable}
+use Rattle.mb_model.specs.machine.Machine.{Phase, off, dead, ratchet, World, Told, running_state, running_state_in, boot_event, go_event, region_event, CommandStep, Machine}
 use Rattle.mb_model.specs.declared.reply.Refusal.{Refusal}
 use Rattle.mb_model.specs.declared.reply.Refusal.TheVariants.{PoweredOff, WrongPhase, Zeroised, WrongLayer}
-use Rattle.mb_model.specs.Refusals.{refusal_reply}
+use Rattle.mb_model.specs.machine.Refusals.{refusal_reply}
 use Rattle.mb_device.specs.Regions.{IsLayerEvent, region_named, layer_outcome}
 
 -- ---- phases

@@ -4,7 +4,7 @@ use Rattle.mb_model.specs.declared.event.Event.{Event}
 use Rattle.mb_model.specs.declared.event.Event.TheVariants as event
 use Rattle.mb_model.specs.declared.reply.Reply.TheVariants as reply
 use Rattle.mb_model.specs.declared.state.State.{State}
-use Rattle.mb_model.specs.LayerEvents.{Outcome, put_event, get_event, drop_event, sign_event}
+use Rattle.mb_model.specs.machine.LayerEvents.{Outcome, put_event, get_event, drop_event, sign_event}
 
 -- the event is a layer's use of its region
 abbrev pub IsLayerEvent : Event → Type 0

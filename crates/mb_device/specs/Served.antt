@@ -2,11 +2,11 @@
 use Rattle.std.specs.Prelude.{◌≡◌, ◌≢◌, ◌⊎◌, ◌++◌, List, [], map, All, Some}
 use Rattle.mb_model.specs.declared.event.Answered.{Answered}
 use Rattle.mb_model.specs.declared.state.State.{State}
-use Rattle.mb_model.specs.Acknowledged.{Shows, AreWiping, LeavesMemory, LeavesCleanMemory}
-use Rattle.mb_model.specs.Board.{Held, Ledger, AreBytes}
-use Rattle.mb_model.specs.Clean.{Clean}
-use Rattle.mb_model.specs.Machine.{World, Run, off}
-use Rattle.mb_model.specs.Valid.{Valid}
+use Rattle.mb_model.specs.memories.Acknowledged.{Shows, AreWiping, LeavesMemory, LeavesCleanMemory}
+use Rattle.mb_model.specs.outside.Board.{Held, Ledger, AreBytes}
+use Rattle.mb_model.specs.memories.Clean.{Clean}
+use Rattle.mb_model.specs.machine.Machine.{World, Run, off}
+use Rattle.mb_model.specs.memories.Valid.{Valid}
 
 -- All waiting events were answered, in order, by a run from this world, and the board then holds the world to which the
 -- run led.

@@ -5,12 +5,12 @@ use Rattle.mb_model.specs.declared.event.Event.{Event}
 use Rattle.mb_model.specs.declared.event.Event.TheVariants as event
 use Rattle.mb_model.specs.declared.reply.Reply.{Reply}
 use Rattle.mb_model.specs.declared.state.State.{State}
-use Rattle.mb_model.specs.Acknowledged.{Shows}
-use Rattle.mb_model.specs.Board.{Held, memory_after}
-use Rattle.mb_model.specs.Clean.{Clean}
-use Rattle.mb_model.specs.Machine.{World, Step, off, dead, ratchet}
-use Rattle.mb_model.specs.Script.{IsScriptEvent}
-use Rattle.mb_model.specs.Valid.{Valid}
+use Rattle.mb_model.specs.memories.Acknowledged.{Shows}
+use Rattle.mb_model.specs.outside.Board.{Held, memory_after}
+use Rattle.mb_model.specs.memories.Clean.{Clean}
+use Rattle.mb_model.specs.machine.Machine.{World, Step, off, dead, ratchet}
+use Rattle.mb_model.specs.chains.Script.{IsScriptEvent}
+use Rattle.mb_model.specs.memories.Valid.{Valid}
 use Rattle.mb_device_orders.specs.Remembering.{Knows}
 use Rattle.mb_device.specs.declared.device.Device.{Device}
 use Rattle.mb_device.specs.declared.device.Device.TheVariants as device

@@ -4,9 +4,9 @@ use Rattle.mb_model.specs.declared.event.Event.{Event}
 use Rattle.mb_model.specs.declared.event.Event.TheVariants as event
 use Rattle.mb_model.specs.declared.reply.Reply.{Reply}
 use Rattle.mb_model.specs.declared.reply.Reply.TheVariants as reply
-use Rattle.mb_model.specs.Layers.{layer_standing}
-use Rattle.mb_model.specs.Board.{Memory, Meter}
-use Rattle.mb_model.specs.Machine.{may_have_written}
+use Rattle.mb_model.specs.owners.Layers.{layer_standing}
+use Rattle.mb_model.specs.outside.Board.{Memory, Meter}
+use Rattle.mb_model.specs.machine.Machine.{may_have_written}
 use Rattle.mb_device_orders.specs.declared.remembering.Known.{Known}
 use Rattle.mb_device.specs.declared.device.Device.{Device}
 use Rattle.mb_device.specs.declared.device.Device.TheVariants as device

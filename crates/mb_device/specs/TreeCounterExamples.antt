@@ -13,7 +13,7 @@ use Rattle.mb_model.specs.declared.reply.Reply.{Reply}
 use Rattle.mb_model.specs.declared.reply.Reply.TheVariants as reply
 use Rattle.mb_model.specs.declared.reply.Standing.{Standing}
 use Rattle.mb_model.specs.declared.state.State.{State}
-use Rattle.mb_model.specs.OrderFormat.{order_format}
+use Rattle.mb_model.specs.records.OrderFormat.{order_format}
 use Rattle.mb_lms.specs.declared.hash_count.TheConstants.{TREE_HASHES}
 use Rattle.mb_outbound.specs.declared.kept.RegionTree.{RegionTree}
 use Rattle.mb_device_orders.specs.declared.remembering.Known.{Known}

@@ -2,7 +2,7 @@
 
 ghost use Rattle.std.specs.Prelude.{◌≡◌, Ok};
 ghost use Rattle.mb_model.specs.declared.event.Event.TheVariants as event;
-ghost use Rattle.mb_model.specs.Layers.{is_runnable};
+ghost use Rattle.mb_model.specs.owners.Layers.{is_runnable};
 ghost use Rattle.mb_board.specs.Calls.{held_in, IsSwitched};
 ghost use Rattle.mb_device.specs.Sound.{HasSound, StepsFrom};
 ghost use Rattle.mb_device.specs.Stepping.{stop_told};

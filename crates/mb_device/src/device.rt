@@ -1,9 +1,9 @@
 //! A device between two events.
 
 ghost use Rattle.std.specs.Prelude.{◌≡◌, false};
-ghost use Rattle.mb_model.specs.Acknowledged.{Shows};
-ghost use Rattle.mb_model.specs.Machine.{World};
-ghost use Rattle.mb_model.specs.Valid.{Valid};
+ghost use Rattle.mb_model.specs.memories.Acknowledged.{Shows};
+ghost use Rattle.mb_model.specs.machine.Machine.{World};
+ghost use Rattle.mb_model.specs.memories.Valid.{Valid};
 ghost use Rattle.mb_board.specs.Calls.{held_in};
 ghost use Rattle.mb_device.specs.Sound.{IsSoundDevice};
 

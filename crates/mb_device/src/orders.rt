@@ -2,10 +2,10 @@
 
 ghost use Rattle.std.specs.Prelude.{◌≡◌, ℕ, ◌+◌, ◌≤◌, ◌*◌};
 ghost use Rattle.mb_model.specs.declared.event.Event.TheVariants as event;
-ghost use Rattle.mb_model.specs.Board.{AreBytes};
+ghost use Rattle.mb_model.specs.outside.Board.{AreBytes};
 ghost use Rattle.mb_board.specs.Calls.{held_in, KeepsEvents};
-ghost use Rattle.mb_model.specs.Spared.{SparesSectors};
-ghost use Rattle.mb_model.specs.Machine.{World};
+ghost use Rattle.mb_model.specs.memories.Spared.{SparesSectors};
+ghost use Rattle.mb_model.specs.machine.Machine.{World};
 ghost use Rattle.mb_device.specs.Sound.{HasSound, IsSoundDevice, StepsFrom};
 ghost use Rattle.mb_device.specs.Stepping.{stop_told, IfNothingTold};
 ghost use Rattle.mb_device.specs.KeptTrees.{KeepsItsTrees, LeavesKeyOf, MakesKeysOf, SignsByDeviceTree};

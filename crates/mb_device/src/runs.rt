@@ -2,7 +2,7 @@
 
 ghost use Rattle.std.proofs.Common.{refl};
 ghost use Rattle.std.specs.Prelude.{◌≡◌, ℕ, Some};
-ghost use Rattle.mb_model.specs.Machine.{World};
+ghost use Rattle.mb_model.specs.machine.Machine.{World};
 ghost use Rattle.mb_device.specs.declared.device.Device.{Device as Whole};
 ghost use Rattle.mb_device.specs.declared.device.Device.TheVariants as device;
 ghost use Rattle.mb_device.specs.declared.device.Running.{Running as Remembered};

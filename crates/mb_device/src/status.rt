@@ -1,9 +1,9 @@
 //! The status of a device.
 
 ghost use Rattle.std.specs.Prelude.{◌≡◌, ◌≤◌, Ok};
-ghost use Rattle.mb_model.specs.Layers.{layer_standing};
-ghost use Rattle.mb_model.specs.Machine.{World, status_event, running_state_in};
-ghost use Rattle.mb_model.specs.Valid.{Valid};
+ghost use Rattle.mb_model.specs.owners.Layers.{layer_standing};
+ghost use Rattle.mb_model.specs.machine.Machine.{World, status_event, running_state_in};
+ghost use Rattle.mb_model.specs.memories.Valid.{Valid};
 ghost use Rattle.mb_device.specs.Sound.{Fits};
 ghost use Rattle.mb_device.specs.Stepping.{status_known, stop_told};
 

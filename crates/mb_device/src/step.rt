@@ -2,11 +2,11 @@
 
 ghost use Rattle.std.specs.Prelude.{◌≡◌, ℕ, ◌+◌, ◌*◌, ◌≤◌, [], All, length};
 ghost use Rattle.mb_model.specs.declared.limits.TheConstants.{WRITE_LIMIT};
-ghost use Rattle.mb_model.specs.Board.{AreBytes, Held, IsLoaded, use_of, having_answered};
-ghost use Rattle.mb_model.specs.Machine.{World};
-ghost use Rattle.mb_model.specs.Script.{IsScriptEvent};
+ghost use Rattle.mb_model.specs.outside.Board.{AreBytes, Held, IsLoaded, use_of, having_answered};
+ghost use Rattle.mb_model.specs.machine.Machine.{World};
+ghost use Rattle.mb_model.specs.chains.Script.{IsScriptEvent};
 ghost use Rattle.mb_board.specs.Calls.{held_in, KeepsEvents, IsBetweenEvents};
-ghost use Rattle.mb_model.specs.Spared.{SparesSectors};
+ghost use Rattle.mb_model.specs.memories.Spared.{SparesSectors};
 ghost use Rattle.mb_boot.specs.Booting.{IsQuiet};
 ghost use Rattle.mb_device.specs.Sound.{IsSoundDevice, HasSound, taken, CanStep, Steps};
 ghost use Rattle.mb_device.specs.Stepping.{stop_told, IfNothingTold, IfBoot};

@@ -6,10 +6,10 @@ use Rattle.mb_model.specs.declared.reply.Reply.{Reply}
 use Rattle.mb_model.specs.declared.reply.Reply.TheVariants as reply
 use Rattle.mb_model.specs.declared.state.State.{State}
 use Rattle.mb_model.specs.declared.stored.Root.{Root}
-use Rattle.mb_model.specs.Board.{Memory}
-use Rattle.mb_model.specs.Log.{entries_of, figures_of, number_of}
-use Rattle.mb_model.specs.OrderEffects.{state_after_order}
-use Rattle.mb_model.specs.OrderStep.{OrderStep, is_obeyed}
+use Rattle.mb_model.specs.outside.Board.{Memory}
+use Rattle.mb_model.specs.owners.Log.{entries_of, figures_of, number_of}
+use Rattle.mb_model.specs.machine.OrderEffects.{state_after_order}
+use Rattle.mb_model.specs.machine.OrderStep.{OrderStep, is_obeyed}
 use Rattle.mb_model.specs.declared.state.Figures.{Figures}
 use Rattle.mb_model_memory.specs.Holding.{Means, IsReady}
 use Rattle.mb_layout.specs.declared.room.Room.{Room}

@@ -6,19 +6,19 @@ use Rattle.mb_model.specs.declared.state.Codes.{Codes}
 use Rattle.mb_model.specs.declared.state.State.{State}
 use Rattle.mb_model.specs.declared.stored.Header.{Header}
 use Rattle.mb_model.specs.declared.stored.Root.{Root}
-use Rattle.mb_model.specs.Board.{Memory, Meter, IsLoaded}
-use Rattle.mb_model.specs.Clean.{root_of}
-use Rattle.mb_model.specs.Flash.{sector, HoldsHeader, HoldsPublic}
-use Rattle.mb_model.specs.HeaderFormat.{header_format}
-use Rattle.mb_model.specs.Meaning.{RootIn}
-use Rattle.mb_model.specs.OrderEffects.{state_after_order}
-use Rattle.mb_model.specs.RootFormat.{root_format}
-use Rattle.mb_model.specs.Sectors.{header_sector, log_sector}
-use Rattle.mb_model.specs.StoredLog.{AreCounted}
+use Rattle.mb_model.specs.outside.Board.{Memory, Meter, IsLoaded}
+use Rattle.mb_model.specs.memories.Clean.{root_of}
+use Rattle.mb_model.specs.memories.Flash.{sector, HoldsHeader, HoldsPublic}
+use Rattle.mb_model.specs.records.HeaderFormat.{header_format}
+use Rattle.mb_model.specs.memories.Meaning.{RootIn}
+use Rattle.mb_model.specs.machine.OrderEffects.{state_after_order}
+use Rattle.mb_model.specs.records.RootFormat.{root_format}
+use Rattle.mb_model.specs.memories.Sectors.{header_sector, log_sector}
+use Rattle.mb_model.specs.memories.StoredLog.{AreCounted}
 use Rattle.mb_model_lemmas.proofs.HeldSegments.{begins_with}
 use Rattle.mb_model_lemmas.proofs.ValidSteps.{obeyed_valid}
 use Rattle.mb_model_memory.specs.Commits.{committed, at_rest, new_entries}
-use Rattle.mb_model.specs.Spared.{SparesSectors}
+use Rattle.mb_model.specs.memories.Spared.{SparesSectors}
 use Rattle.mb_model_memory.specs.FlashInForce.{slot_in, AgreeForArea}
 use Rattle.mb_model_memory.specs.Holding.{Holds, Means, KeepsContents, KeepsMeaning, IsReady}
 use Rattle.mb_model_memory.specs.NextHeaders.{code_brought, IsCodeWritten, header_after}

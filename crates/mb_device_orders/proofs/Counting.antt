@@ -5,9 +5,9 @@ use Rattle.std.proofs.Math.Seq.{append_snoc}
 use Rattle.mb_model.specs.declared.entry.Entry.{Entry}
 use Rattle.mb_model.specs.declared.entry.SignedEntry.{SignedEntry}
 use Rattle.mb_model.specs.declared.state.Figures.{Figures}
-use Rattle.mb_model.specs.Flash.{sector, HoldsEntry, HoldsLog}
-use Rattle.mb_model.specs.Log.{figures_of, entries_of}
-use Rattle.mb_model.specs.Sectors.{log_sector}
+use Rattle.mb_model.specs.memories.Flash.{sector, HoldsEntry, HoldsLog}
+use Rattle.mb_model.specs.owners.Log.{figures_of, entries_of}
+use Rattle.mb_model.specs.memories.Sectors.{log_sector}
 use Rattle.mb_model_lemmas.proofs.ValidStates.{entries_of-push}
 
 -- ---- the entries of a log in its sectors

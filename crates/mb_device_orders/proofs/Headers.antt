@@ -8,8 +8,8 @@ use Rattle.mb_bytes.specs.Puts.{Writes}
 use Rattle.mb_model.specs.declared.entry.Entry.{Entry}
 use Rattle.mb_model.specs.declared.order.Act.{Act}
 use Rattle.mb_model.specs.declared.stored.Header.{Header}
-use Rattle.mb_model.specs.HeaderFormat.{first_text, second_text, header_format}
-use Rattle.mb_model.specs.Sectors.{BeginsAs}
+use Rattle.mb_model.specs.records.HeaderFormat.{first_text, second_text, header_format}
+use Rattle.mb_model.specs.memories.Sectors.{BeginsAs}
 use Rattle.mb_model.proofs.FormatBounds.{header_short}
 use Rattle.mb_model_memory.specs.NextHeaders.{texts_of_entries, header_after}
 use Rattle.mb_model_memory.proofs.FlashHeaders.{entries_have_texts, header_after_allowed}

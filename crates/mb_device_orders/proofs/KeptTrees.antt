@@ -10,14 +10,14 @@ use Rattle.mb_model.specs.declared.state.State.{State}
 use Rattle.mb_model.specs.declared.state.View.{View}
 use Rattle.mb_model.specs.declared.stored.Outgoing.{Outgoing}
 use Rattle.mb_model.specs.declared.stored.Root.{Root}
-use Rattle.mb_model.specs.Board.{Memory}
-use Rattle.mb_model.specs.Flash.{AreBytesOf}
-use Rattle.mb_model.specs.Listing.{is_done}
-use Rattle.mb_model.specs.Log.{keys_made_by}
-use Rattle.mb_model.specs.OrderChecks.{view_of, succession_is_due}
-use Rattle.mb_model.specs.OrderEffects.{fact_of, names_next, device_after}
-use Rattle.mb_model.specs.StoredLog.{outgoing_of}
-use Rattle.mb_model.specs.Work.{after_succession, outgoing_by, bodies_by, bodies_for, pending_for}
+use Rattle.mb_model.specs.outside.Board.{Memory}
+use Rattle.mb_model.specs.memories.Flash.{AreBytesOf}
+use Rattle.mb_model.specs.chains.Listing.{is_done}
+use Rattle.mb_model.specs.owners.Log.{keys_made_by}
+use Rattle.mb_model.specs.machine.OrderChecks.{view_of, succession_is_due}
+use Rattle.mb_model.specs.machine.OrderEffects.{fact_of, names_next, device_after}
+use Rattle.mb_model.specs.memories.StoredLog.{outgoing_of}
+use Rattle.mb_model.specs.machine.Work.{after_succession, outgoing_by, bodies_by, bodies_for, pending_for}
 use Rattle.mb_model_lemmas.proofs.AdditionLemmas.{device_is}
 use Rattle.mb_model_memory.specs.Commits.{root_for, new_entries}
 use Rattle.mb_model_memory.specs.Holding.{IsReady}

@@ -21,20 +21,20 @@ use Rattle.mb_model.specs.declared.state.State.{State}
 use Rattle.mb_model.specs.declared.stored.Header.{Header}
 use Rattle.mb_model.specs.declared.stored.Outgoing.{Outgoing}
 use Rattle.mb_model.specs.declared.stored.Root.{Root}
-use Rattle.mb_model.specs.Board.{Memory}
-use Rattle.mb_model.specs.Clean.{root_of}
-use Rattle.mb_model.specs.EntryFormat.{entry_format, signed_entry_format}
-use Rattle.mb_model.specs.Flash.{sector, HoldsHeader, AreBytesOf}
-use Rattle.mb_model.specs.HeaderFormat.{first_text, second_text, header_format}
-use Rattle.mb_model.specs.Log.{figures_of, entries_of}
-use Rattle.mb_model.specs.OrderChecks.{view_of, needs_succession, Passes}
-use Rattle.mb_model.specs.OrderEffects.{entry_signed_by, state_after_succession, state_after_change, state_after_new_key, ready_for, codes_after, state_after_act, state_after_order}
-use Rattle.mb_model.specs.OrderFormat.{body_format, order_format}
-use Rattle.mb_model.specs.Rules.{kind_of, least_layer, MayBeFor}
-use Rattle.mb_model.specs.Sectors.{header_sector, BeginsAs}
-use Rattle.mb_model.specs.StoredLog.{entries_signed_for, outgoing_of, log_completed_by}
-use Rattle.mb_model.specs.Valid.{IsValidState}
-use Rattle.mb_model.specs.Work.{pending_for}
+use Rattle.mb_model.specs.outside.Board.{Memory}
+use Rattle.mb_model.specs.memories.Clean.{root_of}
+use Rattle.mb_model.specs.records.EntryFormat.{entry_format, signed_entry_format}
+use Rattle.mb_model.specs.memories.Flash.{sector, HoldsHeader, AreBytesOf}
+use Rattle.mb_model.specs.records.HeaderFormat.{first_text, second_text, header_format}
+use Rattle.mb_model.specs.owners.Log.{figures_of, entries_of}
+use Rattle.mb_model.specs.machine.OrderChecks.{view_of, needs_succession, Passes}
+use Rattle.mb_model.specs.machine.OrderEffects.{entry_signed_by, state_after_succession, state_after_change, state_after_new_key, ready_for, codes_after, state_after_act, state_after_order}
+use Rattle.mb_model.specs.records.OrderFormat.{body_format, order_format}
+use Rattle.mb_model.specs.owners.Rules.{kind_of, least_layer, MayBeFor}
+use Rattle.mb_model.specs.memories.Sectors.{header_sector, BeginsAs}
+use Rattle.mb_model.specs.memories.StoredLog.{entries_signed_for, outgoing_of, log_completed_by}
+use Rattle.mb_model.specs.memories.Valid.{IsValidState}
+use Rattle.mb_model.specs.machine.Work.{pending_for}
 use Rattle.mb_orders.specs.declared.plan.Plan.{Plan}
 use Rattle.mb_orders.specs.Judging.{plan_by}
 use Rattle.mb_model_lemmas.proofs.AdditionLemmas.{device_is, uses_are}

@@ -14,14 +14,14 @@ use Rattle.mb_model.specs.declared.entry.SignedEntry.{SignedEntry}
 use Rattle.mb_model.specs.declared.state.State.{State}
 use Rattle.mb_model.specs.declared.stored.Header.{Header}
 use Rattle.mb_model.specs.declared.stored.Root.{Root}
-use Rattle.mb_model.specs.Board.{Memory}
-use Rattle.mb_model.specs.Clean.{root_of}
-use Rattle.mb_model.specs.EntryFormat.{entry_format}
-use Rattle.mb_model.specs.Flash.{sector, HoldsHeader, HoldsEntry, HoldsLog, HoldsPublic}
-use Rattle.mb_model.specs.HeaderFormat.{entry_bytes_format, header_format, log_format}
-use Rattle.mb_model.specs.Log.{figures_of, entries_of}
-use Rattle.mb_model.specs.Meaning.{RootIn}
-use Rattle.mb_model.specs.Sectors.{BeginsAs}
+use Rattle.mb_model.specs.outside.Board.{Memory}
+use Rattle.mb_model.specs.memories.Clean.{root_of}
+use Rattle.mb_model.specs.records.EntryFormat.{entry_format}
+use Rattle.mb_model.specs.memories.Flash.{sector, HoldsHeader, HoldsEntry, HoldsLog, HoldsPublic}
+use Rattle.mb_model.specs.records.HeaderFormat.{entry_bytes_format, header_format, log_format}
+use Rattle.mb_model.specs.owners.Log.{figures_of, entries_of}
+use Rattle.mb_model.specs.memories.Meaning.{RootIn}
+use Rattle.mb_model.specs.memories.Sectors.{BeginsAs}
 use Rattle.mb_model.proofs.EntryFormatLaws.{entry_exact}
 use Rattle.mb_model.proofs.HeaderFormatLaws.{header_exact, log_exact}
 use Rattle.mb_model_lemmas.proofs.HeldSegments.{begins_with, small_header}

@@ -1,9 +1,9 @@
 -- How the signed entries of the log and the sectors that hold nothing stay where the flash does.
 use Rattle.std.proofs.Common.{◌≡◌, List, ℕ, ap}
-use Rattle.mb_model.specs.Board.{Memory}
-use Rattle.mb_model.specs.Flash.{sector}
-use Rattle.mb_model.specs.Sectors.{log_sector}
-use Rattle.mb_model.specs.Spared.{SparesSectors}
+use Rattle.mb_model.specs.outside.Board.{Memory}
+use Rattle.mb_model.specs.memories.Flash.{sector}
+use Rattle.mb_model.specs.memories.Sectors.{log_sector}
+use Rattle.mb_model.specs.memories.Spared.{SparesSectors}
 
 pub same_flash_spared : (before after : Memory) → after.flash ≡ before.flash → SparesSectors before after
 same_flash_spared before after same = record {

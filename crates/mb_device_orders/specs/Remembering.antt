@@ -1,8 +1,8 @@
 -- What a device remembers of its state while power is on. Does it agree with the memory?
 use Rattle.std.specs.Prelude.{◌≡◌, Option, IfSome}
 use Rattle.mb_model.specs.declared.state.State.{State}
-use Rattle.mb_model.specs.Board.{Memory}
-use Rattle.mb_model.specs.Log.{figures_of, entries_of}
+use Rattle.mb_model.specs.outside.Board.{Memory}
+use Rattle.mb_model.specs.owners.Log.{figures_of, entries_of}
 use Rattle.mb_model_memory.specs.Holding.{IsReady}
 use Rattle.mb_outbound.specs.KeptTrees.{IsKeptIn}
 use Rattle.mb_signer.specs.declared.tree.KeptTree.{KeptTree}

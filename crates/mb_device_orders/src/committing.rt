@@ -3,10 +3,10 @@
 ghost use Rattle.std.specs.Prelude.{◌≡◌, ℕ, ◌≤◌, ◌+◌, ◌⊎◌, List, None, OnOk, ◌*◌};
 ghost use Rattle.mb_model.specs.declared.order.Order.{Order};
 ghost use Rattle.mb_model.specs.declared.state.State.{State};
-ghost use Rattle.mb_model.specs.OrderEffects.{state_after_order};
-ghost use Rattle.mb_model.specs.StoredLog.{outgoing_of};
+ghost use Rattle.mb_model.specs.machine.OrderEffects.{state_after_order};
+ghost use Rattle.mb_model.specs.memories.StoredLog.{outgoing_of};
 ghost use Rattle.mb_board.specs.Calls.{IsUp, Ran};
-ghost use Rattle.mb_model.specs.Spared.{SparesSectors};
+ghost use Rattle.mb_model.specs.memories.Spared.{SparesSectors};
 ghost use Rattle.mb_model_memory.specs.Holding.{Means, IsReady};
 ghost use Rattle.mb_device_orders.specs.Planning.{IsCommit, HasCommit};
 ghost use Rattle.mb_boot.specs.Signers.{HasSigners};

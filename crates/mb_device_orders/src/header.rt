@@ -4,9 +4,9 @@ ghost use Rattle.std.specs.Prelude.{◌≡◌, ◌≤◌, length, map, All, IfOk
 ghost use Rattle.mb_format.specs.Format.{Spells};
 ghost use Rattle.mb_model.specs.declared.limits.TheConstants.{CODE_LIMIT, FILE_LIMIT};
 ghost use Rattle.mb_model.specs.declared.stored.Header.{Header};
-ghost use Rattle.mb_model.specs.EntryFormat.{entry_format};
-ghost use Rattle.mb_model.specs.HeaderFormat.{first_text, second_text, header_format};
-ghost use Rattle.mb_model.specs.Sectors.{BeginsAs};
+ghost use Rattle.mb_model.specs.records.EntryFormat.{entry_format};
+ghost use Rattle.mb_model.specs.records.HeaderFormat.{first_text, second_text, header_format};
+ghost use Rattle.mb_model.specs.memories.Sectors.{BeginsAs};
 ghost use Rattle.mb_model_memory.specs.NextHeaders.{free_slot, code_brought, texts_of_entries, slot_after, header_after};
 ghost use Rattle.mb_segments.specs.Uncopied.{header_of};
 ghost use Rattle.mb_area.specs.Flashes.{BeginWithHeader};

@@ -3,9 +3,9 @@
 ghost use Rattle.std.specs.Prelude.{◌≡◌, ◌≤◌, ◌+◌, false, IfOk, IfErr, OnErr, ◌*◌};
 ghost use Rattle.mb_format.specs.Format.{IsBytes};
 ghost use Rattle.mb_model.specs.declared.state.State.{State};
-ghost use Rattle.mb_model.specs.Listing.{is_done};
-ghost use Rattle.mb_model.specs.Log.{keys_made_by};
-ghost use Rattle.mb_model.specs.OrderChecks.{view_of};
+ghost use Rattle.mb_model.specs.chains.Listing.{is_done};
+ghost use Rattle.mb_model.specs.owners.Log.{keys_made_by};
+ghost use Rattle.mb_model.specs.machine.OrderChecks.{view_of};
 ghost use Rattle.mb_log.specs.Additions.{IsInRange};
 ghost use Rattle.mb_orders.specs.Judging.{refusal_of};
 ghost use Rattle.mb_board.specs.Calls.{IsUp};

@@ -5,10 +5,10 @@ ghost use Rattle.mb_model.specs.declared.limits.TheConstants.{ENTRY_LIMIT, FILE_
 ghost use Rattle.mb_model.specs.declared.entry.SignedEntry.{SignedEntry};
 ghost use Rattle.mb_model.specs.declared.state.State.{State};
 ghost use Rattle.mb_model.specs.declared.stored.Header.{Header};
-ghost use Rattle.mb_model.specs.Flash.{sector, HoldsHeader, HoldsEntry, HoldsLog};
-ghost use Rattle.mb_model.specs.HeaderFormat.{header_format};
-ghost use Rattle.mb_model.specs.Log.{figures_of, entries_of};
-ghost use Rattle.mb_model.specs.Sectors.{log_sector, BeginsAs};
+ghost use Rattle.mb_model.specs.memories.Flash.{sector, HoldsHeader, HoldsEntry, HoldsLog};
+ghost use Rattle.mb_model.specs.records.HeaderFormat.{header_format};
+ghost use Rattle.mb_model.specs.owners.Log.{figures_of, entries_of};
+ghost use Rattle.mb_model.specs.memories.Sectors.{log_sector, BeginsAs};
 ghost use Rattle.mb_board.specs.Calls.{IsPowered, IsUp};
 ghost use Rattle.mb_model_memory.specs.Holding.{IsReady, HasReady};
 ghost use Rattle.mb_signer.specs.Benches.{HasTree};

@@ -7,16 +7,16 @@ use Rattle.mb_model.specs.declared.region.Secret.{Secret}
 use Rattle.mb_model.specs.declared.reply.Reply.{Reply}
 use Rattle.mb_model.specs.declared.reply.Reply.TheVariants as reply
 use Rattle.mb_model.specs.declared.state.State.{State}
-use Rattle.mb_model.specs.Board.{Memory}
-use Rattle.mb_model.specs.Layers.{Runnable}
-use Rattle.mb_model.specs.LayerEvents.{Outcome, has_name, value_reply, put_event, get_event, drop_event}
-use Rattle.mb_model.specs.Log.{entries_of, number_of}
-use Rattle.mb_model.specs.Regions.{region_of, with_region}
+use Rattle.mb_model.specs.outside.Board.{Memory}
+use Rattle.mb_model.specs.owners.Layers.{Runnable}
+use Rattle.mb_model.specs.machine.LayerEvents.{Outcome, has_name, value_reply, put_event, get_event, drop_event}
+use Rattle.mb_model.specs.owners.Log.{entries_of, number_of}
+use Rattle.mb_model.specs.owners.Regions.{region_of, with_region}
 use Rattle.mb_model.specs.declared.reply.Refusal.TheVariants.{RegionFull}
-use Rattle.mb_model.specs.Refusals.{refusal_reply}
-use Rattle.mb_model.specs.RegionFormat.{secret_format, CanBeWritten}
-use Rattle.mb_model.specs.Script.{IsName, FitsMessage}
-use Rattle.mb_model.specs.Valid.{IsValidState}
+use Rattle.mb_model.specs.machine.Refusals.{refusal_reply}
+use Rattle.mb_model.specs.records.RegionFormat.{secret_format, CanBeWritten}
+use Rattle.mb_model.specs.chains.Script.{IsName, FitsMessage}
+use Rattle.mb_model.specs.memories.Valid.{IsValidState}
 use Rattle.mb_model_lemmas.proofs.ValidStates.{valid_is_ruled, region_is_valid, valid_with}
 use Rattle.mb_model_lemmas.proofs.ValidRegions.{valid_over_put, valid_over_drop}
 use Rattle.mb_model_lemmas.specs.RegionLaws.{without_secret}

@@ -6,14 +6,14 @@ use Rattle.mb_model.specs.declared.region.Region.{Region}
 use Rattle.mb_model.specs.declared.state.State.{State}
 use Rattle.mb_model.specs.declared.stored.Root.{Root}
 use Rattle.mb_model.specs.declared.stored.Fate.TheVariants.{Keep}
-use Rattle.mb_model.specs.Board.{Memory, IsLoaded}
-use Rattle.mb_model.specs.Clean.{root_of}
-use Rattle.mb_model.specs.Layers.{is_upper}
-use Rattle.mb_model.specs.Log.{entries_of}
-use Rattle.mb_model.specs.Meaning.{Contents, HoldsRegion, fate_of_two, fate_of_three}
-use Rattle.mb_model.specs.Memory.{IsBlank, area_of_slot, inactive_area_of_slot}
-use Rattle.mb_model.specs.Regions.{region_of, with_region}
-use Rattle.mb_model.specs.Valid.{IsValidRegion, IsValidState}
+use Rattle.mb_model.specs.outside.Board.{Memory, IsLoaded}
+use Rattle.mb_model.specs.memories.Clean.{root_of}
+use Rattle.mb_model.specs.owners.Layers.{is_upper}
+use Rattle.mb_model.specs.owners.Log.{entries_of}
+use Rattle.mb_model.specs.memories.Meaning.{Contents, HoldsRegion, fate_of_two, fate_of_three}
+use Rattle.mb_model.specs.memories.Memory.{IsBlank, area_of_slot, inactive_area_of_slot}
+use Rattle.mb_model.specs.owners.Regions.{region_of, with_region}
+use Rattle.mb_model.specs.memories.Valid.{IsValidRegion, IsValidState}
 use Rattle.mb_model_lemmas.proofs.MeaningLemmas.{one_root_in}
 use Rattle.mb_model_lemmas.proofs.ValidStates.{region_is_valid}
 use Rattle.mb_model_memory.specs.Commits.{at_rest}

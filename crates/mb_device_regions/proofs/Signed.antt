@@ -8,16 +8,16 @@ use Rattle.mb_model.specs.declared.region.RegionKey.{RegionKey}
 use Rattle.mb_model.specs.declared.reply.Reply.{Reply}
 use Rattle.mb_model.specs.declared.reply.Reply.TheVariants as reply
 use Rattle.mb_model.specs.declared.state.State.{State}
-use Rattle.mb_model.specs.Board.{Memory, IsLoaded}
-use Rattle.mb_model.specs.ChainFormat.{statement_format}
-use Rattle.mb_model.specs.Layers.{Runnable}
-use Rattle.mb_model.specs.LayerEvents.{Outcome, has_number, statement_of, sign_with, sign_event}
-use Rattle.mb_model.specs.Log.{entries_of, number_of}
-use Rattle.mb_model.specs.Memory.{IsBlank, area_of_slot, inactive_area_of_slot}
-use Rattle.mb_model.specs.Regions.{region_of, with_region}
+use Rattle.mb_model.specs.outside.Board.{Memory, IsLoaded}
+use Rattle.mb_model.specs.records.ChainFormat.{statement_format}
+use Rattle.mb_model.specs.owners.Layers.{Runnable}
+use Rattle.mb_model.specs.machine.LayerEvents.{Outcome, has_number, statement_of, sign_with, sign_event}
+use Rattle.mb_model.specs.owners.Log.{entries_of, number_of}
+use Rattle.mb_model.specs.memories.Memory.{IsBlank, area_of_slot, inactive_area_of_slot}
+use Rattle.mb_model.specs.owners.Regions.{region_of, with_region}
 use Rattle.mb_model.specs.declared.reply.Refusal.TheVariants.{NoSuchKey, KeySpent}
-use Rattle.mb_model.specs.Refusals.{refusal_reply}
-use Rattle.mb_model.specs.Valid.{IsValidState}
+use Rattle.mb_model.specs.machine.Refusals.{refusal_reply}
+use Rattle.mb_model.specs.memories.Valid.{IsValidState}
 use Rattle.mb_model_lemmas.proofs.FateLemmas.{keys_increase}
 use Rattle.mb_model_lemmas.proofs.ValidStates.{valid_is_ruled, region_is_valid, valid_with}
 use Rattle.mb_model_lemmas.proofs.ValidRegions.{valid_over_use}

@@ -3,7 +3,7 @@ use Rattle.std.proofs.Common.{◌≡◌, ◌≤◌, ℕ, arith}
 use Rattle.std.specs.Global.{Vec}
 use Rattle.std.specs.Vec.{vec_len, vec_capacity}
 use Rattle.mb_model.specs.declared.entry.Statement.{Statement}
-use Rattle.mb_model.specs.ChainFormat.{statement_format}
+use Rattle.mb_model.specs.records.ChainFormat.{statement_format}
 use Rattle.mb_model.proofs.FormatBounds.{statement_short}
 use Rattle.mb_bytes.specs.Puts.{IsUnwritten}
 

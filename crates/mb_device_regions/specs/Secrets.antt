@@ -5,7 +5,7 @@ use Rattle.std.specs.List.{list_any}
 use Rattle.mb_model.specs.declared.limits.TheConstants.{SECRET_LIMIT}
 use Rattle.mb_model.specs.declared.region.Region.{Region}
 use Rattle.mb_model.specs.declared.region.Secret.{Secret}
-use Rattle.mb_model.specs.LayerEvents.{has_name, with_secret}
+use Rattle.mb_model.specs.machine.LayerEvents.{has_name, with_secret}
 use Rattle.mb_model_memory.specs.Storable.{IsStorableRegion}
 use Rattle.mb_model_lemmas.specs.RegionLaws.{without_secret}
 use Rattle.mb_device_regions.specs.declared.end.NotPut.{NotPut}

@@ -2,11 +2,11 @@
 use Rattle.std.specs.Prelude.{◌≡◌, ℕ, ◌≤◌, List, [], false, Option, Result, Ok, Err}
 use Rattle.std.specs.Vec.{vec_len, vec_capacity}
 use Rattle.mb_model.specs.declared.key.KeySeed.{KeySeed}
-use Rattle.mb_model.specs.ChainFormat.{statement_format}
-use Rattle.mb_model.specs.Listing.{is_signed}
-use Rattle.mb_model.specs.Signing.{signature_of}
-use Rattle.mb_model.specs.SignedTexts.{statement_text}
-use Rattle.mb_model.specs.Board.{Memory}
+use Rattle.mb_model.specs.records.ChainFormat.{statement_format}
+use Rattle.mb_model.specs.chains.Listing.{is_signed}
+use Rattle.mb_model.specs.signatures.Signing.{signature_of}
+use Rattle.mb_model.specs.machine.SignedTexts.{statement_text}
+use Rattle.mb_model.specs.outside.Board.{Memory}
 use Rattle.mb_model.specs.declared.reply.Reply.{Reply}
 use Rattle.mb_model.specs.declared.reply.Reply.TheVariants as reply
 use Rattle.mb_model.specs.declared.state.State.{State}

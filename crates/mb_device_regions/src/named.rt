@@ -1,7 +1,7 @@
 //! Secrets by their names.
 
 ghost use Rattle.std.specs.Prelude.{◌≡◌, true, false, find, position};
-ghost use Rattle.mb_model.specs.LayerEvents.{has_name, value_reply};
+ghost use Rattle.mb_model.specs.machine.LayerEvents.{has_name, value_reply};
 ghost use Rattle.mb_device_regions.specs.Secrets.{IsKeptRegion, PutOf, DropOf};
 
 use crate::end::NotPut;

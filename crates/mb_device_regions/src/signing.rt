@@ -3,10 +3,10 @@
 ghost use Rattle.std.specs.Prelude.{◌≡◌, ◌+◌, ◌≤◌, ◌<◌, length, IfOk};
 ghost use Rattle.mb_layout.specs.Plans.{SamePlans};
 ghost use Rattle.mb_model.specs.declared.state.State.{State};
-ghost use Rattle.mb_model.specs.Layers.{Runnable};
-ghost use Rattle.mb_model.specs.LayerEvents.{sign_event};
-ghost use Rattle.mb_model.specs.Log.{entries_of, number_of};
-ghost use Rattle.mb_model.specs.Script.{FitsMessage};
+ghost use Rattle.mb_model.specs.owners.Layers.{Runnable};
+ghost use Rattle.mb_model.specs.machine.LayerEvents.{sign_event};
+ghost use Rattle.mb_model.specs.owners.Log.{entries_of, number_of};
+ghost use Rattle.mb_model.specs.chains.Script.{FitsMessage};
 ghost use Rattle.mb_board.specs.Calls.{RanOnBbram};
 ghost use Rattle.mb_model_memory.specs.Holding.{IsReady};
 ghost use Rattle.mb_model_memory.specs.Answering.{ComesTo, TellsOfWrites};

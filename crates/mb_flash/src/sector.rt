@@ -2,8 +2,8 @@
 
 ghost use Rattle.std.specs.Prelude.{◌≡◌, ℕ, ◌+◌, ◌*◌, ◌<◌, ◌≤◌, ◌++◌, ◌⊎◌, ◌↔◌, length, IsTrue, OnOk, Ok};
 ghost use Rattle.mb_model.specs.declared.limits.TheConstants.{SECTOR_COUNT, SECTOR_LENGTH};
-ghost use Rattle.mb_model.specs.Pieces.{part};
-ghost use Rattle.mb_model.specs.Board.{erased_bytes};
+ghost use Rattle.mb_model.specs.outside.Pieces.{part};
+ghost use Rattle.mb_model.specs.outside.Board.{erased_bytes};
 ghost use Rattle.mb_board.specs.Calls.{IsPowered, RanOnFlash};
 ghost use Rattle.mb_slot.specs.Slots.{IsSameOutside};
 ghost use Rattle.mb_flash.specs.Sectors.{sectors_for};

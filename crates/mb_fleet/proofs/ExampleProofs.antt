@@ -10,9 +10,9 @@ use Rattle.mb_format.proofs.Examples.{are_bytes}
 use Rattle.mb_format.proofs.Compositions.{times_exact}
 use Rattle.mb_format.proofs.Whole.{at_start, IsExactWhole-from_exact, IsClearWhole-from_exact}
 use Rattle.mb_model.specs.declared.key.PublicKey.{PublicKey}
-use Rattle.mb_model.specs.Lines.{text_of}
-use Rattle.mb_model.specs.ChainFormat.{chain_format}
-use Rattle.mb_model.specs.Acceptance.{bad_form}
+use Rattle.mb_model.specs.chains.Lines.{text_of}
+use Rattle.mb_model.specs.records.ChainFormat.{chain_format}
+use Rattle.mb_model.specs.chains.Acceptance.{bad_form}
 use Rattle.mb_model.proofs.EntryFormatLaws.{chain_exact}
 use Rattle.mb_model_lemmas.proofs.Splits.{some_same}
 use Rattle.mb_fleet.specs.declared.row.Row.{Row}

@@ -7,9 +7,9 @@ use Rattle.mb_model.specs.declared.entry.Entry.{Entry}
 use Rattle.mb_model.specs.declared.entry.Entry.TheVariants.{Birth, Change, NewKey, Succession}
 use Rattle.mb_model.specs.declared.entry.Chain.{Chain}
 use Rattle.mb_model.specs.declared.entry.SignedEntry.{SignedEntry}
-use Rattle.mb_model.specs.Log.{entries_of, figures_of, last_of, serial_in, serial_of, Ruled}
-use Rattle.mb_model.specs.ChainFormat.{chain_format}
-use Rattle.mb_model.specs.Acceptance.{AreGood}
+use Rattle.mb_model.specs.owners.Log.{entries_of, figures_of, last_of, serial_in, serial_of, Ruled}
+use Rattle.mb_model.specs.records.ChainFormat.{chain_format}
+use Rattle.mb_model.specs.chains.Acceptance.{AreGood}
 use Rattle.mb_verifier.specs.declared.refusal.ChainRefusal as verifier
 use Rattle.mb_verifier.specs.declared.refusal.ChainRefusal.TheVariants as why
 use Rattle.mb_verifier.specs.Ends.{chain_refusal_of}

@@ -6,9 +6,9 @@ use Rattle.std.specs.Fmt.{decimal}
 use Rattle.mb_model.specs.declared.key.PublicKey.{PublicKey}
 use Rattle.mb_model.specs.declared.limits.TheConstants.{FILE_LIMIT}
 use Rattle.mb_model.specs.declared.memory.NoMemory.{NoMemory}
-use Rattle.mb_model.specs.Texts.{line_with_lf}
-use Rattle.mb_model.specs.Lines.{text_of}
-use Rattle.mb_model.specs.Acceptance.{ChainRefusal}
+use Rattle.mb_model.specs.outside.Texts.{line_with_lf}
+use Rattle.mb_model.specs.chains.Lines.{text_of}
+use Rattle.mb_model.specs.chains.Acceptance.{ChainRefusal}
 use Rattle.mb_model_commands.specs.VerifyCommand.{chain_refusal_line}
 use Rattle.mb_bytes.specs.Puts.{Puts}
 use Rattle.mb_verifier.specs.declared.refusal.ChainRefusal as verifier

@@ -3,8 +3,8 @@ use Rattle.std.specs.Prelude.{◌≡◌, ℕ, ◌+◌, List, [], ◌∷◌, leng
 use Rattle.mb_format.specs.Format.{Spells, FailsWhole}
 use Rattle.mb_model.specs.declared.limits.TheConstants.{FILE_LIMIT}
 use Rattle.mb_model.specs.declared.key.PublicKey.{PublicKey}
-use Rattle.mb_model.specs.Texts.{line_with_lf}
-use Rattle.mb_model.specs.Acceptance.{bad_form}
+use Rattle.mb_model.specs.outside.Texts.{line_with_lf}
+use Rattle.mb_model.specs.chains.Acceptance.{bad_form}
 use Rattle.mb_fleet.specs.declared.row.Row.{Row}
 use Rattle.mb_fleet.specs.declared.item.Item.TheVariants.{Show, Codes}
 use Rattle.mb_fleet.specs.Rows.{AreOrdered}

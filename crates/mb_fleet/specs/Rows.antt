@@ -5,8 +5,8 @@ use Rattle.sha2.specs.Sha256.{sha256}
 use Rattle.mb_model.specs.declared.layer.Layer.{Layer}
 use Rattle.mb_model.specs.declared.layer.Layers.{Layers}
 use Rattle.mb_model.specs.declared.entry.Entry.{Entry}
-use Rattle.mb_model.specs.Log.{number_of, layers_of, serial_of}
-use Rattle.mb_model.specs.EntryFormat.{entry_format}
+use Rattle.mb_model.specs.owners.Log.{number_of, layers_of, serial_of}
+use Rattle.mb_model.specs.records.EntryFormat.{entry_format}
 use Rattle.mb_fleet.specs.declared.row.CodeHashes.{CodeHashes}
 use Rattle.mb_fleet.specs.declared.row.Row.{Row}
 use Rattle.mb_fleet.specs.Order.{IsAscending}

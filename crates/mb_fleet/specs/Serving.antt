@@ -2,7 +2,7 @@
 use Rattle.std.specs.Prelude.{◌≡◌, ℕ, ◌<◌, ◌≤◌, List, [], ◌∷◌, ◌++◌, length, map, codes}
 use Rattle.std.specs.Fmt.{decimal}
 use Rattle.mb_model.specs.declared.key.PublicKey.{PublicKey}
-use Rattle.mb_model.specs.Lines.{spaced_words, hex_word, text_of}
+use Rattle.mb_model.specs.chains.Lines.{spaced_words, hex_word, text_of}
 use Rattle.mb_model_commands.specs.VerifyCommand.{chain_refusal_line}
 use Rattle.mb_fleet.specs.declared.limits.TheConstants.{TEXT_LIMIT}
 use Rattle.mb_fleet.specs.declared.row.Row.{Row}

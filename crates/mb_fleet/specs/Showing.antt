@@ -4,9 +4,9 @@ use Rattle.std.specs.List.{AllByRecursion}
 use Rattle.mb_format.specs.Format.{Spells}
 use Rattle.mb_model.specs.declared.key.PublicKey.{PublicKey}
 use Rattle.mb_model.specs.declared.entry.Chain.{Chain}
-use Rattle.mb_model.specs.Log.{entries_of}
-use Rattle.mb_model.specs.ChainFormat.{chain_format}
-use Rattle.mb_model.specs.Acceptance.{ChainRefusal, AreGood}
+use Rattle.mb_model.specs.owners.Log.{entries_of}
+use Rattle.mb_model.specs.records.ChainFormat.{chain_format}
+use Rattle.mb_model.specs.chains.Acceptance.{ChainRefusal, AreGood}
 use Rattle.mb_verifier.specs.Entries.{IsEntriesRefused}
 use Rattle.mb_fleet.specs.declared.limits.TheConstants.{DEVICE_LIMIT}
 use Rattle.mb_fleet.specs.declared.row.Row.{Row}

@@ -3,8 +3,8 @@
 
 ghost use Rattle.std.specs.Prelude.{◌≡◌, ◌<◌, ◌*◌, ◌++◌, ◌∷◌, [], IfSome, OnOk, codes};
 ghost use Rattle.std.specs.Fmt.{decimal};
-ghost use Rattle.mb_model.specs.Texts.{line_with_lf};
-ghost use Rattle.mb_model.specs.Lines.{hex_word, spaced_words, text_of};
+ghost use Rattle.mb_model.specs.outside.Texts.{line_with_lf};
+ghost use Rattle.mb_model.specs.chains.Lines.{hex_word, spaced_words, text_of};
 ghost use Rattle.mb_model_commands.specs.VerifyCommand.{chain_refusal_line};
 ghost use Rattle.mb_bytes.specs.Puts.{Puts};
 ghost use Rattle.mb_verifier.specs.Ends.{chain_refusal_of};

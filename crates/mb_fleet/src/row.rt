@@ -3,10 +3,10 @@
 ghost use Rattle.std.specs.Prelude.{◌≡◌, ◌≤◌, length, map, IfOk};
 ghost use Rattle.std.specs.List.{All};
 ghost use Rattle.mb_model.specs.declared.limits.TheConstants.{ENTRY_LIMIT};
-ghost use Rattle.mb_model.specs.Log.{entries_of};
-ghost use Rattle.mb_model.specs.EntryFormat.{entry_format};
-ghost use Rattle.mb_model.specs.ChainFormat.{chain_format};
-ghost use Rattle.mb_model.specs.Acceptance.{AreGood};
+ghost use Rattle.mb_model.specs.owners.Log.{entries_of};
+ghost use Rattle.mb_model.specs.records.EntryFormat.{entry_format};
+ghost use Rattle.mb_model.specs.records.ChainFormat.{chain_format};
+ghost use Rattle.mb_model.specs.chains.Acceptance.{AreGood};
 ghost use Rattle.mb_fleet.specs.Rows.{hash_of_code, code_hashes, entry_hash, IsRowOf};
 
 use mb_layout::write_entry;

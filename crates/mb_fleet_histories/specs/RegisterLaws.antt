@@ -5,11 +5,11 @@ use Rattle.mb_model.specs.declared.entry.Chain.{Chain}
 use Rattle.mb_model.specs.declared.entry.Entry.{Entry}
 use Rattle.mb_model.specs.declared.entry.SignedEntry.{SignedEntry}
 use Rattle.mb_model.specs.declared.key.PublicKey.{PublicKey}
-use Rattle.mb_model.specs.Acceptance.{AreGood, Honest}
-use Rattle.mb_model.specs.ChainFormat.{chain_format}
-use Rattle.mb_model.specs.EntryFormat.{entry_format}
-use Rattle.mb_model.specs.Log.{entries_of, serial_of}
-use Rattle.mb_model.specs.Valid.{EachFollows}
+use Rattle.mb_model.specs.chains.Acceptance.{AreGood, Honest}
+use Rattle.mb_model.specs.records.ChainFormat.{chain_format}
+use Rattle.mb_model.specs.records.EntryFormat.{entry_format}
+use Rattle.mb_model.specs.owners.Log.{entries_of, serial_of}
+use Rattle.mb_model.specs.memories.Valid.{EachFollows}
 use Rattle.mb_model_histories.specs.KeyLaws.{Collide}
 use Rattle.mb_fleet.specs.declared.item.Item.{Item}
 use Rattle.mb_fleet.specs.declared.item.Item.TheVariants.{Show, Find, Codes}

@@ -3,7 +3,7 @@ use Rattle.std.proofs.Common.{◌≡◌, ℕ, ◌≤◌, ◌<◌, ◌^◌, List,
 use Rattle.mb_format.specs.Combinators.{items}
 use Rattle.mb_model.specs.declared.key.PublicKey.{PublicKey}
 use Rattle.mb_model.specs.declared.layer.Trusts.{Trusts}
-use Rattle.mb_model.specs.Layers.{equal_trusts}
+use Rattle.mb_model.specs.owners.Layers.{equal_trusts}
 use Rattle.mb_model.proofs.OrderFormatLaws.{form_listed, given_allowed}
 use Rattle.mb_model.specs.declared.key.Trust.TheVariants.{Countersigned}
 use Rattle.mb_model.specs.declared.order.KeyKind.{KeyKind}
@@ -11,12 +11,12 @@ use Rattle.mb_model.specs.declared.order.Payload.{Payload}
 use Rattle.mb_model.specs.declared.order.Act.{Act}
 use Rattle.mb_model.specs.declared.order.Act.TheVariants as act
 use Rattle.mb_model.specs.declared.tools.Keyfile.{Keyfile}
-use Rattle.mb_model.specs.Key.{IsSized}
-use Rattle.mb_model.specs.KeyFormat.{public_key_format}
-use Rattle.mb_model.specs.LayerFormat.{trust_format}
-use Rattle.mb_model.specs.EntryFormat.{key_kind_format}
-use Rattle.mb_model.specs.OrderFormat.{target_format, payload_format, body_format, sized_signature_format, countersignatures_format, order_format}
-use Rattle.mb_model.specs.Signing.{public_of}
+use Rattle.mb_model.specs.signatures.Key.{IsSized}
+use Rattle.mb_model.specs.records.KeyFormat.{public_key_format}
+use Rattle.mb_model.specs.records.LayerFormat.{trust_format}
+use Rattle.mb_model.specs.records.EntryFormat.{key_kind_format}
+use Rattle.mb_model.specs.records.OrderFormat.{target_format, payload_format, body_format, sized_signature_format, countersignatures_format, order_format}
+use Rattle.mb_model.specs.signatures.Signing.{public_of}
 use Rattle.mb_model_commands.specs.Workload.{Draws, Plan, plan_payload, key_of_officer}
 use Rattle.mb_model_lemmas.proofs.SignatureLemmas.{public_sized, officer_key-sized}
 use Rattle.mb_generate.specs.Orders.{keyfile_after, targeted, CanBeOrdered}

@@ -9,13 +9,13 @@ use Rattle.mb_model.specs.declared.order.Act.{Act}
 use Rattle.mb_model.specs.declared.order.Act.TheVariants as act
 use Rattle.mb_model.specs.declared.order.Order.{Order}
 use Rattle.mb_model.specs.declared.tools.Keyfile.{Keyfile}
-use Rattle.mb_model.specs.Layers.{equal_trusts}
-use Rattle.mb_model.specs.Signing.{public_of}
-use Rattle.mb_model.specs.SignedOrders.{keyfile_after_use, signed_order}
-use Rattle.mb_model.specs.Texts.{line_with_lf}
-use Rattle.mb_model.specs.Lines.{text_of}
-use Rattle.mb_model.specs.OrderLines.{order_line}
-use Rattle.mb_model.specs.Script.{with_before}
+use Rattle.mb_model.specs.owners.Layers.{equal_trusts}
+use Rattle.mb_model.specs.signatures.Signing.{public_of}
+use Rattle.mb_model.specs.machine.SignedOrders.{keyfile_after_use, signed_order}
+use Rattle.mb_model.specs.outside.Texts.{line_with_lf}
+use Rattle.mb_model.specs.chains.Lines.{text_of}
+use Rattle.mb_model.specs.chains.OrderLines.{order_line}
+use Rattle.mb_model.specs.chains.Script.{with_before}
 use Rattle.mb_model_commands.specs.Workload.{RoundDraws, Draws, Plan, plan_payload, key_of_officer, first_plans, round_plan, plans, signed_plan, signed_orders, put_line, round_lines, workload_lines}
 use Rattle.mb_model_lemmas.proofs.DrawLemmas.{with_before-push, length-with_before}
 use Rattle.mb_generate.specs.Orders.{keyfile_after, AreOfficers, targeted, RoundFits}

@@ -15,17 +15,17 @@ use Rattle.mb_model.specs.declared.order.Act.TheVariants as act
 use Rattle.mb_model.specs.declared.order.Target.TheVariants as target
 use Rattle.mb_model.specs.declared.order.Countersignature.{Countersignature}
 use Rattle.mb_model.specs.declared.order.Order.{Order}
-use Rattle.mb_model.specs.Winternitz.{chain_step, value_after_count}
-use Rattle.mb_model.specs.Merkle.{leaf_node, inner_node}
-use Rattle.mb_model.specs.Signing.{private_value, randomizer_of, node_above, node_of, public_of, signed_values, path_from, signature_of}
-use Rattle.mb_model.specs.Born.{officer_key}
-use Rattle.mb_model.specs.KeyFormat.{public_key_format}
-use Rattle.mb_model.specs.Layers.{equal_trusts}
-use Rattle.mb_model.specs.LayerFormat.{trust_format}
-use Rattle.mb_model.specs.EntryFormat.{key_kind_format}
-use Rattle.mb_model.specs.Rules.{kind_of}
-use Rattle.mb_model.specs.OrderFormat.{form_byte, form_of, differs_in, target_format, payload_format, act_by, body_format, order_body, sized_signature_format, Climb, countersignature_format, climb_after, countersignatures_format, order_format}
-use Rattle.mb_model.specs.Script.{with_before}
+use Rattle.mb_model.specs.signatures.Winternitz.{chain_step, value_after_count}
+use Rattle.mb_model.specs.signatures.Merkle.{leaf_node, inner_node}
+use Rattle.mb_model.specs.signatures.Signing.{private_value, randomizer_of, node_above, node_of, public_of, signed_values, path_from, signature_of}
+use Rattle.mb_model.specs.owners.Born.{officer_key}
+use Rattle.mb_model.specs.records.KeyFormat.{public_key_format}
+use Rattle.mb_model.specs.owners.Layers.{equal_trusts}
+use Rattle.mb_model.specs.records.LayerFormat.{trust_format}
+use Rattle.mb_model.specs.records.EntryFormat.{key_kind_format}
+use Rattle.mb_model.specs.owners.Rules.{kind_of}
+use Rattle.mb_model.specs.records.OrderFormat.{form_byte, form_of, differs_in, target_format, payload_format, act_by, body_format, order_body, sized_signature_format, Climb, countersignature_format, climb_after, countersignatures_format, order_format}
+use Rattle.mb_model.specs.chains.Script.{with_before}
 use Rattle.mb_model_commands.specs.Workload.{DrawnBytes, DrawnCode, DrawnValue, DrawnRound, RoundDraws, Draws, Plan, plan, plan_payload, key_of_officer, first_plans, round_plan, plans, unsigned_order, countersignature_by, signed_plan, signed_orders}
 use Rattle.mb_generate.specs.Drawing.{AreDraws}
 use Rattle.mb_generate.proofs.Drawings.{each_drawn}

@@ -15,11 +15,11 @@ use Rattle.mb_format.specs.Format.{IsBytes}
 use Rattle.mb_model.specs.declared.event.Event.{Event}
 use Rattle.mb_model.specs.declared.event.Event.TheVariants as event
 use Rattle.mb_model.specs.declared.order.Order.{Order}
-use Rattle.mb_model.specs.Texts.{line_with_lf, IsHex}
-use Rattle.mb_model.specs.Lines.{IsLine, text_of, spaced_words, hex_word}
-use Rattle.mb_model.specs.OrderFormat.{order_format}
-use Rattle.mb_model.specs.OrderLines.{order_line}
-use Rattle.mb_model.specs.Script.{IsName, SaysEvent, is_skipped, with_before, commands_in}
+use Rattle.mb_model.specs.outside.Texts.{line_with_lf, IsHex}
+use Rattle.mb_model.specs.chains.Lines.{IsLine, text_of, spaced_words, hex_word}
+use Rattle.mb_model.specs.records.OrderFormat.{order_format}
+use Rattle.mb_model.specs.chains.OrderLines.{order_line}
+use Rattle.mb_model.specs.chains.Script.{IsName, SaysEvent, is_skipped, with_before, commands_in}
 use Rattle.mb_model_commands.specs.declared.workload.Workload.{Workload}
 use Rattle.mb_model_commands.specs.Workload.{RoundDraws, Draws, secret_name, put_line, round_lines, signed_orders, workload_lines}
 use Rattle.mb_model_lemmas.proofs.LineLemmas.{isnt}

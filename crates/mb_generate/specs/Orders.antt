@@ -6,8 +6,8 @@ use Rattle.mb_model.specs.declared.order.Act.{Act}
 use Rattle.mb_model.specs.declared.order.Target.TheVariants as target
 use Rattle.mb_model.specs.declared.order.Order.{Order}
 use Rattle.mb_model.specs.declared.tools.Keyfile.{Keyfile}
-use Rattle.mb_model.specs.Rules.{kind_of, MayBeFor}
-use Rattle.mb_model.specs.OrderFormat.{differs_in, act_by}
+use Rattle.mb_model.specs.owners.Rules.{kind_of, MayBeFor}
+use Rattle.mb_model.specs.records.OrderFormat.{differs_in, act_by}
 use Rattle.mb_model_commands.specs.Workload.{RoundDraws, Draws, Plan, key_of_officer, signatures_by, signed_plan}
 use Rattle.mb_generate.specs.declared.officers.Officers.{Officers}
 

@@ -1,8 +1,8 @@
 -- How a script grows, round by round. Is each line written once, and in its place?
 use Rattle.std.specs.Prelude.{◌≡◌, ℕ, ◌+◌, ◌-◌, List, [], ◌∷◌, ◌++◌, length, map, take, drop, codes, zip, flat_map}
-use Rattle.mb_model.specs.Lines.{text_of, spaced_words, hex_word}
-use Rattle.mb_model.specs.OrderLines.{order_line}
-use Rattle.mb_model.specs.Script.{with_before}
+use Rattle.mb_model.specs.chains.Lines.{text_of, spaced_words, hex_word}
+use Rattle.mb_model.specs.chains.OrderLines.{order_line}
+use Rattle.mb_model.specs.chains.Script.{with_before}
 use Rattle.mb_model_commands.specs.Workload.{RoundDraws, Draws, Plan, first_plans, round_plan, signed_plan}
 use Rattle.mb_model_commands.specs.Workload.{signed_orders, put_line, round_lines}
 use Rattle.mb_generate.specs.declared.officers.Officers.{Officers}

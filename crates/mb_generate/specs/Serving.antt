@@ -2,8 +2,8 @@
 use Rattle.std.specs.Prelude.{◌*◌, ◌≤◌, List, length}
 use Rattle.mb_model.specs.declared.event.Event.{Event}
 use Rattle.mb_model.specs.declared.limits.TheConstants.{FILE_LIMIT, DRAW_LENGTH}
-use Rattle.mb_model.specs.Lines.{ReadsLines}
-use Rattle.mb_model.specs.Script.{IsScript, commands_in}
+use Rattle.mb_model.specs.chains.Lines.{ReadsLines}
+use Rattle.mb_model.specs.chains.Script.{IsScript, commands_in}
 use Rattle.mb_model_commands.specs.declared.workload.Workload.{Workload}
 
 -- The script can be read, its noise has 32 bytes for each of its commands, and neither is longer than an input may be.

@@ -2,9 +2,9 @@
 
 ghost use Rattle.std.specs.Prelude.{◌+◌, ◌*◌, ◌≤◌, [], length, IfOk};
 ghost use Rattle.mb_model.specs.declared.limits.TheConstants.{CODE_LIMIT};
-ghost use Rattle.mb_model.specs.Born.{officer_key};
-ghost use Rattle.mb_model.specs.Signing.{public_of};
-ghost use Rattle.mb_model.specs.Factory.{IsFactoryImage};
+ghost use Rattle.mb_model.specs.owners.Born.{officer_key};
+ghost use Rattle.mb_model.specs.signatures.Signing.{public_of};
+ghost use Rattle.mb_model.specs.memories.Factory.{IsFactoryImage};
 ghost use Rattle.mb_model_commands.specs.Workload.{IsWorkload};
 ghost use Rattle.mb_generate.specs.declared.limits.TheConstants.{ROUND_LIMIT};
 ghost use Rattle.mb_generate.specs.Drawing.{draws_of};

@@ -4,9 +4,10 @@ ghost use Rattle.std.specs.Prelude.{◌≡◌, ◌+◌, ◌-◌, ◌<◌, ◌≤
 ghost use Rattle.mb_model.specs.declared.limits.TheConstants.{CODE_LIMIT, KEY_USES};
 ghost use Rattle.mb_model.specs.declared.key.Trust.TheVariants.{Countersigned};
 ghost use Rattle.mb_model.specs.declared.order.Act.TheVariants as act;
-ghost use Rattle.mb_model.specs.Layers.{is_upper};
-ghost use Rattle.mb_model.specs.OrderFormat.{order_format};
-ghost use Rattle.mb_model.specs.SignedOrders.{keyfile_after_use, signed_order, countersigned_order, IsCountersignable};
+ghost use Rattle.mb_model.specs.owners.Layers.{is_upper};
+ghost use Rattle.mb_model.specs.records.OrderFormat.{order_format};
+ghost use Rattle.mb_model.specs.machine.SignedOrders.{keyfile_after_use, signed_order, countersigned_order};
+ghost use Rattle.mb_model.specs.machine.SignedOrders.{IsCountersignable};
 ghost use Rattle.mb_model_commands.specs.Workload.{plan, plan_payload, round_plan};
 ghost use Rattle.mb_generate.specs.declared.limits.TheConstants.{ROUND_LIMIT};
 ghost use Rattle.mb_generate.specs.Orders.{HaveUsed, layers_above, targeted, CanBeOrdered, SignsPlan};

@@ -2,7 +2,7 @@
 use Rattle.std.proofs.Common.{◌≡◌, ℕ, ◌≤◌, List, ◌++◌, sym, ap, ◌∙◌}
 use Rattle.std.specs.Int.{w32, to_be_bytes}
 use Rattle.mb_format.specs.Combinators.{number_bytes}
-use Rattle.mb_model.specs.Key.{key_bytes}
+use Rattle.mb_model.specs.signatures.Key.{key_bytes}
 use Rattle.std.specs.Prelude.{IfOk, Result, Ok, Err}
 use Rattle.mb_model.specs.declared.tools.BadRecord.{BadRecord}
 use Rattle.mb_bytes.specs.Reads.{bad_at, ReadsWhole}

@@ -7,8 +7,8 @@ use Rattle.std.specs.Global.{Vec}
 use Rattle.sha2.specs.Sha256.{sha256}
 use Rattle.sha2.proofs.Facts256.{length-sha256}
 use Rattle.mb_model.specs.declared.key.KeySeed.{KeySeed}
-use Rattle.mb_model.specs.Key.{IsSized, key_bytes}
-use Rattle.mb_model.specs.Signing.{public_of, signature_of}
+use Rattle.mb_model.specs.signatures.Key.{IsSized, key_bytes}
+use Rattle.mb_model.specs.signatures.Signing.{public_of, signature_of}
 use Rattle.mb_model.proofs.KeyLemmas.{length-key_bytes}
 use Rattle.mb_model_lemmas.proofs.SignatureLemmas.{length-signature_of, public_sized}
 use Rattle.mb_bytes.specs.Puts.{Appends}

@@ -3,8 +3,8 @@ use Rattle.std.proofs.Common.{◌≡◌, ℕ, zero, suc, ◌+◌, ◌-◌, ◌/�
 use Rattle.std.proofs.Math.Nat.{div-div-eq-div-mul, div-one, pow-suc}
 use Rattle.std.proofs.lemmas.Bool.{cases_lt}
 use Rattle.std.specs.Int.{w32, to_be_bytes}
-use Rattle.mb_model.specs.Key.{key_bytes}
-use Rattle.mb_model.specs.Signing.{public_of}
+use Rattle.mb_model.specs.signatures.Key.{key_bytes}
+use Rattle.mb_model.specs.signatures.Signing.{public_of}
 use Rattle.mb_hss.specs.declared.maker.Maker.{Maker}
 use Rattle.mb_hss.specs.MakerKeys.{level_key, prefix_at, public_at}
 use Rattle.mb_hss.specs.MakerSignatures.{text_at, signature_at, upper_levels, maker_signature, Signs}

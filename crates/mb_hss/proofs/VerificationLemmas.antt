@@ -2,9 +2,9 @@
 use Rattle.std.proofs.Common.{◌≡◌, ℕ, zero, suc, ◌+◌, ◌-◌, Bool, false, List, [], ◌++◌, length, take, drop, refl, sym, ap, subst, ◌∙◌, length-append, append_assoc, append-nil, arith}
 use Rattle.std.proofs.lemmas.List.{take_at, drop_at, take-append-drop}
 use Rattle.mb_model.specs.declared.key.PublicKey.{PublicKey}
-use Rattle.mb_model.specs.Key.{IsSized, key_bytes}
+use Rattle.mb_model.specs.signatures.Key.{IsSized, key_bytes}
 use Rattle.std.specs.Prelude.{IsTrue, ◌↔◌}
-use Rattle.mb_model.specs.Merkle.{Verifies}
+use Rattle.mb_model.specs.signatures.Merkle.{Verifies}
 use Rattle.mb_model.proofs.KeyLemmas.{same_parts, length-key_bytes, key_bytes-same}
 use Rattle.mb_hss.specs.HssVerification.{SignsNext, VerifiesUnder}
 use Rattle.mb_hss.specs.SignatureParts.{signature_length, ArePartsOf, HasNoParts}

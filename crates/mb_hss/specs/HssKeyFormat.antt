@@ -2,7 +2,7 @@
 use Rattle.std.specs.Int.{w32}
 use Rattle.mb_format.specs.Format.{Format}
 use Rattle.mb_format.specs.Combinators.{between, pair, as_record}
-use Rattle.mb_model.specs.KeyFormat.{public_key_format}
+use Rattle.mb_model.specs.records.KeyFormat.{public_key_format}
 use Rattle.mb_hss.specs.declared.limits.TheConstants.{LEVEL_LIMIT}
 use Rattle.mb_hss.specs.declared.key.HssKey.{HssKey}
 

@@ -3,8 +3,8 @@
 use Rattle.std.specs.Prelude.{◌≡◌, ℕ, zero, suc, ◌-◌, List, ◌++◌}
 use Rattle.std.specs.Int.{w32, to_be_bytes}
 use Rattle.mb_model.specs.declared.key.PublicKey.{PublicKey}
-use Rattle.mb_model.specs.Key.{IsSized, key_bytes}
-use Rattle.mb_model.specs.Merkle.{Verifies}
+use Rattle.mb_model.specs.signatures.Key.{IsSized, key_bytes}
+use Rattle.mb_model.specs.signatures.Merkle.{Verifies}
 use Rattle.mb_hss.specs.declared.key.HssKey.{HssKey}
 
 -- these bytes are a key's own signature of the key of the next level, that key, and the rest, in a row (6.2)

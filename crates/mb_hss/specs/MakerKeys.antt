@@ -4,8 +4,8 @@ use Rattle.std.specs.Int.{w8, w64, to_be_bytes}
 use Rattle.sha2.specs.Sha256.{sha256}
 use Rattle.mb_model.specs.declared.separators.TheConstants.{LEVEL_SECRET, LEVEL_IDENTIFIER, MAKER_SECRET}
 use Rattle.mb_model.specs.declared.key.KeySeed.{KeySeed}
-use Rattle.mb_model.specs.Key.{key_bytes}
-use Rattle.mb_model.specs.Signing.{public_of}
+use Rattle.mb_model.specs.signatures.Key.{key_bytes}
+use Rattle.mb_model.specs.signatures.Signing.{public_of}
 use Rattle.mb_hss.specs.declared.limits.TheConstants.{LEVEL_LIMIT}
 use Rattle.mb_hss.specs.declared.key.HssKey.{HssKey}
 use Rattle.mb_hss.specs.declared.maker.Maker.{Maker}

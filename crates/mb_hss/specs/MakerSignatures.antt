@@ -2,7 +2,7 @@
 use Rattle.std.specs.Prelude.{◌≡◌, ℕ, zero, suc, ◌+◌, ◌-◌, ◌^◌, ◌<◌, ◌==◌, List, [], ◌++◌, if◌then◌else◌}
 use Rattle.std.specs.Int.{w32, to_be_bytes}
 use Rattle.std.specs.Global.{Vec}
-use Rattle.mb_model.specs.Signing.{signature_of}
+use Rattle.mb_model.specs.signatures.Signing.{signature_of}
 use Rattle.mb_bytes.specs.Puts.{Appends}
 use Rattle.mb_hss.specs.declared.maker.Maker.{Maker}
 use Rattle.mb_hss.specs.MakerKeys.{index_at, key_at, public_at}

@@ -1,7 +1,7 @@
 -- A signature above the last level, taken apart (RFC 8554, section 6.2). Into which parts can it be split?
 use Rattle.std.specs.Prelude.{◌≡◌, ℕ, ◌+◌, ◌*◌, List, ◌++◌, length}
 use Rattle.mb_model.specs.declared.key.PublicKey.{PublicKey}
-use Rattle.mb_model.specs.Key.{IsSized, key_bytes, chain_count, height}
+use Rattle.mb_model.specs.signatures.Key.{IsSized, key_bytes, chain_count, height}
 
 -- how many bytes a signature under a key of LMS has (5.4)
 abbrev pub signature_length : PublicKey → ℕ

@@ -3,8 +3,8 @@
 ghost use Rattle.std.specs.Prelude.{◌≡◌, ◌+◌, ◌/◌, ◌^◌, ◌<◌, ◌≤◌, ◌++◌};
 ghost use Rattle.std.specs.Int.{w8, w64, to_be_bytes};
 ghost use Rattle.mb_model.specs.declared.limits.TheConstants.{LAST_INDEX};
-ghost use Rattle.mb_model.specs.Key.{key_bytes};
-ghost use Rattle.mb_model.specs.Signing.{public_of, signature_of};
+ghost use Rattle.mb_model.specs.signatures.Key.{key_bytes};
+ghost use Rattle.mb_model.specs.signatures.Signing.{public_of, signature_of};
 ghost use Rattle.mb_signer.specs.Tree.{IsTreeOf};
 ghost use Rattle.mb_hss.specs.declared.limits.TheConstants.{LEVEL_LIMIT};
 ghost use Rattle.mb_hss.specs.MakerKeys.{level_key, index_at, key_at};

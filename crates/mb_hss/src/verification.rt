@@ -1,7 +1,7 @@
 //! Whether bytes are an HSS signature of a text (RFC 8554, section 6.3).
 
 ghost use Rattle.std.specs.Prelude.{◌≡◌, ◌↔◌, ◌≤◌, ◌++◌, IsTrue, MatchOption};
-ghost use Rattle.mb_model.specs.Key.{chain_count, height};
+ghost use Rattle.mb_model.specs.signatures.Key.{chain_count, height};
 ghost use Rattle.mb_hss.specs.declared.limits.TheConstants.{LEVEL_LIMIT};
 ghost use Rattle.mb_hss.specs.HssVerification.{VerifiesUnder, HssVerifies};
 ghost use Rattle.mb_hss.specs.SignatureParts.{signature_length, ArePartsOf, HasNoParts};

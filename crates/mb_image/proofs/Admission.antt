@@ -11,12 +11,12 @@ use Rattle.mb_model.specs.declared.order.KeyKind.TheVariants as kinds
 use Rattle.mb_model.specs.declared.entry.Entry.{Entry}
 use Rattle.mb_model.specs.declared.entry.Entry.TheVariants.{Birth, Change, NewKey, Succession}
 use Rattle.mb_model.specs.declared.region.RegionKey.{RegionKey}
-use Rattle.mb_model.specs.Layers.{is_upper, is_in}
-use Rattle.mb_model.specs.Rules.{admits}
-use Rattle.mb_model.specs.Log.{number_of, layers_of, RuledLog}
-use Rattle.mb_model.specs.Lives.{ends_keys, Alive, MadeKey, alive_keys}
-use Rattle.mb_model.specs.Regions.{AdmittedSince, KeyAdmitted}
-use Rattle.mb_model.specs.Valid.{as_made}
+use Rattle.mb_model.specs.owners.Layers.{is_upper, is_in}
+use Rattle.mb_model.specs.owners.Rules.{admits}
+use Rattle.mb_model.specs.owners.Log.{number_of, layers_of, RuledLog}
+use Rattle.mb_model.specs.owners.Lives.{ends_keys, Alive, MadeKey, alive_keys}
+use Rattle.mb_model.specs.owners.Regions.{AdmittedSince, KeyAdmitted}
+use Rattle.mb_model.specs.memories.Valid.{as_made}
 use Rattle.mb_model_lemmas.proofs.LogLemmas.{number_of-append, number_of-push}
 use Rattle.mb_model_lemmas.proofs.AliveLemmas.{listed_is_alive}
 use Rattle.mb_model_lemmas.proofs.Splits.{two_splits, All-split, All-from_splits}

@@ -1,8 +1,8 @@
 -- Which area of a slot is in force.
 use Rattle.std.proofs.Common.{◌≡◌, ◌≤◌, ℕ, ◌+◌, ◌-◌, ◌*◌, List, Bool, true, false, refl, sym, ap, subst, ◌∙◌, arith, take, drop}
 use Rattle.std.specs.Prelude.{◌%◌, ◌==◌, slice_index, if◌then◌else◌}
-use Rattle.mb_model.specs.Pieces.{part}
-use Rattle.mb_model.specs.Memory.{selector_of, first_area, second_area, area_of_slot}
+use Rattle.mb_model.specs.outside.Pieces.{part}
+use Rattle.mb_model.specs.memories.Memory.{selector_of, first_area, second_area, area_of_slot}
 
 -- what holds of 1, 2 and 3 holds of the number of each slot
 at_slot : (P : ℕ → Type 0) (slot : ℕ) → 1 ≤ slot → slot ≤ 3 → P 1 → P 2 → P 3 → P slot

@@ -5,10 +5,10 @@ use Rattle.std.proofs.lemmas.List.{take_more, take-append-drop, length-map, leng
 use Rattle.mb_model.specs.declared.key.PublicKey.{PublicKey}
 use Rattle.mb_model.specs.declared.entry.Entry.{Entry}
 use Rattle.mb_model.specs.declared.entry.SignedEntry.{SignedEntry}
-use Rattle.mb_model.specs.Merkle.{Verifies, leaf_number}
-use Rattle.mb_model.specs.SignedTexts.{entry_text, IsSignedBy}
-use Rattle.mb_model.specs.Log.{figures_of, entries_of, Ruled}
-use Rattle.mb_model.specs.Valid.{Follows, EachFollows}
+use Rattle.mb_model.specs.signatures.Merkle.{Verifies, leaf_number}
+use Rattle.mb_model.specs.machine.SignedTexts.{entry_text, IsSignedBy}
+use Rattle.mb_model.specs.owners.Log.{figures_of, entries_of, Ruled}
+use Rattle.mb_model.specs.memories.Valid.{Follows, EachFollows}
 use Rattle.mb_model_lemmas.proofs.ValidLogs.{EachFollows-push}
 use Rattle.mb_model.specs.declared.state.Figures.{Figures}
 use Rattle.mb_log.specs.Following.{InOrder}

@@ -6,11 +6,12 @@ use Rattle.mb_model.specs.declared.entry.SignedEntry.{SignedEntry}
 use Rattle.mb_model.specs.declared.state.Codes.{Codes}
 use Rattle.mb_model.specs.declared.state.State.{State}
 use Rattle.mb_model.specs.declared.stored.Root.{Root}
-use Rattle.mb_model.specs.StoredLog.{entries_signed_for, outgoing_of, log_completed_by}
-use Rattle.mb_model.specs.Flash.{HoldsPublic}
-use Rattle.mb_model.specs.Memory.{IsImage, IsBlank}
-use Rattle.mb_model.specs.Meaning.{Contents, state_of_contents, RootIn, HasMeaning, is_dead, is_live, StandsFor}
-use Rattle.mb_model.specs.Meaning.{log_length}
+use Rattle.mb_model.specs.memories.StoredLog.{entries_signed_for, outgoing_of, log_completed_by}
+use Rattle.mb_model.specs.memories.Flash.{HoldsPublic}
+use Rattle.mb_model.specs.memories.Memory.{IsImage, IsBlank}
+use Rattle.mb_model.specs.memories.Meaning.{Contents, state_of_contents, RootIn, HasMeaning, is_dead, is_live}
+use Rattle.mb_model.specs.memories.Meaning.{StandsFor}
+use Rattle.mb_model.specs.memories.Meaning.{log_length}
 use Rattle.mb_model_lemmas.proofs.MeaningLemmas.{one_root_in, not_blank}
 use Rattle.mb_model_lemmas.proofs.FaultLemmas.{image_parts}
 use Rattle.mb_model_lemmas.proofs.PublicLemmas.{length-signed_for}

@@ -4,8 +4,8 @@ use Rattle.std.specs.Prelude.{filter}
 use Rattle.mb_model_lemmas.proofs.LogLemmas.{entries_more}
 use Rattle.mb_model.specs.declared.entry.Entry.{Entry}
 use Rattle.mb_model.specs.declared.entry.SignedEntry.{SignedEntry}
-use Rattle.mb_model.specs.Log.{entries_of}
-use Rattle.mb_model.specs.Lives.{alive_keys}
+use Rattle.mb_model.specs.owners.Log.{entries_of}
+use Rattle.mb_model.specs.owners.Lives.{alive_keys}
 use Rattle.mb_model_lemmas.specs.AliveLaws.{goes_on, made_by}
 use Rattle.mb_model_lemmas.proofs.AliveLemmas.{alive_keys-push}
 use Rattle.mb_model_lemmas.proofs.ValidRegions.{filter-map}

@@ -7,15 +7,16 @@ use Rattle.mb_model.specs.declared.entry.Entry.{Entry}
 use Rattle.mb_model.specs.declared.entry.SignedEntry.{SignedEntry}
 use Rattle.mb_model.specs.declared.state.State.{State}
 use Rattle.mb_model.specs.declared.stored.Outgoing.{Outgoing}
-use Rattle.mb_model.specs.EntryFormat.{entry_format}
-use Rattle.mb_model.specs.Log.{entries_of, layers_of}
-use Rattle.mb_model.specs.OrderEffects.{entry_signed_by}
-use Rattle.mb_model.specs.StoredLog.{HasIndex, entries_signed_for, outgoing_of, log_completed_by}
-use Rattle.mb_model.specs.Memory.{IsImage}
-use Rattle.mb_model.specs.Meaning.{Contents, FlashForm, HoldsContentsBy, state_of_contents, is_live, IsWellFormedBy}
-use Rattle.mb_model.specs.Faults.{AreSound, IsFaultyBy, HasFaultBy}
-use Rattle.mb_model.specs.Signing.{public_of}
-use Rattle.mb_model.specs.Valid.{IsValidState}
+use Rattle.mb_model.specs.records.EntryFormat.{entry_format}
+use Rattle.mb_model.specs.owners.Log.{entries_of, layers_of}
+use Rattle.mb_model.specs.machine.OrderEffects.{entry_signed_by}
+use Rattle.mb_model.specs.memories.StoredLog.{HasIndex, entries_signed_for, outgoing_of, log_completed_by}
+use Rattle.mb_model.specs.memories.Memory.{IsImage}
+use Rattle.mb_model.specs.memories.Meaning.{Contents, FlashForm, HoldsContentsBy, state_of_contents, is_live}
+use Rattle.mb_model.specs.memories.Meaning.{IsWellFormedBy}
+use Rattle.mb_model.specs.memories.Faults.{AreSound, IsFaultyBy, HasFaultBy}
+use Rattle.mb_model.specs.signatures.Signing.{public_of}
+use Rattle.mb_model.specs.memories.Valid.{IsValidState}
 use Rattle.mb_model_lemmas.proofs.PublicLemmas.{length-signed_for}
 use Rattle.mb_image.specs.declared.image.ImageEnd.{ImageEnd}
 use Rattle.mb_image.specs.declared.image.ImageEnd.TheVariants as end

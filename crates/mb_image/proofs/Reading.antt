@@ -5,11 +5,11 @@ use Rattle.std.proofs.lemmas.List.Elements.{All-weaker}
 use Rattle.mb_model.specs.declared.entry.SignedEntry.{SignedEntry}
 use Rattle.mb_model.specs.declared.region.Region.{Region}
 use Rattle.mb_model.specs.declared.stored.Root.{Root}
-use Rattle.mb_model.specs.EntryFormat.{entry_format, signed_entry_format}
-use Rattle.mb_model.specs.RootFormat.{root_format}
-use Rattle.mb_model.specs.Meaning.{RootIn, HoldsRegion, Contents, FlashForm, HoldsContentsBy}
-use Rattle.mb_model.specs.Memory.{IsBlank, life_byte, spare_bytes, area_of_slot, HoldsRecord}
-use Rattle.mb_model.specs.Faults.{SomeRegion}
+use Rattle.mb_model.specs.records.EntryFormat.{entry_format, signed_entry_format}
+use Rattle.mb_model.specs.records.RootFormat.{root_format}
+use Rattle.mb_model.specs.memories.Meaning.{RootIn, HoldsRegion, Contents, FlashForm, HoldsContentsBy}
+use Rattle.mb_model.specs.memories.Memory.{IsBlank, life_byte, spare_bytes, area_of_slot, HoldsRecord}
+use Rattle.mb_model.specs.memories.Faults.{SomeRegion}
 use Rattle.mb_layout.specs.Found.{FindsBy}
 use Rattle.mb_model_lemmas.specs.FormLaws.{PublicPartsFit, HoldsFittingParts}
 use Rattle.mb_model_lemmas.proofs.PublicLemmas.{bounded_by, entry_from_signed}

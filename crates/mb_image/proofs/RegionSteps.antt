@@ -9,8 +9,8 @@ use Rattle.std.proofs.lemmas.List.Quantifiers.{all_pairs_push}
 use Rattle.mb_model.specs.declared.entry.SignedEntry.{SignedEntry}
 use Rattle.mb_model.specs.declared.region.RegionKey.{RegionKey}
 use Rattle.mb_model.specs.declared.region.Secret.{Secret}
-use Rattle.mb_model.specs.Lives as lives
-use Rattle.mb_model.specs.Valid.{as_made}
+use Rattle.mb_model.specs.owners.Lives as lives
+use Rattle.mb_model.specs.memories.Valid.{as_made}
 use Rattle.mb_image.specs.declared.alive.MadeKey.{MadeKey}
 use Rattle.mb_image.specs.Keys.{as_listed, listed_keys}
 use Rattle.mb_image.specs.Losses.{loss}

@@ -14,12 +14,12 @@ use Rattle.mb_model.specs.declared.state.Codes.{Codes}
 use Rattle.mb_model.specs.declared.stored.Slot.{Slot}
 use Rattle.mb_model.specs.declared.stored.Header.{Header}
 use Rattle.mb_model.specs.declared.stored.Root.{Root}
-use Rattle.mb_model.specs.EntryFormat.{entry_format}
-use Rattle.mb_model.specs.HeaderFormat.{code_length_format, slot_format, entry_bytes_format, unsigned_format, header_format, log_format}
-use Rattle.mb_model.specs.Sectors.{code_sector, log_sector, BeginsAs}
-use Rattle.mb_model.specs.StoredLog.{how_many_unsigned, CanSign}
-use Rattle.mb_model.specs.Flash.{sector, code_slot, HoldsHeader, HoldsCode, HoldsEntry, HoldsLog, AreBytesOf, HoldsPublic}
-use Rattle.mb_model.specs.Faults.{SomePublic}
+use Rattle.mb_model.specs.records.EntryFormat.{entry_format}
+use Rattle.mb_model.specs.records.HeaderFormat.{code_length_format, slot_format, entry_bytes_format, unsigned_format, header_format, log_format}
+use Rattle.mb_model.specs.memories.Sectors.{code_sector, log_sector, BeginsAs}
+use Rattle.mb_model.specs.memories.StoredLog.{how_many_unsigned, CanSign}
+use Rattle.mb_model.specs.memories.Flash.{sector, code_slot, HoldsHeader, HoldsCode, HoldsEntry, HoldsLog, AreBytesOf, HoldsPublic}
+use Rattle.mb_model.specs.memories.Faults.{SomePublic}
 use Rattle.mb_model.proofs.EntryFormatLaws.{entry_exact}
 use Rattle.mb_model.proofs.HeaderFormatLaws.{log_exact}
 use Rattle.mb_model_lemmas.proofs.OneFlash.{IsBytes-sector, one_header, no_list}

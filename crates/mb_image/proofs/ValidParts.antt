@@ -9,12 +9,12 @@ use Rattle.mb_model.specs.declared.entry.SignedEntry.{SignedEntry}
 use Rattle.mb_model.specs.declared.region.Region.{Region}
 use Rattle.mb_model.specs.declared.region.Secret.{Secret}
 use Rattle.mb_model.specs.declared.state.State.{State}
-use Rattle.mb_model.specs.Layers.{layer_of, is_upper}
-use Rattle.mb_model.specs.Log.{figures_of, entries_of, number_of, layers_of, device_of, serial_of, uses_of_device_key, RuledLog}
-use Rattle.mb_model.specs.Lives.{alive_keys}
-use Rattle.mb_model.specs.Regions.{empty_region, AdmittedSince}
-use Rattle.mb_model.specs.Signing.{public_of}
-use Rattle.mb_model.specs.Valid.{as_made, EachFollows, AreNamed, IsValidRegion, IsValidState}
+use Rattle.mb_model.specs.owners.Layers.{layer_of, is_upper}
+use Rattle.mb_model.specs.owners.Log.{figures_of, entries_of, number_of, layers_of, device_of, serial_of, uses_of_device_key, RuledLog}
+use Rattle.mb_model.specs.owners.Lives.{alive_keys}
+use Rattle.mb_model.specs.owners.Regions.{empty_region, AdmittedSince}
+use Rattle.mb_model.specs.signatures.Signing.{public_of}
+use Rattle.mb_model.specs.memories.Valid.{as_made, EachFollows, AreNamed, IsValidRegion, IsValidState}
 use Rattle.mb_image.specs.declared.alive.MadeKey.{MadeKey}
 use Rattle.mb_image.specs.Keys.{listed_keys}
 use Rattle.mb_image.specs.Losses.{loss}

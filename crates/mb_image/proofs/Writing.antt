@@ -5,8 +5,8 @@ use Rattle.std.specs.Vec.{vec_len, vec_capacity}
 use Rattle.std.specs.Prelude.{◌↔◌, IsTrue}
 use Rattle.std.proofs.lemmas.Bool.{false≢true}
 use Rattle.mb_model.specs.declared.region.Region.{Region}
-use Rattle.mb_model.specs.Regions.{empty_region}
-use Rattle.mb_model.specs.RegionFormat.{region_format, CanBeWritten}
+use Rattle.mb_model.specs.owners.Regions.{empty_region}
+use Rattle.mb_model.specs.records.RegionFormat.{region_format, CanBeWritten}
 use Rattle.mb_model.proofs.RegionWriting.{written_short, written_is_record}
 use Rattle.mb_bytes.specs.Puts.{Appends, Puts, Writes}
 

@@ -4,8 +4,8 @@ use Rattle.std.specs.Global.{Vec}
 use Rattle.std.specs.Vec.{vec_len}
 use Rattle.std.proofs.lemmas.List.{take_all, take_more, take-append-drop}
 use Rattle.mb_model.specs.declared.entry.SignedEntry.{SignedEntry}
-use Rattle.mb_model.specs.Board.{erased_bytes}
-use Rattle.mb_model.specs.WrittenFlash.{in_sectors, entry_in_log, sectors_of}
+use Rattle.mb_model.specs.outside.Board.{erased_bytes}
+use Rattle.mb_model.specs.memories.WrittenFlash.{in_sectors, entry_in_log, sectors_of}
 use Rattle.mb_model_lemmas.proofs.WrittenLemmas.{sectors_split}
 use Rattle.mb_bytes.specs.Puts.{Appends, StopsShort, Puts}
 use Rattle.mb_bytes.proofs.Putting.{item_at, puts_then, puts_stop, puts_stop_later, puts_both}

@@ -1,6 +1,7 @@
 -- Which fault an answer names.
 use Rattle.std.specs.Prelude.{Option, Some, None}
-use Rattle.mb_model.specs.Faults.{Fault, bad_length, bad_root, bad_public, bad_region_two, bad_region_three, bad_state}
+use Rattle.mb_model.specs.memories.Faults.{Fault, bad_length, bad_root, bad_public, bad_region_two, bad_region_three}
+use Rattle.mb_model.specs.memories.Faults.{bad_state}
 use Rattle.mb_image.specs.declared.image.ImageEnd.{ImageEnd}
 use Rattle.mb_image.specs.declared.image.ImageEnd.TheVariants as end
 

@@ -4,8 +4,8 @@ use Rattle.mb_model.specs.declared.entry.Entry.{Entry}
 use Rattle.mb_model.specs.declared.entry.SignedEntry.{SignedEntry}
 use Rattle.mb_model.specs.declared.state.Codes.{Codes}
 use Rattle.mb_model.specs.declared.stored.Root.{Root}
-use Rattle.mb_model.specs.StoredLog.{AreCounted}
-use Rattle.mb_model.specs.Meaning.{FlashForm}
+use Rattle.mb_model.specs.memories.StoredLog.{AreCounted}
+use Rattle.mb_model.specs.memories.Meaning.{FlashForm}
 
 -- in this form a flash holds as many unsigned entries as the root says
 abbrev pub CountsUnsigned : FlashForm → Type 0

@@ -1,6 +1,6 @@
 -- Keys as they are gathered from a log. Are they what the log's entries say?
 use Rattle.std.specs.Prelude.{List, map}
-use Rattle.mb_model.specs.Lives as lives
+use Rattle.mb_model.specs.owners.Lives as lives
 use Rattle.mb_image.specs.declared.alive.MadeKey.{MadeKey}
 
 -- what an entry says of a key

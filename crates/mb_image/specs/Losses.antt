@@ -2,7 +2,7 @@
 use Rattle.std.specs.Prelude.{ℕ, if◌then◌else◌}
 use Rattle.mb_model.specs.declared.entry.Entry.{Entry}
 use Rattle.mb_model.specs.declared.entry.Entry.TheVariants.{Birth, Change, NewKey, Succession}
-use Rattle.mb_model.specs.Layers.{is_in}
+use Rattle.mb_model.specs.owners.Layers.{is_in}
 
 -- the number of a change that does not keep region L; 0 for every other entry
 abbrev pub loss : ℕ → Entry → ℕ

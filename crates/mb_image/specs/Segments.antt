@@ -4,7 +4,7 @@ use Rattle.mb_model.specs.declared.limits.TheConstants.{CODE_LIMIT, ENTRY_LIMIT,
 use Rattle.mb_model.specs.declared.entry.SignedEntry.{SignedEntry}
 use Rattle.mb_model.specs.declared.stored.Slot.{Slot}
 use Rattle.mb_model.specs.declared.stored.Header.{Header}
-use Rattle.mb_model.specs.Flash.{HoldsLog}
+use Rattle.mb_model.specs.memories.Flash.{HoldsLog}
 use Rattle.mb_model_lemmas.specs.SegmentLaws.{HoldsNoEntry}
 
 -- an existing slot, with a length of code that fits it

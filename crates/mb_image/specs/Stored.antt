@@ -1,9 +1,9 @@
 -- What is stored, as it was read. Can the work that is pending be completed?
 use Rattle.std.specs.Prelude.{◌+◌, ◌≤◌, length, All, IfSome}
 use Rattle.mb_model.specs.declared.limits.TheConstants.{KEY_USES, ENTRY_LIMIT}
-use Rattle.mb_model.specs.EntryFormat.{entry_format}
-use Rattle.mb_model.specs.StoredLog.{outgoing_of}
-use Rattle.mb_model.specs.Meaning.{Contents}
+use Rattle.mb_model.specs.records.EntryFormat.{entry_format}
+use Rattle.mb_model.specs.memories.StoredLog.{outgoing_of}
+use Rattle.mb_model.specs.memories.Meaning.{Contents}
 use Rattle.mb_image.specs.declared.stored.Stored.{Stored}
 
 abbrev pub contents_of : Stored → Contents

@@ -2,7 +2,7 @@
 use Rattle.std.specs.Prelude.{◌≢◌}
 use Rattle.mb_model.specs.declared.entry.SignedEntry.{SignedEntry}
 use Rattle.mb_model.specs.declared.state.Figures.{Figures}
-use Rattle.mb_model.specs.SignedTexts.{entry_text, IsSignedBy}
+use Rattle.mb_model.specs.machine.SignedTexts.{entry_text, IsSignedBy}
 
 -- an entry after others is signed by the device key that they name last
 abbrev pub IsVerified : Figures → SignedEntry → Type 0

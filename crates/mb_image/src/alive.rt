@@ -1,8 +1,8 @@
 //! The keys that are alive by a log.
 
 ghost use Rattle.std.specs.Prelude.{◌≡◌, ◌++◌, IfOk, OnOk, filter, option_to_list};
-ghost use Rattle.mb_model.specs.Lives.{ends_keys, alive_keys};
-ghost use Rattle.mb_model.specs.Log.{entries_of};
+ghost use Rattle.mb_model.specs.owners.Lives.{ends_keys, alive_keys};
+ghost use Rattle.mb_model.specs.owners.Log.{entries_of};
 ghost use Rattle.mb_model_lemmas.specs.AliveLaws.{goes_on, made_by};
 ghost use Rattle.mb_image.specs.Keys.{listed_keys};
 

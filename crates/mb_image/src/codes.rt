@@ -1,7 +1,7 @@
 //! The names of stored codes.
 
 ghost use Rattle.std.specs.Prelude.{◌↔◌, IsTrue};
-ghost use Rattle.mb_model.specs.Valid.{IsNamed, AreNamed};
+ghost use Rattle.mb_model.specs.memories.Valid.{IsNamed, AreNamed};
 
 use mb_model::{Bytes, CodeName, Codes, Layers};
 use sha2::{Digest, Sha256};

@@ -2,9 +2,9 @@
 
 ghost use Rattle.std.specs.Prelude.{◌≡◌, ℕ, ◌+◌, ◌*◌, ◌≤◌, ◌++◌, length, map, All, Some, IfOk, OnOk, IfSome};
 ghost use Rattle.mb_model.specs.declared.limits.TheConstants.{KEY_USES, LAST_INDEX};
-ghost use Rattle.mb_model.specs.EntryFormat.{entry_format};
-ghost use Rattle.mb_model.specs.OrderEffects.{entry_signed_by};
-ghost use Rattle.mb_model.specs.StoredLog.{entries_signed_for, outgoing_of, log_completed_by};
+ghost use Rattle.mb_model.specs.records.EntryFormat.{entry_format};
+ghost use Rattle.mb_model.specs.machine.OrderEffects.{entry_signed_by};
+ghost use Rattle.mb_model.specs.memories.StoredLog.{entries_signed_for, outgoing_of, log_completed_by};
 ghost use Rattle.mb_signer.specs.Tree.{IsTreeOf};
 ghost use Rattle.mb_lms.specs.declared.hash_count.TheConstants.{LEAF_HASHES, TREE_HASHES};
 
@@ -18,7 +18,7 @@ use std::sync::ledger::Ledger;
 
 /// The log that the entries of a memory mean. The unsigned entries, at most two, get their signatures by the outgoing
 /// key and by the device key; `tree` is the tree of the device key.
-#[tactic(auto, unfolding(mb_model::specs::StoredLog::log_completed_by))]
+#[tactic(auto, unfolding(mb_model::specs::memories::StoredLog::log_completed_by))]
 pub(crate) fn completed<L: Ledger>(
     alloc: Global,
     root: &Root,
@@ -115,7 +115,7 @@ fn push_signed<L: Ledger>(
 }
 
 /// The entry signed by the key at the index; `tree` is the tree of the key.
-#[tactic(auto, unfolding(mb_model::specs::OrderEffects::entry_signed_by, mb_model::specs::SignedTexts::entry_text))]
+#[tactic(auto, unfolding(mb_model::specs::machine::OrderEffects::entry_signed_by, mb_model::specs::machine::SignedTexts::entry_text))]
 fn signed_by<L: Ledger>(
     alloc: Global,
     key: &KeySeed,

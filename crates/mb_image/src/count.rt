@@ -6,10 +6,10 @@ ghost use Rattle.mb_model.specs.declared.entry.Entry.{Entry};
 ghost use Rattle.mb_model.specs.declared.entry.SignedEntry.{SignedEntry};
 ghost use Rattle.mb_model.specs.declared.state.Codes.{Codes};
 ghost use Rattle.mb_model.specs.declared.state.State.{State};
-ghost use Rattle.mb_model.specs.Memory.{IsImage};
-ghost use Rattle.mb_model.specs.Flash.{HoldsPublic};
-ghost use Rattle.mb_model.specs.Meaning.{StandsFor};
-ghost use Rattle.mb_model.specs.Meaning.{log_length};
+ghost use Rattle.mb_model.specs.memories.Memory.{IsImage};
+ghost use Rattle.mb_model.specs.memories.Flash.{HoldsPublic};
+ghost use Rattle.mb_model.specs.memories.Meaning.{StandsFor};
+ghost use Rattle.mb_model.specs.memories.Meaning.{log_length};
 
 use crate::memory::{memories, root_of};
 use crate::segments::{header_in, text_count};

@@ -2,15 +2,15 @@
 
 ghost use Rattle.std.specs.Prelude.{◌≡◌, IfOk, filter};
 ghost use Rattle.std.specs.List.{list_any};
-ghost use Rattle.mb_model.specs.Regions.{is_epoch};
-ghost use Rattle.mb_model.specs.LayerEvents.{has_number};
-ghost use Rattle.mb_model.specs.Meaning.{region_after_fate};
+ghost use Rattle.mb_model.specs.owners.Regions.{is_epoch};
+ghost use Rattle.mb_model.specs.machine.LayerEvents.{has_number};
+ghost use Rattle.mb_model.specs.memories.Meaning.{region_after_fate};
 
 use mb_model::{Fate, Items, KeyKind, NoMemory, Region, RegionKeys};
 use std::alloc::Global;
 
 /// The region after the pending work on it.
-#[tactic(auto, unfolding(mb_model::specs::Meaning::region_after_fate))]
+#[tactic(auto, unfolding(mb_model::specs::memories::Meaning::region_after_fate))]
 pub(crate) fn fated(alloc: Global, fate: &Fate, region: Region) -> Result<Region, NoMemory>
     ensures { IfOk result (λ after. after ≡ region_after_fate fate.now region) }
 {

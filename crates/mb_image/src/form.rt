@@ -2,8 +2,8 @@
 
 ghost use Rattle.std.specs.Prelude.{◌≡◌, ◌≤◌, length, IfOk, MatchOption};
 ghost use Rattle.mb_model.specs.declared.limits.TheConstants.{FLASH_LENGTH};
-ghost use Rattle.mb_model.specs.Meaning.{FlashForm};
-ghost use Rattle.mb_model.specs.Faults.{SomePublicBy};
+ghost use Rattle.mb_model.specs.memories.Meaning.{FlashForm};
+ghost use Rattle.mb_model.specs.memories.Faults.{SomePublicBy};
 ghost use Rattle.mb_model_lemmas.specs.FormLaws.{HoldsOnePublic, HoldsFittingParts};
 ghost use Rattle.mb_image.specs.Forms.{CountsUnsigned};
 

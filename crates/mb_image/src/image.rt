@@ -2,8 +2,8 @@
 
 ghost use Rattle.std.specs.Prelude.{◌≡◌, ◌+◌, ◌≤◌, IfOk, IfErr, IfSome};
 ghost use Rattle.mb_image.specs.declared.image.TheConstants.{IMAGE_HASHES};
-ghost use Rattle.mb_model.specs.Meaning.{IsWellFormedBy, IsWellFormed};
-ghost use Rattle.mb_model.specs.Faults.{HasFaultBy, HasFault};
+ghost use Rattle.mb_model.specs.memories.Meaning.{IsWellFormedBy, IsWellFormed};
+ghost use Rattle.mb_model.specs.memories.Faults.{HasFaultBy, HasFault};
 ghost use Rattle.mb_image.specs.Ends.{fault_of};
 
 use crate::form::FlashForm;

@@ -1,9 +1,9 @@
 //! The check that each entry of a log follows from those before it.
 
 ghost use Rattle.std.specs.Prelude.{◌≡◌, ◌↔◌, ◌-◌, ◌^◌, ◌<◌, List, length, All, IfOk, IsTrue, MatchOption};
-ghost use Rattle.mb_model.specs.EntryFormat.{entry_format};
-ghost use Rattle.mb_model.specs.Log.{figures_of, entries_of};
-ghost use Rattle.mb_model.specs.Valid.{Follows, EachFollows};
+ghost use Rattle.mb_model.specs.records.EntryFormat.{entry_format};
+ghost use Rattle.mb_model.specs.owners.Log.{figures_of, entries_of};
+ghost use Rattle.mb_model.specs.memories.Valid.{Follows, EachFollows};
 ghost use Rattle.mb_image.specs.Verified.{IsVerified};
 
 use mb_cert::{certifies, leaf_number};

@@ -3,8 +3,8 @@
 ghost use Rattle.std.specs.Prelude.{◌≡◌, ◌≢◌, ◌≤◌, length, MatchOption};
 ghost use Rattle.mb_model.specs.declared.limits.TheConstants.{BBRAM_LENGTH, IMAGE_LENGTH};
 ghost use Rattle.mb_model.specs.declared.stored.Root.{Root};
-ghost use Rattle.mb_model.specs.Meaning.{RootIn};
-ghost use Rattle.mb_model.specs.Memory.{IsImage, spare_bytes, area_of_slot};
+ghost use Rattle.mb_model.specs.memories.Meaning.{RootIn};
+ghost use Rattle.mb_model.specs.memories.Memory.{IsImage, spare_bytes, area_of_slot};
 
 use mb_layout::{is_blank, root_in};
 use mb_model::{AREA_LENGTH, FLASH_LENGTH, IMAGE_LENGTH, Root};
@@ -29,7 +29,7 @@ pub(crate) fn memories(image: &[u8]) -> Option<(&[u8], &[u8])>
 }
 
 /// The bytes between the selectors and the first area of a battery-backed memory.
-#[tactic(auto, unfolding(mb_model::specs::Memory::spare_bytes))]
+#[tactic(auto, unfolding(mb_model::specs::memories::Memory::spare_bytes))]
 pub(crate) fn spare(bbram: &[u8]) -> &[u8]
     requires { length bbram.now ≡ BBRAM_LENGTH }
     ensures { result.now ≡ spare_bytes bbram.now }

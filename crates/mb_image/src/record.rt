@@ -2,9 +2,9 @@
 
 ghost use Rattle.std.specs.Prelude.{◌≡◌, ◌≤◌, [], vec_capacity, IfOk};
 ghost use Rattle.mb_model.specs.declared.limits.TheConstants.{RECORD_LIMIT};
-ghost use Rattle.mb_model.specs.EntryFormat.{entry_format};
-ghost use Rattle.mb_model.specs.RootFormat.{root_format};
-ghost use Rattle.mb_model.specs.RegionFormat.{CanBeWritten, written_region};
+ghost use Rattle.mb_model.specs.records.EntryFormat.{entry_format};
+ghost use Rattle.mb_model.specs.records.RootFormat.{root_format};
+ghost use Rattle.mb_model.specs.records.RegionFormat.{CanBeWritten, written_region};
 
 use crate::regions::is_empty;
 use mb_layout::{write_entry, write_region, write_root};

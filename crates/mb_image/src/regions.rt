@@ -1,10 +1,10 @@
 //! The check that a region is one that its layer can have by the log.
 
 ghost use Rattle.std.specs.Prelude.{◌≡◌, ◌≢◌, ◌↔◌, ◌+◌, ◌*◌, ◌≤◌, ℕ, false, length, map, All, AllPairs, Any, IfOk, IsTrue};
-ghost use Rattle.mb_model.specs.Layers.{layer_of, is_upper};
-ghost use Rattle.mb_model.specs.Log.{entries_of, number_of, RuledLog};
-ghost use Rattle.mb_model.specs.Regions.{empty_region, AdmittedSince};
-ghost use Rattle.mb_model.specs.Valid.{as_made, IsValidRegion};
+ghost use Rattle.mb_model.specs.owners.Layers.{layer_of, is_upper};
+ghost use Rattle.mb_model.specs.owners.Log.{entries_of, number_of, RuledLog};
+ghost use Rattle.mb_model.specs.owners.Regions.{empty_region, AdmittedSince};
+ghost use Rattle.mb_model.specs.memories.Valid.{as_made, IsValidRegion};
 ghost use Rattle.mb_image.specs.Keys.{as_listed, listed_keys};
 ghost use Rattle.mb_image.specs.Losses.{loss};
 ghost use Rattle.mb_model.specs.declared.limits.TheConstants.{KEY_LIMIT};

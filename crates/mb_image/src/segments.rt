@@ -4,12 +4,12 @@ ghost use Rattle.std.specs.Prelude.{◌≡◌, ◌≤◌, ◌<◌, ◌↔◌, le
 ghost use Rattle.std.specs.Option.{option_copied};
 ghost use Rattle.mb_format.specs.Format.{Spells};
 ghost use Rattle.mb_model.specs.declared.limits.TheConstants.{CODE_LIMIT, ENTRY_LIMIT, FILE_LIMIT, FLASH_LENGTH, SECTOR_LENGTH};
-ghost use Rattle.mb_model.specs.EntryFormat.{entry_format};
-ghost use Rattle.mb_model.specs.HeaderFormat.{header_format};
-ghost use Rattle.mb_model.specs.Sectors.{header_sector, log_sector};
-ghost use Rattle.mb_model.specs.StoredLog.{how_many_unsigned, CanSign};
-ghost use Rattle.mb_model.specs.Flash.{sector, HoldsCode, HoldsEntry, AreBytesOf, HoldsPublic};
-ghost use Rattle.mb_model.specs.Faults.{SomePublic};
+ghost use Rattle.mb_model.specs.records.EntryFormat.{entry_format};
+ghost use Rattle.mb_model.specs.records.HeaderFormat.{header_format};
+ghost use Rattle.mb_model.specs.memories.Sectors.{header_sector, log_sector};
+ghost use Rattle.mb_model.specs.memories.StoredLog.{how_many_unsigned, CanSign};
+ghost use Rattle.mb_model.specs.memories.Flash.{sector, HoldsCode, HoldsEntry, AreBytesOf, HoldsPublic};
+ghost use Rattle.mb_model.specs.memories.Faults.{SomePublic};
 ghost use Rattle.mb_model_lemmas.specs.SegmentLaws.{HoldsNoEntry};
 ghost use Rattle.mb_layout.specs.Found.{FindsBy};
 ghost use Rattle.mb_segments.specs.Beginnings.{FindsBeginning};
@@ -26,7 +26,7 @@ use mb_segments::{Slot, StoredHeader, code_sector, header_at, header_sector, log
 use std::alloc::Global;
 
 /// A sector of the flash, by its number, 0 to 255.
-#[tactic(auto, unfolding(mb_model::specs::Flash::sector))]
+#[tactic(auto, unfolding(mb_model::specs::memories::Flash::sector))]
 fn sector(flash: &[u8], number: u16) -> &[u8]
     requires sized { length flash.now ≡ FLASH_LENGTH }
     requires number { number < 256 }
@@ -77,7 +77,7 @@ fn are_counted(pending: &Option<Pending>, count: u16) -> bool
 // ---- code
 
 /// The code of a layer, 1 to 3, in the slot that a header names for it.
-#[tactic(auto, unfolding(mb_model::specs::Flash::code_slot))]
+#[tactic(auto, unfolding(mb_model::specs::memories::Flash::code_slot))]
 fn code_in(alloc: Global, flash: &[u8], layer: u8, slot: Slot) -> Result<Option<Bytes>, NoMemory>
     requires sized { length flash.now ≡ FLASH_LENGTH }
     requires layer { (1 ≤ layer) × (layer ≤ 3) }
@@ -223,7 +223,7 @@ fn public_in(alloc: Global, flash: &[u8], root: &Root) -> Result<Option<PublicPa
 pub struct Segments;
 
 impl FlashForm for Segments {
-    ghost use Rattle.mb_model.specs.Flash.{HoldsPublic};
+    ghost use Rattle.mb_model.specs.memories.Flash.{HoldsPublic};
     ghost use Rattle.mb_model_lemmas.proofs.OneFlash.{one_list};
     ghost use Rattle.mb_model_lemmas.proofs.HeldSegments.{segments_parts_fit};
 

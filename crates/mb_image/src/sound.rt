@@ -1,10 +1,10 @@
 //! The state that stored contents mean, and whether a device can have it.
 
 ghost use Rattle.std.specs.Prelude.{◌≡◌, ◌↔◌, ◌+◌, ◌≤◌, IfOk, IsTrue, MatchOption};
-ghost use Rattle.mb_model.specs.Log.{layers_of};
-ghost use Rattle.mb_model.specs.StoredLog.{HasIndex};
-ghost use Rattle.mb_model.specs.Meaning.{state_of_contents};
-ghost use Rattle.mb_model.specs.Faults.{AreSound};
+ghost use Rattle.mb_model.specs.owners.Log.{layers_of};
+ghost use Rattle.mb_model.specs.memories.StoredLog.{HasIndex};
+ghost use Rattle.mb_model.specs.memories.Meaning.{state_of_contents};
+ghost use Rattle.mb_model.specs.memories.Faults.{AreSound};
 ghost use Rattle.mb_signer.specs.Tree.{IsTreeOf};
 ghost use Rattle.mb_image.specs.Stored.{contents_of, CanBeCompleted};
 ghost use Rattle.mb_lms.specs.declared.hash_count.TheConstants.{LEAF_HASHES, SIGNING_HASHES};
@@ -56,7 +56,7 @@ fn has_index(root: &Root) -> bool
 }
 
 /// The state that stored contents mean, by the tree of the device key.
-#[tactic(auto, unfolding(mb_model::specs::Meaning::state_of_contents))]
+#[tactic(auto, unfolding(mb_model::specs::memories::Meaning::state_of_contents))]
 fn state_of<L: Ledger>(
     alloc: Global,
     stored: Stored,

@@ -1,9 +1,9 @@
 //! The contents of a memory, decoded.
 
 ghost use Rattle.std.specs.Prelude.{IfOk, IfErr, IfSome};
-ghost use Rattle.mb_model.specs.Memory.{AreSized};
-ghost use Rattle.mb_model.specs.Meaning.{RootIn, HoldsContentsBy};
-ghost use Rattle.mb_model.specs.Faults.{IsFaultyBy};
+ghost use Rattle.mb_model.specs.memories.Memory.{AreSized};
+ghost use Rattle.mb_model.specs.memories.Meaning.{RootIn, HoldsContentsBy};
+ghost use Rattle.mb_model.specs.memories.Faults.{IsFaultyBy};
 ghost use Rattle.mb_image.specs.Ends.{fault_of};
 ghost use Rattle.mb_image.specs.Stored.{contents_of};
 

@@ -1,10 +1,11 @@
 //! The check that a device can have a state.
 
 ghost use Rattle.std.specs.Prelude.{◌≡◌, ◌↔◌, ◌+◌, ◌*◌, ◌≤◌, ◌-◌, ◌^◌, ◌<◌, length, All, IfOk, IsTrue, Some};
-ghost use Rattle.mb_model.specs.EntryFormat.{entry_format};
-ghost use Rattle.mb_model.specs.Log.{figures_of, entries_of, layers_of, device_of, serial_of, uses_of_device_key};
-ghost use Rattle.mb_model.specs.Signing.{public_of};
-ghost use Rattle.mb_model.specs.Valid.{IsValidState};
+ghost use Rattle.mb_model.specs.records.EntryFormat.{entry_format};
+ghost use Rattle.mb_model.specs.owners.Log.{figures_of, entries_of, layers_of, device_of, serial_of};
+ghost use Rattle.mb_model.specs.owners.Log.{uses_of_device_key};
+ghost use Rattle.mb_model.specs.signatures.Signing.{public_of};
+ghost use Rattle.mb_model.specs.memories.Valid.{IsValidState};
 ghost use Rattle.mb_model.specs.declared.limits.TheConstants.{KEY_LIMIT};
 ghost use Rattle.mb_lms.specs.declared.hash_count.TheConstants.{TREE_HASHES};
 

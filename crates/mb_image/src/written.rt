@@ -3,14 +3,14 @@
 ghost use Rattle.std.specs.Prelude.{◌≡◌, ◌≤◌, ◌*◌, ◌∷◌, [], length, replicate, IfOk, IfSome};
 ghost use Rattle.std.specs.Vec.{vec_len, vec_capacity};
 ghost use Rattle.mb_model.specs.declared.limits.TheConstants.{CODE_LIMIT, FLASH_LENGTH, IMAGE_LENGTH, RECORD_LIMIT, SECTOR_LENGTH};
-ghost use Rattle.mb_model.specs.Board.{erased_bytes, zeros};
-ghost use Rattle.mb_model.specs.EntryFormat.{signed_entry_format};
-ghost use Rattle.mb_model.specs.HeaderFormat.{header_format};
-ghost use Rattle.mb_model.specs.RegionFormat.{CanBeWritten, written_region};
-ghost use Rattle.mb_model.specs.RootFormat.{root_format};
-ghost use Rattle.mb_model.specs.Clean.{root_of};
-ghost use Rattle.mb_model.specs.WrittenFlash.{in_sectors, first_slot, slots_with, entry_in_log, sectors_of, first_header, written_flash, LogFitsSectors};
-ghost use Rattle.mb_model.specs.WrittenImage.{area_with, written_bbram, written_image, FitsImage};
+ghost use Rattle.mb_model.specs.outside.Board.{erased_bytes, zeros};
+ghost use Rattle.mb_model.specs.records.EntryFormat.{signed_entry_format};
+ghost use Rattle.mb_model.specs.records.HeaderFormat.{header_format};
+ghost use Rattle.mb_model.specs.records.RegionFormat.{CanBeWritten, written_region};
+ghost use Rattle.mb_model.specs.records.RootFormat.{root_format};
+ghost use Rattle.mb_model.specs.memories.Clean.{root_of};
+ghost use Rattle.mb_model.specs.memories.WrittenFlash.{in_sectors, first_slot, slots_with, entry_in_log, sectors_of, first_header, written_flash, LogFitsSectors};
+ghost use Rattle.mb_model.specs.memories.WrittenImage.{area_with, written_bbram, written_image, FitsImage};
 ghost use Rattle.mb_bytes.specs.Puts.{Puts};
 
 use crate::record::RecordBuffer;
@@ -90,7 +90,7 @@ pub fn write_image(alloc: Global, state: &Option<State>) -> Result<Vec<u8>, NoMe
 }
 
 /// Appends the image of a device.
-#[tactic(auto, unfolding(mb_model::specs::WrittenImage::written_image))]
+#[tactic(auto, unfolding(mb_model::specs::memories::WrittenImage::written_image))]
 fn put_image(
     out: &mut Vec<u8>,
     record: &mut RecordBuffer,
@@ -114,7 +114,7 @@ fn put_image(
 // ---- the flash
 
 /// Appends the flash: the header in area 0, the code of each layer in its slot 1, the log, and erased bytes.
-#[tactic(auto, unfolding(mb_model::specs::WrittenFlash::written_flash))]
+#[tactic(auto, unfolding(mb_model::specs::memories::WrittenFlash::written_flash))]
 fn put_flash(out: &mut Vec<u8>, record: &mut RecordBuffer, state: &State) -> Result<(), NoMemory>
     requires { FitsImage state.now }
     ensures { Puts (written_flash state.now.codes state.now.log) out.old result out.new }
@@ -161,7 +161,7 @@ fn slot_of(code: &Option<Bytes>) -> Slot
 }
 
 /// Appends both header areas: the header in the first, and the second erased.
-#[tactic(auto, unfolding(mb_model::specs::WrittenFlash::in_sectors))]
+#[tactic(auto, unfolding(mb_model::specs::memories::WrittenFlash::in_sectors))]
 fn put_header(out: &mut Vec<u8>, state: &State) -> Result<(), NoMemory>
     requires { FitsImage state.now }
     ensures { Puts (in_sectors 2 (header_format.spelling (first_header state.now.codes state.now.log))) out.old result out.new }
@@ -173,7 +173,7 @@ fn put_header(out: &mut Vec<u8>, state: &State) -> Result<(), NoMemory>
 }
 
 /// Appends both code slots of a layer: its code in the first, and the second erased.
-#[tactic(auto, unfolding(mb_model::specs::WrittenFlash::slots_with))]
+#[tactic(auto, unfolding(mb_model::specs::memories::WrittenFlash::slots_with))]
 fn put_code(out: &mut Vec<u8>, code: &Option<Bytes>) -> Result<(), NoMemory>
     requires { IfSome code.now (λ bytes. length bytes ≤ CODE_LIMIT) }
     ensures { Puts (slots_with code.now) out.old result out.new }
@@ -185,7 +185,7 @@ fn put_code(out: &mut Vec<u8>, code: &Option<Bytes>) -> Result<(), NoMemory>
 }
 
 /// Appends the sectors of the log, one for each entry, and erased sectors up to the log's end.
-#[tactic(auto, unfolding(mb_model::specs::WrittenFlash::in_sectors))]
+#[tactic(auto, unfolding(mb_model::specs::memories::WrittenFlash::in_sectors))]
 fn put_log_sectors(out: &mut Vec<u8>, record: &mut RecordBuffer, log: &Log) -> Result<(), NoMemory>
     requires { LogFitsSectors log.now }
     ensures { Puts (in_sectors 128 (sectors_of log.now)) out.old result out.new }
@@ -211,7 +211,7 @@ fn put_entries(
 }
 
 /// Appends the sector of an entry: its text and its signature, and erased bytes.
-#[tactic(auto, unfolding(mb_model::specs::WrittenFlash::in_sectors))]
+#[tactic(auto, unfolding(mb_model::specs::memories::WrittenFlash::in_sectors))]
 fn put_entry(
     out: &mut Vec<u8>,
     record: &mut RecordBuffer,
@@ -227,7 +227,7 @@ fn put_entry(
 }
 
 /// Appends bytes at the start of `count` sectors, at most 256, and erased bytes after them.
-#[tactic(auto, unfolding(mb_model::specs::WrittenFlash::in_sectors))]
+#[tactic(auto, unfolding(mb_model::specs::memories::WrittenFlash::in_sectors))]
 fn put_in_sectors(out: &mut Vec<u8>, count: usize, bytes: &[u8]) -> Result<(), NoMemory>
     requires count { SECTOR_LENGTH * count ≤ FLASH_LENGTH }
     requires bytes { length bytes.now ≤ SECTOR_LENGTH * count }
@@ -238,7 +238,7 @@ fn put_in_sectors(out: &mut Vec<u8>, count: usize, bytes: &[u8]) -> Result<(), N
 }
 
 /// Appends erased bytes of the flash, at most 1,048,576.
-#[tactic(auto, unfolding(mb_model::specs::Board::erased_bytes))]
+#[tactic(auto, unfolding(mb_model::specs::outside::Board::erased_bytes))]
 fn put_erased(out: &mut Vec<u8>, count: usize) -> Result<(), NoMemory>
     requires { count ≤ FLASH_LENGTH }
     ensures { Puts (erased_bytes count) out.old result out.new }
@@ -250,7 +250,7 @@ fn put_erased(out: &mut Vec<u8>, count: usize) -> Result<(), NoMemory>
 
 /// Appends the battery-backed memory: the life byte and the selectors, the root and the regions in the first of their
 /// two areas, and zeros.
-#[tactic(auto, unfolding(mb_model::specs::WrittenImage::written_bbram))]
+#[tactic(auto, unfolding(mb_model::specs::memories::WrittenImage::written_bbram))]
 fn put_bbram(out: &mut Vec<u8>, record: &mut RecordBuffer, state: &State) -> Result<(), NoMemory>
     requires { FitsImage state.now }
     ensures { Puts (written_bbram state.now) out.old result out.new }
@@ -304,7 +304,7 @@ fn put_head(out: &mut Vec<u8>) -> Result<(), NoMemory>
 }
 
 /// Appends an area with a record: its length, its bytes, and zeros.
-#[tactic(auto, unfolding(mb_model::specs::WrittenImage::area_with, mb_format::specs::Combinators::number_bytes))]
+#[tactic(auto, unfolding(mb_model::specs::memories::WrittenImage::area_with, mb_format::specs::Combinators::number_bytes))]
 fn put_area(out: &mut Vec<u8>, bytes: &[u8]) -> Result<(), NoMemory>
     requires { length bytes.now ≤ RECORD_LIMIT }
     ensures { Puts (area_with bytes.now) out.old result out.new }
@@ -314,7 +314,7 @@ fn put_area(out: &mut Vec<u8>, bytes: &[u8]) -> Result<(), NoMemory>
 }
 
 /// Appends zeros, at most 1,048,576.
-#[tactic(auto, unfolding(mb_model::specs::Board::zeros))]
+#[tactic(auto, unfolding(mb_model::specs::outside::Board::zeros))]
 fn put_zeros(out: &mut Vec<u8>, count: usize) -> Result<(), NoMemory>
     requires { count ≤ FLASH_LENGTH }
     ensures { Puts (zeros count) out.old result out.new }

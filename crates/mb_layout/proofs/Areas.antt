@@ -11,9 +11,9 @@ use Rattle.mb_format.proofs.Fields.{IsWide, wide16}
 use Rattle.mb_format.proofs.Exact.{IsBytes-spelled, IsBytes-drop}
 use Rattle.mb_format.proofs.Whole.{IsClearWhole-from_exact}
 use Rattle.mb_model.specs.declared.region.Region.{Region}
-use Rattle.mb_model.specs.Memory.{IsBlank, HoldsInArea, HoldsRecord}
-use Rattle.mb_model.specs.RegionFormat.{region_format, SpellsRegion}
-use Rattle.mb_model.specs.Meaning.{HoldsRegion}
+use Rattle.mb_model.specs.memories.Memory.{IsBlank, HoldsInArea, HoldsRecord}
+use Rattle.mb_model.specs.records.RegionFormat.{region_format, SpellsRegion}
+use Rattle.mb_model.specs.memories.Meaning.{HoldsRegion}
 use Rattle.mb_model.proofs.RecordFormatLaws.{region_exact}
 
 -- ---- what stands first

@@ -6,8 +6,8 @@ use Rattle.mb_model.specs.declared.key.PublicKey.{PublicKey}
 use Rattle.mb_model.specs.declared.layer.Trusts.{Trusts}
 use Rattle.mb_model.specs.declared.layer.CodeName.{CodeName}
 use Rattle.mb_model.specs.declared.layer.Layer.{Layer}
-use Rattle.mb_model.specs.KeyFormat.{public_key_format}
-use Rattle.mb_model.specs.LayerFormat.{trust_format, one_trust, two_trusts, trusts_of, trust_by, has_nothing, code_name_format, layer_format}
+use Rattle.mb_model.specs.records.KeyFormat.{public_key_format}
+use Rattle.mb_model.specs.records.LayerFormat.{trust_format, one_trust, two_trusts, trusts_of, trust_by, has_nothing, code_name_format, layer_format}
 use Rattle.mb_layout.specs.Parts.{loaded_byte}
 
 -- where a layer has nothing, its trusts are spelled as any others are

@@ -3,10 +3,10 @@ use Rattle.std.proofs.Common.{ℕ, zero, suc, ◌<◌, List, [], ◌∷◌, leng
 use Rattle.mb_format.specs.Format.{Format}
 use Rattle.mb_format.specs.Combinators.{items, times}
 use Rattle.mb_model.specs.declared.region.RegionKey.{RegionKey}
-use Rattle.mb_model.specs.RootFormat.{region_key_format}
+use Rattle.mb_model.specs.records.RootFormat.{region_key_format}
 use Rattle.mb_model.specs.declared.region.Secret.{Secret}
 use Rattle.mb_model.specs.declared.region.Region.{Region}
-use Rattle.mb_model.specs.RegionFormat.{secret_format, secrets_format, keys_format, region_by, region_format}
+use Rattle.mb_model.specs.records.RegionFormat.{secret_format, secrets_format, keys_format, region_by, region_format}
 use Rattle.mb_model.proofs.RecordFormatLaws.{few_secrets}
 use Rattle.mb_layout.specs.Bounds.{HasByteUses, SecretFits, RegionFits}
 

@@ -8,10 +8,10 @@ use Rattle.mb_model.specs.declared.layer.Pair.{Pair}
 use Rattle.mb_model.specs.declared.order.ChangeKind.{ChangeKind}
 use Rattle.mb_model.specs.declared.order.KeyKind.{KeyKind}
 use Rattle.mb_model.specs.declared.stored.Root.{Root}
-use Rattle.mb_model.specs.KeyFormat.{public_key_format, key_seed_format}
-use Rattle.mb_model.specs.LayerFormat.{layers_format}
-use Rattle.mb_model.specs.EntryFormat.{change_byte, pair_format, key_kind_format}
-use Rattle.mb_model.specs.RootFormat.{pending_format}
+use Rattle.mb_model.specs.records.KeyFormat.{public_key_format, key_seed_format}
+use Rattle.mb_model.specs.records.LayerFormat.{layers_format}
+use Rattle.mb_model.specs.records.EntryFormat.{change_byte, pair_format, key_kind_format}
+use Rattle.mb_model.specs.records.RootFormat.{pending_format}
 
 -- the regions kept, the layers and the next key of a change, in a version
 abbrev pub kept_bytes : ℕ → Pair → Layers → Option PublicKey → List ℕ

@@ -1,7 +1,7 @@
 -- What a reader of a region's record of either version answers. Which region is it, and where do bytes fail?
 use Rattle.std.specs.Prelude.{ℕ, List, Result, Ok, Err}
 use Rattle.mb_model.specs.declared.region.Region.{Region}
-use Rattle.mb_model.specs.RegionFormat.{region_format, IsRecordOf}
+use Rattle.mb_model.specs.records.RegionFormat.{region_format, IsRecordOf}
 use Rattle.mb_bytes.specs.declared.cursor.Cursor.{Cursor}
 use Rattle.mb_bytes.specs.Reads.{IsRead, IsNotReadAt, FailsWholeAt}
 use Rattle.mb_layout.specs.declared.end.LayoutEnd.{LayoutEnd}

@@ -2,9 +2,9 @@
 
 ghost use Rattle.std.specs.Prelude.{◌≡◌, ◌≤◌, ◌↔◌, length, IfOk, IsTrue};
 ghost use Rattle.mb_model.specs.declared.limits.TheConstants.{AREA_LENGTH, RECORD_LIMIT};
-ghost use Rattle.mb_model.specs.RootFormat.{root_format};
-ghost use Rattle.mb_model.specs.Memory.{IsBlank, HoldsInArea, HoldsRecord};
-ghost use Rattle.mb_model.specs.Meaning.{HoldsRegion};
+ghost use Rattle.mb_model.specs.records.RootFormat.{root_format};
+ghost use Rattle.mb_model.specs.memories.Memory.{IsBlank, HoldsInArea, HoldsRecord};
+ghost use Rattle.mb_model.specs.memories.Meaning.{HoldsRegion};
 ghost use Rattle.mb_layout.specs.Found.{FindsBy};
 
 use crate::end::LayoutEnd;

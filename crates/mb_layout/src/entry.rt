@@ -3,7 +3,7 @@
 ghost use Rattle.std.specs.Prelude.{◌≡◌};
 ghost use Rattle.std.specs.Int.{w8};
 ghost use Rattle.mb_format.specs.Combinators.{table};
-ghost use Rattle.mb_model.specs.EntryFormat.{change_rows, change_byte, birth_tag, change_tag, entry_byte, pair_byte, pair_format, birth_format, change_format, new_key_format, succession_format, entry_format};
+ghost use Rattle.mb_model.specs.records.EntryFormat.{change_rows, change_byte, birth_tag, change_tag, entry_byte, pair_byte, pair_format, birth_format, change_format, new_key_format, succession_format, entry_format};
 ghost use Rattle.mb_bytes.specs.Reads.{bad_at, Reads, ReadsExactly};
 ghost use Rattle.mb_bytes.specs.Puts.{Puts, Writes};
 ghost use Rattle.mb_layout.specs.Parts.{kept_bytes, changed_bytes, made_key_bytes};
@@ -28,7 +28,7 @@ fn change_kind_at(cursor: &mut Cursor<'_>) -> Result<ChangeKind, BadRecord>
     }
 }
 
-#[tactic(auto, unfolding(mb_model::specs::EntryFormat::pair_format))]
+#[tactic(auto, unfolding(mb_model::specs::records::EntryFormat::pair_format))]
 fn pair_at(cursor: &mut Cursor<'_>) -> Result<Pair, BadRecord>
     ensures { Reads bad_at pair_format cursor.old result cursor.new }
 {
@@ -54,7 +54,7 @@ fn pair_at(cursor: &mut Cursor<'_>) -> Result<Pair, BadRecord>
     }
 }
 
-#[tactic(auto, unfolding(mb_model::specs::EntryFormat::birth_format))]
+#[tactic(auto, unfolding(mb_model::specs::records::EntryFormat::birth_format))]
 fn birth_at(cursor: &mut Cursor<'_>, version: u8) -> Result<Entry, BadRecord>
     ensures { Reads bad_at (birth_format version) cursor.old result cursor.new }
 {
@@ -69,7 +69,7 @@ fn birth_at(cursor: &mut Cursor<'_>, version: u8) -> Result<Entry, BadRecord>
     })
 }
 
-#[tactic(auto, unfolding(mb_model::specs::EntryFormat::change_format))]
+#[tactic(auto, unfolding(mb_model::specs::records::EntryFormat::change_format))]
 fn change_at(cursor: &mut Cursor<'_>, version: u8) -> Result<Entry, BadRecord>
     ensures { Reads bad_at (change_format version) cursor.old result cursor.new }
 {
@@ -94,7 +94,7 @@ fn change_at(cursor: &mut Cursor<'_>, version: u8) -> Result<Entry, BadRecord>
     })
 }
 
-#[tactic(auto, unfolding(mb_model::specs::EntryFormat::new_key_format))]
+#[tactic(auto, unfolding(mb_model::specs::records::EntryFormat::new_key_format))]
 fn new_key_at(cursor: &mut Cursor<'_>) -> Result<Entry, BadRecord>
     ensures { Reads bad_at new_key_format cursor.old result cursor.new }
 {
@@ -114,7 +114,7 @@ fn new_key_at(cursor: &mut Cursor<'_>) -> Result<Entry, BadRecord>
     })
 }
 
-#[tactic(auto, unfolding(mb_model::specs::EntryFormat::succession_format))]
+#[tactic(auto, unfolding(mb_model::specs::records::EntryFormat::succession_format))]
 fn succession_at(cursor: &mut Cursor<'_>) -> Result<Entry, BadRecord>
     ensures { Reads bad_at succession_format cursor.old result cursor.new }
 {
@@ -124,7 +124,7 @@ fn succession_at(cursor: &mut Cursor<'_>) -> Result<Entry, BadRecord>
 }
 
 /// Reads an entry: its first byte says which of the four it is, and which version a birth or change has.
-#[tactic(auto, unfolding(mb_model::specs::EntryFormat::entry_format))]
+#[tactic(auto, unfolding(mb_model::specs::records::EntryFormat::entry_format))]
 pub fn entry_at(cursor: &mut Cursor<'_>) -> Result<Entry, BadRecord>
     ensures { Reads bad_at entry_format cursor.old result cursor.new }
 {
@@ -176,7 +176,7 @@ fn pair_number(pair: Pair) -> u8
     }
 }
 
-#[tactic(auto, unfolding(mb_model::specs::EntryFormat::pair_format))]
+#[tactic(auto, unfolding(mb_model::specs::records::EntryFormat::pair_format))]
 fn put_pair(out: &mut Vec<u8>, pair: Pair) -> Result<(), NoMemory>
     ensures { Puts (pair_format.spelling pair) out.old result out.new }
 {
@@ -232,7 +232,7 @@ fn put_made_key(
 }
 
 /// Appends an entry: its first byte says which of the four it is, and which version a birth or change has.
-#[tactic(auto, unfolding(mb_model::specs::EntryFormat::birth_format, mb_model::specs::EntryFormat::change_format, mb_model::specs::EntryFormat::new_key_format, mb_model::specs::EntryFormat::succession_format, mb_model::specs::EntryFormat::entry_format))]
+#[tactic(auto, unfolding(mb_model::specs::records::EntryFormat::birth_format, mb_model::specs::records::EntryFormat::change_format, mb_model::specs::records::EntryFormat::new_key_format, mb_model::specs::records::EntryFormat::succession_format, mb_model::specs::records::EntryFormat::entry_format))]
 pub fn put_entry(out: &mut Vec<u8>, entry: &Entry) -> Result<(), NoMemory>
     ensures { Puts (entry_format.spelling entry.now) out.old result out.new }
 {
@@ -289,7 +289,7 @@ pub fn put_entry(out: &mut Vec<u8>, entry: &Entry) -> Result<(), NoMemory>
 pub struct EntryField;
 
 impl Field for EntryField {
-    ghost use Rattle.mb_model.specs.EntryFormat.{entry_format};
+    ghost use Rattle.mb_model.specs.records.EntryFormat.{entry_format};
     ghost use Rattle.mb_model.proofs.EntryFormatLaws.{entry_exact};
 
     type Value = Entry;

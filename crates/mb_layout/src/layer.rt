@@ -1,7 +1,7 @@
 //! Layers as bytes.
 
 ghost use Rattle.std.specs.Prelude.{◌≡◌, ◌⊎◌};
-ghost use Rattle.mb_model.specs.LayerFormat.{has_nothing, has_owner, has_code, has_reliable_code, layer_by, trust_by, trust_format, one_trust, two_trusts, trusts_of, code_name_format, layer_format, layers_format};
+ghost use Rattle.mb_model.specs.records.LayerFormat.{has_nothing, has_owner, has_code, has_reliable_code, layer_by, trust_by, trust_format, one_trust, two_trusts, trusts_of, code_name_format, layer_format, layers_format};
 ghost use Rattle.mb_bytes.specs.Reads.{bad_at, Reads, ReadsExactly};
 ghost use Rattle.mb_bytes.specs.Puts.{Puts, Writes};
 ghost use Rattle.mb_layout.specs.Parts.{loaded_byte};
@@ -12,7 +12,7 @@ use mb_bytes::{
 };
 use mb_model::{BadRecord, CodeName, Layer, Layers, NoMemory, Trust, Trusts};
 
-#[tactic(auto, unfolding(mb_model::specs::LayerFormat::code_name_format))]
+#[tactic(auto, unfolding(mb_model::specs::records::LayerFormat::code_name_format))]
 fn code_name_at(cursor: &mut Cursor<'_>) -> Result<CodeName, BadRecord>
     ensures { Reads bad_at code_name_format cursor.old result cursor.new }
 {
@@ -129,7 +129,7 @@ fn reliable_at(cursor: &mut Cursor<'_>, version: u8) -> Result<Layer, BadRecord>
 }
 
 /// Reads a layer in an entry of this version: a byte that says what it has, its trusts, its owner and its code name.
-#[tactic(auto, unfolding(mb_model::specs::LayerFormat::layer_format))]
+#[tactic(auto, unfolding(mb_model::specs::records::LayerFormat::layer_format))]
 pub fn layer_at(cursor: &mut Cursor<'_>, version: u8) -> Result<Layer, BadRecord>
     ensures { Reads bad_at (layer_format version) cursor.old result cursor.new }
 {
@@ -144,7 +144,7 @@ pub fn layer_at(cursor: &mut Cursor<'_>, version: u8) -> Result<Layer, BadRecord
 }
 
 /// Reads three layers in an entry of this version, from the first on.
-#[tactic(auto, unfolding(mb_model::specs::LayerFormat::layers_format))]
+#[tactic(auto, unfolding(mb_model::specs::records::LayerFormat::layers_format))]
 pub fn layers_at(cursor: &mut Cursor<'_>, version: u8) -> Result<Layers, BadRecord>
     ensures { Reads bad_at (layers_format version) cursor.old result cursor.new }
 {
@@ -154,7 +154,7 @@ pub fn layers_at(cursor: &mut Cursor<'_>, version: u8) -> Result<Layers, BadReco
     Ok(Layers { one, two, three })
 }
 
-#[tactic(auto, unfolding(mb_model::specs::LayerFormat::code_name_format))]
+#[tactic(auto, unfolding(mb_model::specs::records::LayerFormat::code_name_format))]
 fn put_code_name(out: &mut Vec<u8>, name: &CodeName) -> Result<(), NoMemory>
     ensures { Puts (code_name_format.spelling name.now) out.old result out.new }
 {
@@ -180,7 +180,7 @@ fn put_trusts(out: &mut Vec<u8>, trusts: Trusts, version: u8) -> Result<(), NoMe
 }
 
 /// Appends a layer for an entry of this version: what it has, its trusts, its owner and its code name.
-#[tactic(auto, unfolding(mb_model::specs::LayerFormat::layer_format))]
+#[tactic(auto, unfolding(mb_model::specs::records::LayerFormat::layer_format))]
 pub fn put_layer(out: &mut Vec<u8>, layer: &Layer, version: u8) -> Result<(), NoMemory>
     ensures { Puts ((layer_format version).spelling layer.now) out.old result out.new }
 {
@@ -204,7 +204,7 @@ pub fn put_layer(out: &mut Vec<u8>, layer: &Layer, version: u8) -> Result<(), No
 }
 
 /// Appends three layers for an entry of this version, from the first on.
-#[tactic(auto, unfolding(mb_model::specs::LayerFormat::layers_format))]
+#[tactic(auto, unfolding(mb_model::specs::records::LayerFormat::layers_format))]
 pub fn put_layers(out: &mut Vec<u8>, layers: &Layers, version: u8) -> Result<(), NoMemory>
     ensures { Puts ((layers_format version).spelling layers.now) out.old result out.new }
 {

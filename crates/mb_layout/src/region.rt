@@ -5,7 +5,7 @@ ghost use Rattle.std.specs.List.{All};
 ghost use Rattle.std.specs.Int.{w8};
 ghost use Rattle.mb_format.specs.Combinators.{between, sized_that};
 ghost use Rattle.mb_model.specs.declared.limits.TheConstants.{FILE_LIMIT, NAME_LIMIT, REGION_VERSION, SECRET_LIMIT};
-ghost use Rattle.mb_model.specs.RegionFormat.{is_name, secret_format, most_secrets, secrets_format, least_keys, keys_format, region_by, region_format};
+ghost use Rattle.mb_model.specs.records.RegionFormat.{is_name, secret_format, most_secrets, secrets_format, least_keys, keys_format, region_by, region_format};
 ghost use Rattle.mb_bytes.specs.Reads.{bad_at, Reads, ReadsAs};
 ghost use Rattle.mb_bytes.specs.Puts.{Puts, Writes};
 ghost use Rattle.mb_layout.specs.Ends.{layout_at};
@@ -53,7 +53,7 @@ fn name_at<'a>(cursor: &mut Cursor<'a>) -> Result<&'a [u8], BadRecord>
 
 /// Reads a secret at the cursor's offset, as a part of a record, without copying it. Else the offset of the field that
 /// lacks bytes or is not allowed; the cursor may then stand anywhere.
-#[tactic(auto, unfolding(mb_model::specs::RegionFormat::secret_format))]
+#[tactic(auto, unfolding(mb_model::specs::records::RegionFormat::secret_format))]
 pub fn stored_secret_at<'a>(cursor: &mut Cursor<'a>) -> Result<StoredSecret<'a>, BadRecord>
     ensures { ReadsAs secret_in bad_at secret_format cursor.old result cursor.new }
 {
@@ -66,9 +66,9 @@ pub fn stored_secret_at<'a>(cursor: &mut Cursor<'a>) -> Result<StoredSecret<'a>,
 /// A secret, copied.
 struct SecretField;
 
-#[tactic(auto, unfolding(mb_model::specs::RegionFormat::secret_format))]
+#[tactic(auto, unfolding(mb_model::specs::records::RegionFormat::secret_format))]
 impl Field for SecretField {
-    ghost use Rattle.mb_model.specs.RegionFormat.{secret_format};
+    ghost use Rattle.mb_model.specs.records.RegionFormat.{secret_format};
     ghost use Rattle.mb_model.proofs.RecordFormatLaws.{secret_exact};
 
     type Value = Secret;
@@ -91,7 +91,7 @@ impl Field for SecretField {
     ghost exact = { secret_exact };
 }
 
-#[tactic(auto, unfolding(mb_model::specs::RegionFormat::secret_format))]
+#[tactic(auto, unfolding(mb_model::specs::records::RegionFormat::secret_format))]
 impl WriteField for SecretField {
     ghost use Rattle.mb_layout.specs.Bounds.{SecretFits};
 
@@ -123,7 +123,7 @@ pub fn most_secrets(version: u8) -> u8
     }
 }
 
-#[tactic(auto, unfolding(mb_model::specs::RegionFormat::secrets_format))]
+#[tactic(auto, unfolding(mb_model::specs::records::RegionFormat::secrets_format))]
 fn secrets_at(alloc: Global, cursor: &mut Cursor<'_>, most: u8) -> Result<Secrets, LayoutEnd>
     ensures { Reads layout_at (secrets_format most) cursor.old result cursor.new }
 {
@@ -131,7 +131,7 @@ fn secrets_at(alloc: Global, cursor: &mut Cursor<'_>, most: u8) -> Result<Secret
     items_at::<SecretField, LayoutEnd>(alloc, alloc, cursor, count as u32)
 }
 
-#[tactic(auto, unfolding(mb_model::specs::RegionFormat::keys_format))]
+#[tactic(auto, unfolding(mb_model::specs::records::RegionFormat::keys_format))]
 fn keys_at(alloc: Global, cursor: &mut Cursor<'_>, least: u8) -> Result<RegionKeys, LayoutEnd>
     ensures { Reads layout_at (keys_format least) cursor.old result cursor.new }
 {
@@ -147,7 +147,7 @@ fn least_keys(secrets: &Secrets) -> u8
 }
 
 /// Reads what stands after the version of a region's record.
-#[tactic(auto, unfolding(mb_model::specs::RegionFormat::region_by))]
+#[tactic(auto, unfolding(mb_model::specs::records::RegionFormat::region_by))]
 fn region_after(alloc: Global, cursor: &mut Cursor<'_>, version: u8) -> Result<Region, LayoutEnd>
     ensures { Reads layout_at (region_by version) cursor.old result cursor.new }
 {
@@ -158,7 +158,7 @@ fn region_after(alloc: Global, cursor: &mut Cursor<'_>, version: u8) -> Result<R
 }
 
 /// Reads the version of a region's record, and the region.
-#[tactic(auto, unfolding(mb_model::specs::RegionFormat::region_format))]
+#[tactic(auto, unfolding(mb_model::specs::records::RegionFormat::region_format))]
 fn region_at(alloc: Global, cursor: &mut Cursor<'_>) -> Result<(u8, Region), LayoutEnd>
     ensures { Reads layout_at region_format cursor.old result cursor.new }
 {
@@ -167,7 +167,7 @@ fn region_at(alloc: Global, cursor: &mut Cursor<'_>) -> Result<(u8, Region), Lay
     Ok((version, region))
 }
 
-#[tactic(auto, unfolding(mb_model::specs::RegionFormat::secrets_format))]
+#[tactic(auto, unfolding(mb_model::specs::records::RegionFormat::secrets_format))]
 fn put_secrets(out: &mut Vec<u8>, secrets: &Secrets) -> Result<(), NoMemory>
     requires count { length secrets.now < 256 }
     requires each { All SecretFits secrets.now }
@@ -179,7 +179,7 @@ fn put_secrets(out: &mut Vec<u8>, secrets: &Secrets) -> Result<(), NoMemory>
 
 /// Appends the keys of a region's record, at most 255, after a byte for their number. If memory runs out, a part of the
 /// spelling may have been appended.
-#[tactic(auto, unfolding(mb_model::specs::RegionFormat::keys_format))]
+#[tactic(auto, unfolding(mb_model::specs::records::RegionFormat::keys_format))]
 pub fn put_keys(out: &mut Vec<u8>, keys: &[RegionKey]) -> Result<(), NoMemory>
     requires { length keys.now < 256 }
     ensures { Puts ((keys_format 0).spelling keys.now) out.old result out.new }
@@ -189,7 +189,7 @@ pub fn put_keys(out: &mut Vec<u8>, keys: &[RegionKey]) -> Result<(), NoMemory>
 }
 
 /// Appends the record of the region in this version.
-#[tactic(auto, unfolding(mb_model::specs::RegionFormat::region_format, mb_model::specs::RegionFormat::region_by, mb_model::specs::RegionFormat::secrets_format))]
+#[tactic(auto, unfolding(mb_model::specs::records::RegionFormat::region_format, mb_model::specs::records::RegionFormat::region_by, mb_model::specs::records::RegionFormat::secrets_format))]
 fn put_region(out: &mut Vec<u8>, version: u8, region: &Region) -> Result<(), NoMemory>
     requires { RegionFits region.now }
     ensures { Puts (region_format.spelling (version, region.now)) out.old result out.new }
@@ -203,7 +203,7 @@ fn put_region(out: &mut Vec<u8>, version: u8, region: &Region) -> Result<(), NoM
 struct RegionField;
 
 impl Field for RegionField {
-    ghost use Rattle.mb_model.specs.RegionFormat.{region_format};
+    ghost use Rattle.mb_model.specs.records.RegionFormat.{region_format};
     ghost use Rattle.mb_model.proofs.RecordFormatLaws.{region_exact};
 
     type Value = (u8, Region);

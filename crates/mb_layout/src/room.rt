@@ -2,7 +2,7 @@
 
 ghost use Rattle.std.specs.Prelude.{◌≡◌, ◌≤◌, [], length, vec_len, vec_capacity, IfOk};
 ghost use Rattle.mb_model.specs.declared.limits.TheConstants.{AREA_LENGTH, CODE_LIMIT, SECTOR_LENGTH};
-ghost use Rattle.mb_model.specs.Memory.{IsBlank};
+ghost use Rattle.mb_model.specs.memories.Memory.{IsBlank};
 
 use mb_model::{AREA_LENGTH, CODE_LIMIT, NoMemory, SECTOR_LENGTH};
 use std::alloc::Global;

@@ -4,7 +4,7 @@ ghost use Rattle.std.specs.Prelude.{◌≤◌, [], ◌∷◌, length};
 ghost use Rattle.std.specs.Int.{w8};
 ghost use Rattle.mb_format.specs.Combinators.{mark, number};
 ghost use Rattle.mb_model.specs.declared.limits.TheConstants.{FILE_LIMIT};
-ghost use Rattle.mb_model.specs.RootFormat.{region_key_format, outgoing_format, add_tag, fate_by, fate_format, pending_format, root_format};
+ghost use Rattle.mb_model.specs.records.RootFormat.{region_key_format, outgoing_format, add_tag, fate_by, fate_format, pending_format, root_format};
 ghost use Rattle.mb_bytes.specs.Reads.{bad_at, Reads, ReadsExactly, ReadsWhole};
 ghost use Rattle.mb_bytes.specs.Puts.{Puts, Writes};
 ghost use Rattle.mb_layout.specs.Parts.{root_key_bytes};
@@ -32,7 +32,7 @@ pub fn version_at(cursor: &mut Cursor<'_>) -> Result<(), BadRecord>
 
 /// Reads a key of a region at the cursor's offset, as a part of a record. Else the offset of the field that lacks bytes
 /// or is not allowed; the cursor may then stand anywhere.
-#[tactic(auto, unfolding(mb_model::specs::RootFormat::region_key_format))]
+#[tactic(auto, unfolding(mb_model::specs::records::RootFormat::region_key_format))]
 pub fn region_key_at(cursor: &mut Cursor<'_>) -> Result<RegionKey, BadRecord>
     ensures { Reads bad_at region_key_format cursor.old result cursor.new }
 {
@@ -54,7 +54,7 @@ fn added_at(cursor: &mut Cursor<'_>) -> Result<Fate, BadRecord>
     Ok(Fate::AddKey(region_key_at(cursor)?))
 }
 
-#[tactic(auto, unfolding(mb_model::specs::RootFormat::fate_format))]
+#[tactic(auto, unfolding(mb_model::specs::records::RootFormat::fate_format))]
 fn fate_at(cursor: &mut Cursor<'_>) -> Result<Fate, BadRecord>
     ensures { Reads bad_at fate_format cursor.old result cursor.new }
 {
@@ -72,7 +72,7 @@ fn fate_at(cursor: &mut Cursor<'_>) -> Result<Fate, BadRecord>
 pub struct RegionKeyField;
 
 impl Field for RegionKeyField {
-    ghost use Rattle.mb_model.specs.RootFormat.{region_key_format};
+    ghost use Rattle.mb_model.specs.records.RootFormat.{region_key_format};
     ghost use Rattle.mb_model.proofs.RecordFormatLaws.{region_key_exact};
 
     type Value = RegionKey;
@@ -101,9 +101,9 @@ impl WriteField for RegionKeyField {
 /// The device key that gives way.
 struct OutgoingField;
 
-#[tactic(auto, unfolding(mb_model::specs::RootFormat::outgoing_format))]
+#[tactic(auto, unfolding(mb_model::specs::records::RootFormat::outgoing_format))]
 impl Field for OutgoingField {
-    ghost use Rattle.mb_model.specs.RootFormat.{outgoing_format};
+    ghost use Rattle.mb_model.specs.records.RootFormat.{outgoing_format};
     ghost use Rattle.mb_model.proofs.RecordFormatLaws.{outgoing_exact};
 
     type Value = Outgoing;
@@ -126,7 +126,7 @@ impl Field for OutgoingField {
     ghost exact = { outgoing_exact };
 }
 
-#[tactic(auto, unfolding(mb_model::specs::RootFormat::outgoing_format))]
+#[tactic(auto, unfolding(mb_model::specs::records::RootFormat::outgoing_format))]
 impl WriteField for OutgoingField {
     ghost Fits = { λ _. Unit {0} };
 
@@ -139,9 +139,9 @@ impl WriteField for OutgoingField {
 /// The work that is still to be done.
 struct PendingField;
 
-#[tactic(auto, unfolding(mb_model::specs::RootFormat::pending_format))]
+#[tactic(auto, unfolding(mb_model::specs::records::RootFormat::pending_format))]
 impl Field for PendingField {
-    ghost use Rattle.mb_model.specs.RootFormat.{pending_format};
+    ghost use Rattle.mb_model.specs.records.RootFormat.{pending_format};
     ghost use Rattle.mb_model.proofs.RecordFormatLaws.{pending_exact};
 
     type Value = Pending;
@@ -168,7 +168,7 @@ impl Field for PendingField {
     ghost exact = { pending_exact };
 }
 
-#[tactic(auto, unfolding(mb_model::specs::RootFormat::pending_format))]
+#[tactic(auto, unfolding(mb_model::specs::records::RootFormat::pending_format))]
 impl WriteField for PendingField {
     ghost Fits = { λ _. Unit {0} };
 
@@ -177,7 +177,7 @@ impl WriteField for PendingField {
     }
 }
 
-#[tactic(auto, unfolding(mb_model::specs::RootFormat::root_format))]
+#[tactic(auto, unfolding(mb_model::specs::records::RootFormat::root_format))]
 fn root_at(cursor: &mut Cursor<'_>) -> Result<Root, BadRecord>
     ensures { Reads bad_at root_format cursor.old result cursor.new }
 {
@@ -204,7 +204,7 @@ fn put_uses(out: &mut Vec<u8>, uses: u32) -> Result<(), NoMemory>
 }
 
 /// Appends a key of a region.
-#[tactic(auto, unfolding(mb_model::specs::RootFormat::region_key_format))]
+#[tactic(auto, unfolding(mb_model::specs::records::RootFormat::region_key_format))]
 pub fn put_region_key(out: &mut Vec<u8>, key: &RegionKey) -> Result<(), NoMemory>
     ensures { Puts (region_key_format.spelling key.now) out.old result out.new }
 {
@@ -214,7 +214,7 @@ pub fn put_region_key(out: &mut Vec<u8>, key: &RegionKey) -> Result<(), NoMemory
     put_uses(out, key.uses)
 }
 
-#[tactic(auto, unfolding(mb_model::specs::RootFormat::fate_format))]
+#[tactic(auto, unfolding(mb_model::specs::records::RootFormat::fate_format))]
 fn put_fate(out: &mut Vec<u8>, fate: &Fate) -> Result<(), NoMemory>
     ensures { Puts (fate_format.spelling fate.now) out.old result out.new }
 {
@@ -229,7 +229,7 @@ fn put_fate(out: &mut Vec<u8>, fate: &Fate) -> Result<(), NoMemory>
     }
 }
 
-#[tactic(auto, unfolding(mb_model::specs::RootFormat::pending_format))]
+#[tactic(auto, unfolding(mb_model::specs::records::RootFormat::pending_format))]
 fn put_pending(out: &mut Vec<u8>, pending: &Pending) -> Result<(), NoMemory>
     ensures { Puts (pending_format.spelling pending.now) out.old result out.new }
 {
@@ -247,7 +247,7 @@ fn put_root_key(out: &mut Vec<u8>, root: &Root) -> Result<(), NoMemory>
     put_optional::<PendingField>(out, &root.pending)
 }
 
-#[tactic(auto, unfolding(mb_model::specs::RootFormat::root_format))]
+#[tactic(auto, unfolding(mb_model::specs::records::RootFormat::root_format))]
 fn put_root(out: &mut Vec<u8>, root: &Root) -> Result<(), NoMemory>
     ensures { Puts (root_format.spelling root.now) out.old result out.new }
 {
@@ -261,7 +261,7 @@ fn put_root(out: &mut Vec<u8>, root: &Root) -> Result<(), NoMemory>
 struct RootField;
 
 impl Field for RootField {
-    ghost use Rattle.mb_model.specs.RootFormat.{root_format};
+    ghost use Rattle.mb_model.specs.records.RootFormat.{root_format};
     ghost use Rattle.mb_model.proofs.RecordFormatLaws.{root_exact};
 
     type Value = Root;

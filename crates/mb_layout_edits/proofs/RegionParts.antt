@@ -10,12 +10,12 @@ use Rattle.mb_bytes.specs.Reads.{ReadsOk, ReadsErr}
 use Rattle.mb_model.specs.declared.region.Region.{Region}
 use Rattle.mb_model.specs.declared.region.RegionKey.{RegionKey}
 use Rattle.mb_model.specs.declared.region.Secret.{Secret}
-use Rattle.mb_model.specs.RegionFormat.{most_secrets, least_keys, secrets_format, keys_format, region_by, region_format, SpellsRegion, CanBeWritten, written_with, written_region}
+use Rattle.mb_model.specs.records.RegionFormat.{most_secrets, least_keys, secrets_format, keys_format, region_by, region_format, SpellsRegion, CanBeWritten, written_with, written_region}
 use Rattle.mb_model.proofs.RecordFormatLaws.{secrets_exact, region_exact}
 use Rattle.mb_layout_edits.specs.declared.stored.StoredRegion.{StoredRegion}
 use Rattle.mb_layout_edits.specs.StoredRegion.{IsStoredAs, IsWalked}
 use Rattle.mb_layout_edits.proofs.Walking.{between_offsets, read_once, never_read}
-use Rattle.mb_model.specs.Regions.{empty_region}
+use Rattle.mb_model.specs.owners.Regions.{empty_region}
 use Rattle.mb_model.proofs.FormatBounds.{region_short}
 use Rattle.mb_model.proofs.RegionWriting.{written_is_record}
 use Rattle.std.specs.Global.{Vec}

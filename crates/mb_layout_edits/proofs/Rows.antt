@@ -2,11 +2,11 @@
 use Rattle.std.proofs.Common.{◌≡◌, ℕ, suc, ◌+◌, ◌<◌, ◌≤◌, Bool, true, false, cond, Some, None, List, [], ◌∷◌, length, filter, ◌++◌, find, take, drop, refl, sym, ap, ◌∙◌, lit≤, arith}
 use Rattle.std.specs.List.{list_any}
 use Rattle.mb_model.specs.declared.stored.Fate.TheVariants.{AddKey}
-use Rattle.mb_model.specs.Meaning.{keys_after_fate}
+use Rattle.mb_model.specs.memories.Meaning.{keys_after_fate}
 use Rattle.std.proofs.lemmas.List.{length-take-le, drop_all}
 use Rattle.std.specs.Prelude.{if◌then◌else◌}
 use Rattle.mb_model.specs.declared.region.RegionKey.{RegionKey}
-use Rattle.mb_model.specs.LayerEvents.{has_number}
+use Rattle.mb_model.specs.machine.LayerEvents.{has_number}
 
 -- a key, used once more where it has the number
 abbrev pub once_more : ℕ → RegionKey → RegionKey

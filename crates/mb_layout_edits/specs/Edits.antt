@@ -5,9 +5,9 @@ use Rattle.mb_model.specs.declared.limits.TheConstants.{KEY_USES}
 use Rattle.mb_model.specs.declared.region.Region.{Region}
 use Rattle.mb_model.specs.declared.region.RegionKey.{RegionKey}
 use Rattle.mb_model.specs.declared.stored.Fate.{Fate}
-use Rattle.mb_model.specs.LayerEvents.{has_number, with_use}
-use Rattle.mb_model.specs.Meaning.{region_after_fate}
-use Rattle.mb_model.specs.RegionFormat.{SpellsRegion, CanBeWritten, written_region}
+use Rattle.mb_model.specs.machine.LayerEvents.{has_number, with_use}
+use Rattle.mb_model.specs.memories.Meaning.{region_after_fate}
+use Rattle.mb_model.specs.records.RegionFormat.{SpellsRegion, CanBeWritten, written_region}
 use Rattle.mb_layout_edits.specs.declared.usage.NotUsed.{NotUsed}
 use Rattle.mb_layout_edits.specs.declared.usage.NotUsed.TheVariants.{NoKey, Spent}
 

@@ -3,7 +3,7 @@ use Rattle.std.specs.Prelude.{◌≡◌, ℕ, List, length, Option, Some, None, 
 use Rattle.mb_model.specs.declared.tools.BadRecord.{BadRecord}
 use Rattle.mb_model.specs.declared.region.Region.{Region}
 use Rattle.mb_model.specs.declared.limits.TheConstants.{SECRET_LIMIT}
-use Rattle.mb_model.specs.RegionFormat.{least_keys, secrets_format, region_format, SpellsRegion}
+use Rattle.mb_model.specs.records.RegionFormat.{least_keys, secrets_format, region_format, SpellsRegion}
 use Rattle.mb_layout_edits.specs.declared.stored.StoredRegion.{StoredRegion}
 
 -- the bytes spell the secrets of the region, which also give the least number of keys, and the keys are the region's

@@ -3,8 +3,8 @@
 ghost use Rattle.std.specs.Prelude.{◌≡◌, ◌≤◌, length, vec_capacity};
 ghost use Rattle.mb_model.specs.declared.limits.TheConstants.{FILE_LIMIT, KEY_LIMIT, REGION_LIMIT};
 ghost use Rattle.mb_model.specs.declared.region.Region.{Region};
-ghost use Rattle.mb_model.specs.Meaning.{region_after_fate, keys_after_fate};
-ghost use Rattle.mb_model.specs.RegionFormat.{SpellsRegion, CanBeWritten};
+ghost use Rattle.mb_model.specs.memories.Meaning.{region_after_fate, keys_after_fate};
+ghost use Rattle.mb_model.specs.records.RegionFormat.{SpellsRegion, CanBeWritten};
 ghost use Rattle.mb_layout_edits.specs.StoredRegion.{IsStoredAs};
 ghost use Rattle.mb_layout_edits.specs.Edits.{IsFated};
 
@@ -28,7 +28,7 @@ fn with_key(keys: KeyRow, key: &RegionKey) -> KeyRow
     row
 }
 
-#[tactic(auto, unfolding(mb_model::specs::Meaning::region_after_fate))]
+#[tactic(auto, unfolding(mb_model::specs::memories::Meaning::region_after_fate))]
 fn fated_region<'a>(fate: &Fate, stored: StoredRegion<'a>) -> StoredRegion<'a>
     ensures { (region : Region) → IsStoredAs stored.entry region
         → length (region_after_fate fate.now region).keys ≤ KEY_LIMIT

@@ -3,9 +3,9 @@
 ghost use Rattle.std.specs.Prelude.{◌≡◌, ◌+◌, ◌<◌, ◌≤◌, [], ◌∷◌, ◌++◌, length, filter, find, if◌then◌else◌};
 ghost use Rattle.std.specs.List.{All, list_any};
 ghost use Rattle.mb_model.specs.declared.limits.TheConstants.{KEY_LIMIT};
-ghost use Rattle.mb_model.specs.Regions.{is_epoch};
-ghost use Rattle.mb_model.specs.LayerEvents.{has_number, with_use};
-ghost use Rattle.mb_model.specs.RegionFormat.{keys_format};
+ghost use Rattle.mb_model.specs.owners.Regions.{is_epoch};
+ghost use Rattle.mb_model.specs.machine.LayerEvents.{has_number, with_use};
+ghost use Rattle.mb_model.specs.records.RegionFormat.{keys_format};
 ghost use Rattle.mb_bytes.specs.Reads.{bad_at, Reads};
 ghost use Rattle.mb_layout.specs.Bounds.{HasByteUses};
 
@@ -78,7 +78,7 @@ impl KeyRow {
 }
 
 /// Reads keys after a byte for their number, from `least` to 8.
-#[tactic(auto, unfolding(mb_model::specs::RegionFormat::keys_format))]
+#[tactic(auto, unfolding(mb_model::specs::records::RegionFormat::keys_format))]
 pub fn key_row_at(cursor: &mut Cursor<'_>, least: u8) -> Result<KeyRow, BadRecord>
     ensures { Reads bad_at (keys_format least) cursor.old result cursor.new }
 {
@@ -125,7 +125,7 @@ fn used_once(key: &RegionKey, number: u32) -> RegionKey
 }
 
 /// The keys, each key of this number with one more use. Uses fit into a byte.
-#[tactic(auto, unfolding(mb_model::specs::LayerEvents::with_use))]
+#[tactic(auto, unfolding(mb_model::specs::machine::LayerEvents::with_use))]
 pub fn used_keys(keys: &[RegionKey], number: u32) -> KeyRow
     requires { length keys.now ≤ KEY_LIMIT }
     ensures { All HasByteUses keys.now → result ≡ with_use number keys.now }

@@ -4,7 +4,8 @@ ghost use Rattle.std.specs.Prelude.{◌≡◌, ◌≤◌, [], ◌∷◌, List, �
 ghost use Rattle.mb_model.specs.declared.limits.TheConstants.{FILE_LIMIT, KEY_LIMIT, REGION_LIMIT, REGION_VERSION};
 ghost use Rattle.mb_model.specs.declared.region.Region.{Region};
 ghost use Rattle.mb_model.specs.declared.region.Secret.{Secret};
-ghost use Rattle.mb_model.specs.RegionFormat.{least_keys, secrets_format, keys_format, CanBeWritten, written_region};
+ghost use Rattle.mb_model.specs.records.RegionFormat.{least_keys, secrets_format, keys_format, CanBeWritten};
+ghost use Rattle.mb_model.specs.records.RegionFormat.{written_region};
 ghost use Rattle.mb_bytes.specs.Puts.{Puts};
 ghost use Rattle.mb_layout_edits.specs.Walks.{PassesOver};
 ghost use Rattle.mb_layout_edits.specs.StoredRegion.{IsStoredAs, Walks, TakesApart, CountsKeys};
@@ -25,7 +26,7 @@ pub struct StoredRegion<'a> {
 }
 
 /// Moves the cursor past the secrets, at most `most`, without copying them, and returns their number.
-#[tactic(auto, unfolding(mb_model::specs::RegionFormat::secrets_format))]
+#[tactic(auto, unfolding(mb_model::specs::records::RegionFormat::secrets_format))]
 fn pass_secrets(cursor: &mut Cursor<'_>, most: u8) -> Result<u8, BadRecord>
     ensures { PassesOver (secrets_format most) cursor.old result cursor.new }
 {

@@ -1,7 +1,7 @@
 //! The use of a key in a stored region, without memory.
 
 ghost use Rattle.std.specs.Prelude.{◌≡◌, ◌≤◌, [], length, vec_capacity, OnErr};
-ghost use Rattle.mb_model.specs.RegionFormat.{SpellsRegion, CanBeWritten};
+ghost use Rattle.mb_model.specs.records.RegionFormat.{SpellsRegion, CanBeWritten};
 ghost use Rattle.mb_model.specs.declared.limits.TheConstants.{FILE_LIMIT, REGION_LIMIT};
 ghost use Rattle.mb_model.specs.declared.region.Region.{Region};
 ghost use Rattle.mb_layout_edits.specs.Edits.{UseOf, region_with_use};

@@ -3,8 +3,8 @@ use Rattle.std.proofs.Common.{◌≡◌, ℕ, List, ◌++◌, ◌↔◌, subst, 
 use Rattle.std.specs.Int.{w32, to_be_bytes}
 use Rattle.sha2.specs.Sha256.{sha256}
 use Rattle.mb_model.specs.declared.key.PublicKey.{PublicKey}
-use Rattle.mb_model.specs.Winternitz.{message_mark, message_hash}
-use Rattle.mb_model.specs.Merkle.{HasForm, Verifies, root_from, hash_of, leaf_number, randomizer}
+use Rattle.mb_model.specs.signatures.Winternitz.{message_mark, message_hash}
+use Rattle.mb_model.specs.signatures.Merkle.{HasForm, Verifies, root_from, hash_of, leaf_number, randomizer}
 
 verifies_same : (key : PublicKey) (text sig hash : List ℕ) → hash ≡ hash_of key text sig → (B : Type 0) →
     (B ↔ (HasForm key sig × (root_from key hash sig ≡ key.root))) → (B ↔ Verifies key text sig)

@@ -1,8 +1,8 @@
 -- The way up a tree, a level at a time.
 use Rattle.std.proofs.Common.{◌≡◌, ℕ, suc, ◌+◌, ◌-◌, ◌*◌, ◌/◌, ◌<◌, ◌≤◌, List, take, drop, refl, sym, ap, ◌∙◌, arith}
 use Rattle.std.proofs.lemmas.List.{drop-drop}
-use Rattle.mb_model.specs.Winternitz.{value_at}
-use Rattle.mb_model.specs.Merkle.{climb, parent_node}
+use Rattle.mb_model.specs.signatures.Winternitz.{value_at}
+use Rattle.mb_model.specs.signatures.Merkle.{climb, parent_node}
 
 pub climb_begun : (id : List ℕ) (r : ℕ) (node path : List ℕ) (n : ℕ) →
     climb id r node (drop (32 * 0) path) (n - 0) ≡ climb id r node path n

@@ -3,7 +3,7 @@ use Rattle.std.proofs.Common.{◌≡◌, ℕ, ◌+◌, ◌-◌, ◌^◌, List, �
 use Rattle.std.specs.Int.{w16, w32, to_be_bytes}
 use Rattle.std.proofs.lemmas.Nat.{and_le_l}
 use Rattle.sha2.specs.Sha256.{sha256}
-use Rattle.mb_model.specs.Winternitz.{coef, shortfall, chain_step, value_after_count, value_after_steps, value_at, chain_ends}
+use Rattle.mb_model.specs.signatures.Winternitz.{coef, shortfall, chain_step, value_after_count, value_after_steps, value_at, chain_ends}
 
 pub ruleset digit_rules = and_le_l
 

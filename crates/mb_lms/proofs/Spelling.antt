@@ -8,7 +8,7 @@ use Rattle.mb_model.specs.declared.key.Tree.{Tree}
 use Rattle.mb_model.specs.declared.key.Tree.TheVariants.{H5, H10, H15, H20, H25}
 use Rattle.mb_model.specs.declared.key.Chains.{Chains}
 use Rattle.mb_model.specs.declared.key.Chains.TheVariants.{W1, W2, W4, W8}
-use Rattle.mb_model.specs.Key.{tree_type, chains_type, key_bytes}
+use Rattle.mb_model.specs.signatures.Key.{tree_type, chains_type, key_bytes}
 
 tree_small : (tree : Tree) → tree_type tree < 2 ^ 32
 tree_small H5 = omega arith

@@ -3,8 +3,8 @@ use Rattle.std.specs.Prelude.{◌≡◌, ℕ, List, ◌++◌}
 use Rattle.std.specs.Int.{w32, to_be_bytes}
 use Rattle.sha2.specs.Hashers.{Holds256}
 use Rattle.mb_model.specs.declared.key.PublicKey.{PublicKey}
-use Rattle.mb_model.specs.Winternitz.{message_mark}
-use Rattle.mb_model.specs.Merkle.{leaf_number, randomizer}
+use Rattle.mb_model.specs.signatures.Winternitz.{message_mark}
+use Rattle.mb_model.specs.signatures.Merkle.{leaf_number, randomizer}
 use Rattle.mb_lms.specs.declared.checker.Checker.{Checker}
 
 -- the checker is for the key, and has hashed what precedes a text under the signature, and then the text

@@ -2,7 +2,7 @@
 
 ghost use Rattle.std.specs.Prelude.{◌≡◌, ◌+◌, ◌*◌, ◌≤◌, ◌++◌, length, take, drop};
 ghost use Rattle.std.specs.Int.{w32, from_be_bytes, to_be_bytes};
-ghost use Rattle.mb_model.specs.Winternitz.{value_at};
+ghost use Rattle.mb_model.specs.signatures.Winternitz.{value_at};
 ghost use Rattle.sha2.specs.Hashers.{Holds256};
 
 use sha2::{Digest, Sha256};

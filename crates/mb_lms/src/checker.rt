@@ -1,7 +1,7 @@
 //! Whether a signature is one of a text (RFC 8554, section 5.4.2).
 
 ghost use Rattle.std.specs.Prelude.{◌↔◌, ◌++◌, IsTrue};
-ghost use Rattle.mb_model.specs.Merkle.{Verifies};
+ghost use Rattle.mb_model.specs.signatures.Merkle.{Verifies};
 
 use crate::signature::{begun_text, has_form, leads_to_root};
 use mb_model::PublicKey;
@@ -17,7 +17,7 @@ pub struct Checker {
 impl Checker {
     ghost use Rattle.std.specs.Prelude.{ℕ, List, [], IsSome, IfSome};
     ghost use Rattle.mb_model.specs.declared.key.PublicKey.{PublicKey};
-    ghost use Rattle.mb_model.specs.Merkle.{HasForm};
+    ghost use Rattle.mb_model.specs.signatures.Merkle.{HasForm};
     ghost use Rattle.mb_lms.specs.Checking.{IsChecking};
 
     /// Begins to check a signature, before its text; `None` if it does not have the form of the key's signatures.

@@ -3,7 +3,7 @@
 ghost use Rattle.std.specs.Prelude.{◌≡◌, MatchOption};
 ghost use Rattle.sha2.specs.Sha256.{sha256};
 ghost use Rattle.mb_model.specs.declared.key.PublicKey.{PublicKey};
-ghost use Rattle.mb_model.specs.Key.{IsSized, key_bytes};
+ghost use Rattle.mb_model.specs.signatures.Key.{IsSized, key_bytes};
 
 use crate::bytes::u32_at;
 use crate::parameters::{chains_of_type, tree_of_type};
@@ -31,7 +31,7 @@ pub fn parse_key(bytes: &[u8; 56]) -> Option<PublicKey>
 }
 
 /// The key as 56 bytes: the LMS type, the LM-OTS type, the identifier and the root (RFC 8554, section 5.3).
-#[tactic(auto, unfolding(mb_model::specs::Key::key_bytes))]
+#[tactic(auto, unfolding(mb_model::specs::signatures::Key::key_bytes))]
 pub fn key_bytes(key: &PublicKey) -> [u8; 56]
     ensures { result ≡ key_bytes key.now }
 {

@@ -3,8 +3,9 @@
 ghost use Rattle.std.specs.Prelude.{◌≡◌, ℕ, ◌+◌, ◌-◌, ◌*◌, ◌/◌, ◌^◌, ◌<◌, ◌≤◌, ◌∷◌, ◌++◌, List, length};
 ghost use Rattle.std.specs.Int.{w16, w32, to_be_bytes};
 ghost use Rattle.sha2.specs.Sha256.{sha256};
-ghost use Rattle.mb_model.specs.Key.{digit_bits, chain_count};
-ghost use Rattle.mb_model.specs.Winternitz.{coef, shortfall, checksum, digits_of, value_after_steps, one_time_key};
+ghost use Rattle.mb_model.specs.signatures.Key.{digit_bits, chain_count};
+ghost use Rattle.mb_model.specs.signatures.Winternitz.{coef, shortfall, checksum, digits_of, value_after_steps};
+ghost use Rattle.mb_model.specs.signatures.Winternitz.{one_time_key};
 
 use crate::bytes::{begun, value_at};
 use crate::parameters::{chain_count, greatest_digit, hash_digits};
@@ -14,7 +15,7 @@ use mb_model::{Chains, PublicKey};
 use sha2::{Digest, Sha256};
 
 /// Digit `i` (RFC 8554, section 3.1.3).
-#[tactic(auto, using(crate::proofs::Digits::digit_rules), unfolding(mb_model::specs::Winternitz::coef))]
+#[tactic(auto, using(crate::proofs::Digits::digit_rules), unfolding(mb_model::specs::signatures::Winternitz::coef))]
 pub fn digit(chains: Chains, bytes: &[u8], i: u16) -> u8
     requires { i * digit_bits chains / 8 < length bytes.now }
     ensures value { result ≡ coef bytes.now i (digit_bits chains) }
@@ -44,7 +45,7 @@ fn shortfall(chains: Chains, hash: &[u8; 32]) -> u16
 }
 
 /// The checksum of a hash, as two bytes (RFC 8554, section 4.4).
-#[tactic(auto, unfolding(mb_model::specs::Winternitz::checksum))]
+#[tactic(auto, unfolding(mb_model::specs::signatures::Winternitz::checksum))]
 fn checksum(chains: Chains, hash: &[u8; 32]) -> u16
     ensures { result ≡ checksum chains hash.now }
 {
@@ -58,7 +59,7 @@ fn checksum(chains: Chains, hash: &[u8; 32]) -> u16
 }
 
 /// The bytes whose digits a signature signs: the hash, and then its checksum (RFC 8554, section 4.5).
-#[tactic(auto, unfolding(mb_model::specs::Winternitz::digits_of))]
+#[tactic(auto, unfolding(mb_model::specs::signatures::Winternitz::digits_of))]
 pub fn digits_of(chains: Chains, hash: &[u8; 32]) -> [u8; 34]
     ensures { result ≡ digits_of chains hash.now }
 {
@@ -105,7 +106,7 @@ fn chain_end(prefix: &[u8; 22], first: u8, last: u8, value: [u8; 32]) -> [u8; 32
 }
 
 /// The one-time key to which the digits and the chain values belong (RFC 8554, section 4.6).
-#[tactic(auto, unfolding(mb_model::specs::Winternitz::one_time_key))]
+#[tactic(auto, unfolding(mb_model::specs::signatures::Winternitz::one_time_key))]
 pub(crate) fn one_time_key(key: &PublicKey, q: u32, digits: &[u8; 34], values: &[u8]) -> [u8; 32]
     requires { length values.now ≡ 32 * chain_count key.now.chains }
     ensures { result ≡ one_time_key key.now.chains key.now.identifier q digits.now values.now }

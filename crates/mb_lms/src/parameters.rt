@@ -3,7 +3,7 @@
 ghost use Rattle.std.specs.Prelude.{◌≡◌, ◌-◌, ◌/◌, ◌^◌, ◌≤◌, MatchOption};
 ghost use Rattle.mb_model.specs.declared.key.Tree.{Tree};
 ghost use Rattle.mb_model.specs.declared.key.Chains.{Chains};
-ghost use Rattle.mb_model.specs.Key.{tree_type, height, chains_type, digit_bits, chain_count};
+ghost use Rattle.mb_model.specs.signatures.Key.{tree_type, height, chains_type, digit_bits, chain_count};
 
 use mb_model::{Chains, Tree};
 

@@ -4,8 +4,8 @@
 ghost use Rattle.std.specs.Prelude.{◌≡◌, ◌↔◌, ◌++◌, IsTrue};
 ghost use Rattle.std.specs.Int.{w32, to_be_bytes};
 ghost use Rattle.sha2.specs.Hashers.{Holds256};
-ghost use Rattle.mb_model.specs.Winternitz.{message_mark};
-ghost use Rattle.mb_model.specs.Merkle.{HasForm, leaf_number, randomizer, root_from};
+ghost use Rattle.mb_model.specs.signatures.Winternitz.{message_mark};
+ghost use Rattle.mb_model.specs.signatures.Merkle.{HasForm, leaf_number, randomizer, root_from};
 
 use crate::bytes::{begun, u32_at};
 use crate::one_time::{digits_of, one_time_key};
@@ -41,7 +41,7 @@ pub(crate) fn begun_text(key: &PublicKey, sig: &[u8]) -> Sha256
 }
 
 /// The root to which a signature leads from the hash of a text (RFC 8554, section 5.4.2).
-#[tactic(auto, using(crate::proofs::Form::form_rules), unfolding(mb_model::specs::Merkle::root_from))]
+#[tactic(auto, using(crate::proofs::Form::form_rules), unfolding(mb_model::specs::signatures::Merkle::root_from))]
 pub(crate) fn root_from(key: &PublicKey, hash: &[u8; 32], sig: &[u8]) -> [u8; 32]
     requires { HasForm key.now sig.now }
     ensures { result ≡ root_from key.now hash.now sig.now }

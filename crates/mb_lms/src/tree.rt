@@ -1,14 +1,14 @@
 //! The tree over the one-time keys, from a leaf up to the root (RFC 8554, section 5).
 
 ghost use Rattle.std.specs.Prelude.{◌≡◌, ◌*◌, ◌≤◌, length};
-ghost use Rattle.mb_model.specs.Merkle.{leaf_node, inner_node, parent_node, climb};
+ghost use Rattle.mb_model.specs.signatures.Merkle.{leaf_node, inner_node, parent_node, climb};
 
 use crate::bytes::{begun, value_at};
 use mb_model::separators::{INNER_MARK, LEAF_MARK};
 use sha2::Digest;
 
 /// Node `number`, the leaf of a one-time key.
-#[tactic(auto, unfolding(mb_model::specs::Merkle::leaf_node))]
+#[tactic(auto, unfolding(mb_model::specs::signatures::Merkle::leaf_node))]
 pub(crate) fn leaf_node(identifier: &[u8; 16], number: u32, key: &[u8; 32]) -> [u8; 32]
     ensures { result ≡ leaf_node identifier.now number key.now }
 {
@@ -18,7 +18,7 @@ pub(crate) fn leaf_node(identifier: &[u8; 16], number: u32, key: &[u8; 32]) -> [
 }
 
 /// Node `number`, the parent of two nodes.
-#[tactic(auto, unfolding(mb_model::specs::Merkle::inner_node))]
+#[tactic(auto, unfolding(mb_model::specs::signatures::Merkle::inner_node))]
 fn inner_node(identifier: &[u8; 16], number: u32, left: &[u8; 32], right: &[u8; 32]) -> [u8; 32]
     ensures { result ≡ inner_node identifier.now number left.now right.now }
 {
@@ -29,7 +29,7 @@ fn inner_node(identifier: &[u8; 16], number: u32, left: &[u8; 32], right: &[u8; 
 }
 
 /// The parent of node `number`, which is its left child if the number is even.
-#[tactic(auto, unfolding(mb_model::specs::Merkle::parent_node))]
+#[tactic(auto, unfolding(mb_model::specs::signatures::Merkle::parent_node))]
 fn parent_node(identifier: &[u8; 16], number: u32, node: &[u8; 32], sibling: &[u8; 32]) -> [u8; 32]
     ensures { result ≡ parent_node identifier.now number node.now sibling.now }
 {

@@ -8,10 +8,10 @@ use Rattle.mb_model.specs.declared.state.Bodies.{Bodies}
 use Rattle.mb_model.specs.declared.state.View.{View}
 use Rattle.mb_model.specs.declared.state.Fact.{Fact}
 use Rattle.mb_model.specs.declared.stored.Outgoing.{Outgoing}
-use Rattle.mb_model.specs.Log.{keys_in, keys_made_by}
-use Rattle.mb_model.specs.OrderChecks.{succession_is_due}
-use Rattle.mb_model.specs.OrderEffects.{names_next, entry_of, succession_entry, device_after, uses_after}
-use Rattle.mb_model.specs.Work.{ready_by, first_by, key_by, outgoing_by, bodies_by}
+use Rattle.mb_model.specs.owners.Log.{keys_in, keys_made_by}
+use Rattle.mb_model.specs.machine.OrderChecks.{succession_is_due}
+use Rattle.mb_model.specs.machine.OrderEffects.{names_next, entry_of, succession_entry, device_after, uses_after}
+use Rattle.mb_model.specs.machine.Work.{ready_by, first_by, key_by, outgoing_by, bodies_by}
 use Rattle.mb_model_lemmas.proofs.LogLemmas.{made-push}
 use Rattle.mb_lms.specs.declared.hash_count.TheConstants.{TREE_HASHES}
 use Rattle.mb_log.specs.Additions.{needed_with}

@@ -4,9 +4,9 @@ use Rattle.std.proofs.lemmas.List.{map-append, length-map, length-take, take-app
 use Rattle.std.specs.Prelude.{unwrap_or}
 use Rattle.mb_model.specs.declared.entry.Entry.{Entry}
 use Rattle.mb_model.specs.declared.entry.SignedEntry.{SignedEntry}
-use Rattle.mb_model.specs.Log.{figures_of, entries_of, RuledLog, last_of, layers_in, layers_of}
+use Rattle.mb_model.specs.owners.Log.{figures_of, entries_of, RuledLog, last_of, layers_in, layers_of}
 use Rattle.mb_model.specs.declared.layer.Layers.{Layers}
-use Rattle.mb_model.specs.Layers.{unowned_layers}
+use Rattle.mb_model.specs.owners.Layers.{unowned_layers}
 use Rattle.mb_model_lemmas.proofs.LogLemmas.{RuledLog-front, entries_more, layers_of-push}
 use Rattle.mb_model.specs.declared.state.Figures.{Figures}
 use Rattle.mb_log.specs.declared.life.Life.{Life}

@@ -8,9 +8,9 @@ use Rattle.mb_model.specs.declared.order.KeyKind.{KeyKind}
 use Rattle.mb_model.specs.declared.entry.Entry.{Entry}
 use Rattle.mb_model.specs.declared.entry.Entry.TheVariants.{Birth, Change, NewKey, Succession}
 use Rattle.mb_model.specs.declared.state.Configuration.{Configuration}
-use Rattle.mb_model.specs.Log.{figures_of, number_of, layers_of, last_of, RuledLog}
-use Rattle.mb_model.specs.Lives.{ends_keys, configuration, configurations_opened_by, lives_of}
-use Rattle.mb_model.specs.Acceptance.{KeyEntry, key_in, key_of, is_alive}
+use Rattle.mb_model.specs.owners.Log.{figures_of, number_of, layers_of, last_of, RuledLog}
+use Rattle.mb_model.specs.owners.Lives.{ends_keys, configuration, configurations_opened_by, lives_of}
+use Rattle.mb_model.specs.chains.Acceptance.{KeyEntry, key_in, key_of, is_alive}
 use Rattle.mb_model_lemmas.proofs.ReaderLemmas.{no_lives_unmade, first_sight, first_lives, first_alive, stays_made, stays_alive, lives_on}
 use Rattle.mb_model_lemmas.proofs.Splits.{some_same, none_is_some}
 use Rattle.mb_log.specs.declared.life.BornKey.{BornKey}

@@ -7,8 +7,8 @@ use Rattle.std.proofs.lemmas.List.{length-reverse, length-take}
 use Rattle.mb_model.specs.declared.key.PublicKey.{PublicKey}
 use Rattle.mb_model.specs.declared.layer.Layers.{Layers}
 use Rattle.mb_model.specs.declared.entry.Entry.{Entry}
-use Rattle.mb_model.specs.Layers.{unowned_layers}
-use Rattle.mb_model.specs.Log.{figures_of, is_change, is_version_two, layers_in, device_in, keys_in, last_of, number_of, layers_of, device_of, uses_of_device_key, keys_made_by, has_version_two}
+use Rattle.mb_model.specs.owners.Layers.{unowned_layers}
+use Rattle.mb_model.specs.owners.Log.{figures_of, is_change, is_version_two, layers_in, device_in, keys_in, last_of, number_of, layers_of, device_of, uses_of_device_key, keys_made_by, has_version_two}
 use Rattle.mb_model_lemmas.proofs.LogLemmas.{number_of-push, layers_of-push, device_of-push, used-push, made-push, has_version_two-push, number_of-le-length, made-le-length}
 use Rattle.mb_model.specs.declared.state.Figures.{Figures}
 

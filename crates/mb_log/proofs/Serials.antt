@@ -2,7 +2,7 @@
 use Rattle.std.proofs.Common.{◌≡◌, ◌<◌, ◌+◌, ℕ, List, [], length, take, get_or, Option, None, refl, sym, ap, ◌∙◌}
 use Rattle.std.specs.Option.{option_or}
 use Rattle.mb_model.specs.declared.entry.SignedEntry.{SignedEntry}
-use Rattle.mb_model.specs.Log.{entries_of, last_of, serial_in, serial_of}
+use Rattle.mb_model.specs.owners.Log.{entries_of, last_of, serial_in, serial_of}
 use Rattle.mb_model_lemmas.proofs.LogLemmas.{entries_more}
 use Rattle.mb_model_lemmas.proofs.ValidLogs.{serial_of-push}
 

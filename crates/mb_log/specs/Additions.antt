@@ -3,7 +3,7 @@ use Rattle.std.specs.Prelude.{ℕ, ◌+◌, ◌≤◌, ◌==◌, Bool, not, ◌&
 use Rattle.mb_model.specs.declared.limits.TheConstants.{LAST_INDEX, ENTRY_LIMIT}
 use Rattle.mb_model.specs.declared.state.View.{View}
 use Rattle.mb_model.specs.declared.state.Fact.{Fact}
-use Rattle.mb_model.specs.OrderEffects.{names_next}
+use Rattle.mb_model.specs.machine.OrderEffects.{names_next}
 
 -- how many entries are appended
 abbrev pub needed_with : ℕ → Bool → ℕ

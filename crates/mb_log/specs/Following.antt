@@ -4,7 +4,7 @@ use Rattle.mb_model.specs.declared.entry.Entry.{Entry}
 use Rattle.mb_model.specs.declared.state.Figures.{Figures}
 use Rattle.mb_model.specs.declared.state.Follow.{Follow}
 use Rattle.mb_model.specs.declared.state.Follow.TheVariants.{Yes, Order, Rules}
-use Rattle.mb_model.specs.Log.{Ordered, Ruled}
+use Rattle.mb_model.specs.owners.Log.{Ordered, Ruled}
 
 -- an entry after others has the right position, and its signature the right index; those of the first are free
 abbrev pub InOrder : Figures → Entry → ℕ → Type 0

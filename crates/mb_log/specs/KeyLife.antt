@@ -2,8 +2,8 @@
 use Rattle.std.specs.Prelude.{◌≡◌, ℕ, List, Some}
 use Rattle.std.specs.Option.{option_map}
 use Rattle.mb_model.specs.declared.entry.Entry.{Entry}
-use Rattle.mb_model.specs.Lives.{lives_of}
-use Rattle.mb_model.specs.Acceptance.{KeyEntry, key_of, is_alive}
+use Rattle.mb_model.specs.owners.Lives.{lives_of}
+use Rattle.mb_model.specs.chains.Acceptance.{KeyEntry, key_of, is_alive}
 use Rattle.mb_log.specs.declared.life.BornKey.{BornKey}
 use Rattle.mb_log.specs.declared.life.Life.{Life}
 

@@ -3,8 +3,8 @@
 ghost use Rattle.std.specs.Prelude.{◌≡◌, ◌+◌, ◌-◌, ◌^◌, ◌<◌, ◌≤◌, List, [], ◌∷◌, ◌++◌, length};
 ghost use Rattle.mb_model.specs.declared.limits.TheConstants.{ENTRY_LIMIT};
 ghost use Rattle.mb_model.specs.declared.entry.Entry.{Entry};
-ghost use Rattle.mb_model.specs.Layers.{unowned_layers};
-ghost use Rattle.mb_model.specs.Log.{figures_of, entries_of, is_change, is_version_two, layers_in, layers_of, device_in, keys_in};
+ghost use Rattle.mb_model.specs.owners.Layers.{unowned_layers};
+ghost use Rattle.mb_model.specs.owners.Log.{figures_of, entries_of, is_change, is_version_two, layers_in, layers_of, device_in, keys_in};
 
 use mb_model::{Entry, Figures, Layer, Layers, PublicKey, SignedEntry};
 

@@ -3,7 +3,7 @@
 ghost use Rattle.std.specs.Prelude.{◌≡◌, ◌∷◌, ◌++◌, take};
 ghost use Rattle.std.specs.Int.{w32, to_be_bytes};
 ghost use Rattle.sha2.specs.Sha256.{sha256};
-ghost use Rattle.mb_model.specs.Born.{born_key};
+ghost use Rattle.mb_model.specs.owners.Born.{born_key};
 
 use mb_bytes::put_at;
 use mb_model::KeySeed;
@@ -11,7 +11,7 @@ use mb_model::separators::{KEY_IDENTIFIER, KEY_SECRET};
 use sha2::{Digest, Sha256};
 
 /// The key with the number `number` of the device with the serial, derived from the draw of an event.
-#[tactic(auto, unfolding(mb_model::specs::Born::born_key))]
+#[tactic(auto, unfolding(mb_model::specs::owners::Born::born_key))]
 pub fn born(draw: &[u8; 32], serial: &[u8; 16], number: u32) -> KeySeed
     ensures { result ≡ born_key draw.now serial.now number }
 {

@@ -5,8 +5,9 @@ ghost use Rattle.std.specs.Prelude.{◌≡◌, ℕ, ◌≤◌, not, ◌&&◌, Li
 ghost use Rattle.std.specs.Option.{option_to_list};
 ghost use Rattle.mb_model.specs.declared.limits.TheConstants.{ENTRY_LIMIT};
 ghost use Rattle.mb_model.specs.declared.entry.Entry.{Entry};
-ghost use Rattle.mb_model.specs.Log.{figures_of, entries_of, RuledLog};
-ghost use Rattle.mb_model.specs.Lives.{ends_keys, layers_upto, configuration, configurations_opened_by, lives_of};
+ghost use Rattle.mb_model.specs.owners.Log.{figures_of, entries_of, RuledLog};
+ghost use Rattle.mb_model.specs.owners.Lives.{ends_keys, layers_upto, configuration, configurations_opened_by};
+ghost use Rattle.mb_model.specs.owners.Lives.{lives_of};
 ghost use Rattle.mb_log.specs.KeyLife.{IsLifeOf};
 
 use crate::figures::{add_entry, no_figures};

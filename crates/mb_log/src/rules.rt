@@ -3,9 +3,9 @@
 ghost use Rattle.std.specs.Prelude.{◌≡◌, ◌↔◌, ◌≤◌, List, length, IsTrue};
 ghost use Rattle.mb_model.specs.declared.limits.TheConstants.{ENTRY_LIMIT};
 ghost use Rattle.mb_model.specs.declared.entry.Entry.{Entry};
-ghost use Rattle.mb_model.specs.Layers.{layer_of};
-ghost use Rattle.mb_model.specs.Rules.{CanPlace, after};
-ghost use Rattle.mb_model.specs.Log.{figures_of, entries_of, StandsAt, AreFirst, HaveEqualTrusts, MayHaveVersion, Ordered, CountsRightly, MakesRightly, ChangesRightly, MayAllCosign, Ruled};
+ghost use Rattle.mb_model.specs.owners.Layers.{layer_of};
+ghost use Rattle.mb_model.specs.owners.Rules.{CanPlace, after};
+ghost use Rattle.mb_model.specs.owners.Log.{figures_of, entries_of, StandsAt, AreFirst, HaveEqualTrusts, MayHaveVersion, Ordered, CountsRightly, MakesRightly, ChangesRightly, MayAllCosign, Ruled};
 ghost use Rattle.mb_log.specs.Following.{FollowSays};
 
 use crate::figures::figures_of;

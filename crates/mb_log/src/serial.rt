@@ -1,7 +1,7 @@
 //! The serial of the device that a log belongs to.
 
 ghost use Rattle.std.specs.Prelude.{◌≡◌};
-ghost use Rattle.mb_model.specs.Log.{entries_of, serial_in, serial_of};
+ghost use Rattle.mb_model.specs.owners.Log.{entries_of, serial_in, serial_of};
 
 use mb_model::{Entry, SignedEntry};
 

@@ -4,7 +4,7 @@ use Rattle.std.specs.Int.{w32, from_be_bytes}
 use Rattle.mb_format.specs.Format.{Format, IsBytes, FailsWhole}
 use Rattle.mb_format.specs.Reading.{IsExact}
 use Rattle.mb_format.proofs.Fields.{wide32}
-use Rattle.mb_model.specs.OldFlash.{BeginsArea, BeginsWithRecord}
+use Rattle.mb_model.specs.memories.OldFlash.{BeginsArea, BeginsWithRecord}
 use Rattle.mb_layout.proofs.Areas.{area_is, bytes_are, bytes_after, spells_none}
 
 pub begins : {area front rest bytes : List ℕ} {n : ℕ} → IsBytes area → front ≡ take 4 area → rest ≡ drop 4 area → length rest + 4 ≡ length area → n ≡ from_be_bytes w32 front → n ≤ 470000 → n ≤ length rest

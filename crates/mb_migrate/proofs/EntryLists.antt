@@ -4,7 +4,7 @@ use Rattle.std.specs.Prelude.{is_some}
 use Rattle.mb_model.specs.declared.entry.Entry.{Entry}
 use Rattle.mb_model.specs.declared.entry.SignedEntry.{SignedEntry}
 use Rattle.mb_model.specs.declared.entry.PublicEntry.{PublicEntry}
-use Rattle.mb_model.specs.OldFlash.{with_signature, without_signature}
+use Rattle.mb_model.specs.memories.OldFlash.{with_signature, without_signature}
 
 signed_there : (signed : List SignedEntry) (i : ℕ) (d : PublicEntry) → i < length (map with_signature signed) → (get_or (map with_signature signed) i d).signature ≡ None → ⊥
 signed_there [] i d within none = absurd (omega (arith, within))

@@ -4,13 +4,13 @@ use Rattle.std.specs.Prelude.{◌⊎◌, IfSome}
 use Rattle.std.specs.Option.{IsSome}
 use Rattle.mb_format.specs.Format.{IsBytes}
 use Rattle.mb_model.specs.declared.state.State.{State}
-use Rattle.mb_model.specs.Valid.{Valid}
-use Rattle.mb_model.specs.Flash.{HoldsPublic}
-use Rattle.mb_model.specs.OldFlash.{HeldPublic, WasWellFormed}
-use Rattle.mb_model.specs.Meaning.{FlashForm, IsWellFormedBy, IsWellFormed}
-use Rattle.mb_model.specs.Faults.{Fault, HasFaultBy, HasFault}
-use Rattle.mb_model.specs.WrittenImage.{written_image, FitsImage}
-use Rattle.mb_model.specs.Migration.{IsMigrated, from_present, from_before, CannotMigrate, MeansTheSame}
+use Rattle.mb_model.specs.memories.Valid.{Valid}
+use Rattle.mb_model.specs.memories.Flash.{HoldsPublic}
+use Rattle.mb_model.specs.memories.OldFlash.{HeldPublic, WasWellFormed}
+use Rattle.mb_model.specs.memories.Meaning.{FlashForm, IsWellFormedBy, IsWellFormed}
+use Rattle.mb_model.specs.memories.Faults.{Fault, HasFaultBy, HasFault}
+use Rattle.mb_model.specs.memories.WrittenImage.{written_image, FitsImage}
+use Rattle.mb_model.specs.memories.Migration.{IsMigrated, from_present, from_before, CannotMigrate, MeansTheSame}
 use Rattle.mb_model_lemmas.specs.FormLaws.{HoldsOnePublic, HoldsFittingParts}
 use Rattle.mb_model_lemmas.proofs.OneFlash.{one_list}
 use Rattle.mb_model_lemmas.proofs.HeldSegments.{segments_parts_fit}

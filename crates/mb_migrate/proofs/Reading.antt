@@ -7,9 +7,9 @@ use Rattle.mb_model.specs.declared.entry.PublicEntry.{PublicEntry}
 use Rattle.mb_model.specs.declared.entry.SignedEntry.{SignedEntry}
 use Rattle.mb_model.specs.declared.stored.Public.{Public}
 use Rattle.mb_model.specs.declared.stored.Root.{Root}
-use Rattle.mb_model.specs.PublicRecord.{public_format}
-use Rattle.mb_model.specs.OldFlash.{flash_area, BeginsWithRecord, public_of_parts, HeldPublic}
-use Rattle.mb_model.specs.Faults.{SomePublicBy}
+use Rattle.mb_model.specs.memories.PublicRecord.{public_format}
+use Rattle.mb_model.specs.memories.OldFlash.{flash_area, BeginsWithRecord, public_of_parts, HeldPublic}
+use Rattle.mb_model.specs.memories.Faults.{SomePublicBy}
 use Rattle.mb_layout.specs.Found.{FindsBy}
 use Rattle.mb_model.proofs.RecordFormatLaws.{public_exact}
 use Rattle.mb_model_lemmas.proofs.MeaningLemmas.{one_begun, IsBytes-flash_area}

@@ -2,7 +2,7 @@
 use Rattle.std.proofs.Common.{◌≡◌, ℕ, Option, Some, None, List, arith}
 use Rattle.mb_model.specs.declared.state.Codes.{Codes}
 use Rattle.mb_model.specs.declared.stored.Public.{Public}
-use Rattle.mb_model.specs.PublicRecord.{code_format, codes_format, public_format}
+use Rattle.mb_model.specs.memories.PublicRecord.{code_format, codes_format, public_format}
 use Rattle.mb_migrate.specs.Bounds.{CodeFits, CodesFit, PublicFits}
 
 code_fits : (o : Option (List ℕ)) → code_format.Allowed o → (code : List ℕ) → o ≡ Some code → CodeFits code

@@ -4,8 +4,8 @@ use Rattle.mb_model.specs.declared.entry.Entry.{Entry}
 use Rattle.mb_model.specs.declared.entry.SignedEntry.{SignedEntry}
 use Rattle.mb_model.specs.declared.entry.PublicEntry.{PublicEntry}
 use Rattle.mb_model.specs.declared.stored.Pending.{Pending}
-use Rattle.mb_model.specs.OldFlash.{with_signature, without_signature}
-use Rattle.mb_model.specs.StoredLog.{AreCounted}
+use Rattle.mb_model.specs.memories.OldFlash.{with_signature, without_signature}
+use Rattle.mb_model.specs.memories.StoredLog.{AreCounted}
 
 -- the stored entries are these signed ones, and after them these unsigned ones, as many as the pending work says
 pub record IsSplitLog

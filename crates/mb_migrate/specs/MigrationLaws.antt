@@ -1,8 +1,8 @@
 -- Laws of migration. Does an image become one other image, which means the same and is left as it is from then on?
 use Rattle.std.specs.Prelude.{◌≡◌, ℕ, List}
 use Rattle.mb_format.specs.Format.{IsBytes}
-use Rattle.mb_model.specs.Faults.{Fault}
-use Rattle.mb_model.specs.Migration.{IsMigrated, CannotMigrate, MeansTheSame}
+use Rattle.mb_model.specs.memories.Faults.{Fault}
+use Rattle.mb_model.specs.memories.Migration.{IsMigrated, CannotMigrate, MeansTheSame}
 
 -- an image of bytes is migrated to one image only
 abbrev pub MigratesToOne : Type 0

@@ -5,7 +5,7 @@ use Rattle.mb_format.specs.Format.{Format}
 use Rattle.mb_format.specs.Combinators.{between, counted}
 use Rattle.mb_model.specs.declared.limits.TheConstants.{ENTRY_LIMIT}
 use Rattle.mb_model.specs.declared.entry.PublicEntry.{PublicEntry}
-use Rattle.mb_model.specs.PublicRecord.{public_entry_format}
+use Rattle.mb_model.specs.memories.PublicRecord.{public_entry_format}
 
 -- the entries of a public record, after their number
 unfoldable pub entries_format : Format (List PublicEntry)

@@ -1,9 +1,9 @@
 -- What an image is found to be by a form of the flash, and by either form. Does the current form come first?
 use Rattle.std.specs.Prelude.{ℕ, List, Option, IfSome}
 use Rattle.mb_model.specs.declared.state.State.{State}
-use Rattle.mb_model.specs.Meaning.{FlashForm, IsWellFormedBy, IsWellFormed}
-use Rattle.mb_model.specs.Faults.{HasFaultBy}
-use Rattle.mb_model.specs.OldFlash.{WasWellFormed}
+use Rattle.mb_model.specs.memories.Meaning.{FlashForm, IsWellFormedBy, IsWellFormed}
+use Rattle.mb_model.specs.memories.Faults.{HasFaultBy}
+use Rattle.mb_model.specs.memories.OldFlash.{WasWellFormed}
 use Rattle.mb_image.specs.declared.image.ImageEnd.{ImageEnd}
 use Rattle.mb_image.specs.Ends.{fault_of}
 use Rattle.mb_migrate.specs.declared.migration.Reading.{Reading}

@@ -1,8 +1,8 @@
 //! The record that an area of the flash begins with: after its length, and before arbitrary bytes.
 
 ghost use Rattle.std.specs.Prelude.{◌≡◌, ◌≤◌, length, IfOk};
-ghost use Rattle.mb_model.specs.PublicRecord.{public_format};
-ghost use Rattle.mb_model.specs.OldFlash.{BeginsArea, BeginsWithRecord};
+ghost use Rattle.mb_model.specs.memories.PublicRecord.{public_format};
+ghost use Rattle.mb_model.specs.memories.OldFlash.{BeginsArea, BeginsWithRecord};
 ghost use Rattle.mb_layout.specs.Found.{FindsBy};
 
 use crate::public::public_of_bytes;

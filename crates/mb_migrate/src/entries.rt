@@ -3,8 +3,8 @@
 ghost use Rattle.std.specs.Prelude.{◌≡◌, ◌↔◌, List, IfOk, IsTrue, MatchOption, map};
 ghost use Rattle.mb_model.specs.declared.entry.Entry.{Entry};
 ghost use Rattle.mb_model.specs.declared.entry.SignedEntry.{SignedEntry};
-ghost use Rattle.mb_model.specs.OldFlash.{with_signature, without_signature};
-ghost use Rattle.mb_model.specs.StoredLog.{how_many_unsigned, CanSign};
+ghost use Rattle.mb_model.specs.memories.OldFlash.{with_signature, without_signature};
+ghost use Rattle.mb_model.specs.memories.StoredLog.{how_many_unsigned, CanSign};
 ghost use Rattle.mb_migrate.specs.Entries.{IsSplitLog};
 
 use mb_model::{Entries, Items, Log, NoMemory, Pending, PublicEntry, SignedEntry};

@@ -1,7 +1,7 @@
 //! The state that an old image meant.
 
 ghost use Rattle.std.specs.Prelude.{◌+◌, ◌≤◌, IfOk, IfErr, IfSome};
-ghost use Rattle.mb_model.specs.OldFlash.{WasWellFormed, HadFault};
+ghost use Rattle.mb_model.specs.memories.OldFlash.{WasWellFormed, HadFault};
 ghost use Rattle.mb_image.specs.Ends.{fault_of};
 ghost use Rattle.mb_image.specs.declared.image.TheConstants.{IMAGE_HASHES};
 

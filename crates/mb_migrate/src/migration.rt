@@ -1,7 +1,7 @@
 //! Images brought to the current form.
 
 ghost use Rattle.std.specs.Prelude.{◌+◌, ◌*◌, ◌≤◌, IfOk, IfErr, IfSome};
-ghost use Rattle.mb_model.specs.Migration.{IsMigrated, CannotMigrate, MeansTheSame};
+ghost use Rattle.mb_model.specs.memories.Migration.{IsMigrated, CannotMigrate, MeansTheSame};
 ghost use Rattle.mb_image.specs.Ends.{fault_of};
 ghost use Rattle.mb_migrate.specs.Readings.{IsReadBy, StandsByEither};
 ghost use Rattle.mb_image.specs.declared.image.TheConstants.{IMAGE_HASHES};

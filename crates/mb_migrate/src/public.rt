@@ -3,7 +3,7 @@
 ghost use Rattle.std.specs.Prelude.{◌<◌, ◌≤◌, [], ◌∷◌, length};
 ghost use Rattle.mb_format.specs.Combinators.{mark};
 ghost use Rattle.mb_model.specs.declared.limits.TheConstants.{FILE_LIMIT};
-ghost use Rattle.mb_model.specs.PublicRecord.{codes_format, public_format};
+ghost use Rattle.mb_model.specs.memories.PublicRecord.{codes_format, public_format};
 ghost use Rattle.mb_bytes.specs.Reads.{bad_at, Reads, ReadsExactly, ReadsWhole};
 ghost use Rattle.mb_bytes.specs.Puts.{Puts, Writes};
 ghost use Rattle.mb_layout.specs.Ends.{layout_at};
@@ -53,9 +53,9 @@ pub fn write_public_record(public: &Public, out: &mut Vec<u8>) -> Result<(), NoM
 /// A public record: its version, the codes, and the entries.
 struct PublicField;
 
-#[tactic(auto, unfolding(mb_model::specs::PublicRecord::public_format, crate::specs::Parts::entries_format))]
+#[tactic(auto, unfolding(mb_model::specs::memories::PublicRecord::public_format, crate::specs::Parts::entries_format))]
 impl Field for PublicField {
-    ghost use Rattle.mb_model.specs.PublicRecord.{public_format};
+    ghost use Rattle.mb_model.specs.memories.PublicRecord.{public_format};
     ghost use Rattle.mb_model.proofs.RecordFormatLaws.{public_exact};
 
     type Value = Public;
@@ -76,7 +76,7 @@ impl Field for PublicField {
     ghost exact = { public_exact };
 }
 
-#[tactic(auto, unfolding(mb_model::specs::PublicRecord::public_format, crate::specs::Parts::entries_format))]
+#[tactic(auto, unfolding(mb_model::specs::memories::PublicRecord::public_format, crate::specs::Parts::entries_format))]
 impl WriteField for PublicField {
     ghost use Rattle.mb_migrate.specs.Bounds.{PublicFits};
 
@@ -102,7 +102,7 @@ fn version_at(cursor: &mut Cursor<'_>) -> Result<(), BadRecord>
 }
 
 /// Reads the codes of the layers.
-#[tactic(auto, unfolding(mb_model::specs::PublicRecord::code_format, mb_model::specs::PublicRecord::codes_format))]
+#[tactic(auto, unfolding(mb_model::specs::memories::PublicRecord::code_format, mb_model::specs::memories::PublicRecord::codes_format))]
 fn codes_at(alloc: Global, cursor: &mut Cursor<'_>) -> Result<Codes, LayoutEnd>
     ensures { Reads layout_at codes_format cursor.old result cursor.new }
 {
@@ -160,9 +160,9 @@ fn entries_at(alloc: Global, cursor: &mut Cursor<'_>) -> Result<PublicEntries, L
 /// An entry, and its signature if it is signed.
 struct PublicEntryField;
 
-#[tactic(auto, unfolding(mb_model::specs::PublicRecord::public_entry_format))]
+#[tactic(auto, unfolding(mb_model::specs::memories::PublicRecord::public_entry_format))]
 impl Field for PublicEntryField {
-    ghost use Rattle.mb_model.specs.PublicRecord.{public_entry_format};
+    ghost use Rattle.mb_model.specs.memories.PublicRecord.{public_entry_format};
     ghost use Rattle.mb_model.proofs.RecordFormatLaws.{public_entry_exact};
 
     type Value = PublicEntry;
@@ -182,7 +182,7 @@ impl Field for PublicEntryField {
     ghost exact = { public_entry_exact };
 }
 
-#[tactic(auto, unfolding(mb_model::specs::PublicRecord::public_entry_format))]
+#[tactic(auto, unfolding(mb_model::specs::memories::PublicRecord::public_entry_format))]
 impl WriteField for PublicEntryField {
     ghost Fits = { λ _. Unit {0} };
 
@@ -193,7 +193,7 @@ impl WriteField for PublicEntryField {
 }
 
 /// Appends the codes of the layers.
-#[tactic(auto, unfolding(mb_model::specs::PublicRecord::code_format, mb_model::specs::PublicRecord::codes_format))]
+#[tactic(auto, unfolding(mb_model::specs::memories::PublicRecord::code_format, mb_model::specs::memories::PublicRecord::codes_format))]
 fn put_codes(out: &mut Vec<u8>, codes: &Codes) -> Result<(), NoMemory>
     requires { CodesFit codes.now }
     ensures { Puts (codes_format.spelling codes.now) out.old result out.new }

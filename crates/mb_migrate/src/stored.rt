@@ -3,8 +3,8 @@
 
 ghost use Rattle.std.specs.Prelude.{◌≡◌, ◌≤◌, length, IfOk, MatchOption};
 ghost use Rattle.mb_model.specs.declared.limits.TheConstants.{FLASH_LENGTH};
-ghost use Rattle.mb_model.specs.OldFlash.{flash_area, HeldPublic};
-ghost use Rattle.mb_model.specs.Faults.{SomePublicBy};
+ghost use Rattle.mb_model.specs.memories.OldFlash.{flash_area, HeldPublic};
+ghost use Rattle.mb_model.specs.memories.Faults.{SomePublicBy};
 
 use crate::area::public_at_start;
 use crate::entries::split_entries;
@@ -19,7 +19,7 @@ const FLASH_AREA: usize = 524_288;
 pub struct OneRecord;
 
 impl FlashForm for OneRecord {
-    ghost use Rattle.mb_model.specs.OldFlash.{HeldPublic};
+    ghost use Rattle.mb_model.specs.memories.OldFlash.{HeldPublic};
     ghost use Rattle.mb_model_lemmas.proofs.OldFlashLemmas.{old_holds_one, old_parts_fit};
 
     ghost form = { HeldPublic };
@@ -62,7 +62,7 @@ fn public_in(alloc: Global, flash: &[u8], root: &Root) -> Result<Option<PublicPa
 }
 
 /// An area of the flash, 0 or 1.
-#[tactic(auto, unfolding(mb_model::specs::OldFlash::flash_area))]
+#[tactic(auto, unfolding(mb_model::specs::memories::OldFlash::flash_area))]
 fn flash_area(flash: &[u8], number: u8) -> &[u8]
     requires sized { length flash.now ≡ FLASH_LENGTH }
     requires area { number ≤ 1 }

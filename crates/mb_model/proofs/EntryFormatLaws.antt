@@ -14,8 +14,8 @@ use Rattle.mb_model.specs.declared.order.KeyKind.{KeyKind}
 use Rattle.mb_model.specs.declared.order.KeyKind.TheVariants as kinds
 use Rattle.mb_model.specs.declared.entry.Entry.{Entry}
 use Rattle.mb_model.specs.declared.entry.Entry.TheVariants.{Birth, Change, NewKey, Succession}
-use Rattle.mb_model.specs.EntryFormat.{change_byte, change_rows, key_kind_byte, key_kind_rows, key_kind_format, pair_byte, pair_rows, pair_format, EntryTag, birth_tag, change_tag, new_key_tag, succession_tag, entry_byte, entry_rows, entry_tag, birth_in, birth_format, change_in, change_format, new_key_in, new_key_format, succession_in, succession_format, entry_by, entry_format, signed_entry_format}
-use Rattle.mb_model.specs.ChainFormat.{statement_format, chain_format}
+use Rattle.mb_model.specs.records.EntryFormat.{change_byte, change_rows, key_kind_byte, key_kind_rows, key_kind_format, pair_byte, pair_rows, pair_format, EntryTag, birth_tag, change_tag, new_key_tag, succession_tag, entry_byte, entry_rows, entry_tag, birth_in, birth_format, change_in, change_format, new_key_in, new_key_format, succession_in, succession_format, entry_by, entry_format, signed_entry_format}
+use Rattle.mb_model.specs.records.ChainFormat.{statement_format, chain_format}
 use Rattle.mb_model.proofs.KeyFormatLaws.{public_key_exact, layers_exact}
 
 -- ---- single fields

@@ -8,7 +8,7 @@ use Rattle.mb_format.specs.Combinators.{limit}
 use Rattle.mb_format.proofs.Rules.{exactly}
 use Rattle.mb_format.proofs.Fields.{wide8, between_exact}
 use Rattle.mb_format.proofs.Compositions.{either_exact, as_value_exact, counted_exact}
-use Rattle.mb_model.specs.HeaderFormat.{code_length_format, slot_format, entry_bytes_format, unsigned_limit, first_text, second_text, texts_in, unsigned_format, header_format, log_format}
+use Rattle.mb_model.specs.records.HeaderFormat.{code_length_format, slot_format, entry_bytes_format, unsigned_limit, first_text, second_text, texts_in, unsigned_format, header_format, log_format}
 
 pub code_length_exact : (which : ℕ) → IsExact (code_length_format which)
 unfolding code_length_format

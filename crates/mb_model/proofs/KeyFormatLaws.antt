@@ -14,9 +14,9 @@ use Rattle.mb_model.specs.declared.key.Trust.{Trust}
 use Rattle.mb_model.specs.declared.key.Trust.TheVariants.{Always, Never, Countersigned}
 use Rattle.mb_model.specs.declared.layer.Layer.{Layer}
 use Rattle.mb_model.specs.declared.layer.Trusts.{Trusts}
-use Rattle.mb_model.specs.Key.{tree_type, chains_type, key_bytes}
-use Rattle.mb_model.specs.KeyFormat.{tree_rows, chains_rows, public_key_format, key_seed_format, keyfile_format}
-use Rattle.mb_model.specs.LayerFormat.{trust_byte, trust_rows, trust_format, one_trust, two_trusts, trusts_of, code_name_format, Has, has_nothing, has_owner, has_code, has_reliable_code, has_byte, has_rows, has_of, trust_by, owner_by, code_by, reliable_by, layer_by, layer_format, layers_format}
+use Rattle.mb_model.specs.signatures.Key.{tree_type, chains_type, key_bytes}
+use Rattle.mb_model.specs.records.KeyFormat.{tree_rows, chains_rows, public_key_format, key_seed_format, keyfile_format}
+use Rattle.mb_model.specs.records.LayerFormat.{trust_byte, trust_rows, trust_format, one_trust, two_trusts, trusts_of, code_name_format, Has, has_nothing, has_owner, has_code, has_reliable_code, has_byte, has_rows, has_of, trust_by, owner_by, code_by, reliable_by, layer_by, layer_format, layers_format}
 
 -- ---- keys
 

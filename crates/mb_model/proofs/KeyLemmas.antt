@@ -8,7 +8,7 @@ use Rattle.mb_model.specs.declared.key.Tree.{Tree}
 use Rattle.mb_model.specs.declared.key.Tree.TheVariants.{H5, H10, H15, H20, H25}
 use Rattle.mb_model.specs.declared.key.Chains.{Chains}
 use Rattle.mb_model.specs.declared.key.Chains.TheVariants.{W1, W2, W4, W8}
-use Rattle.mb_model.specs.Key.{tree_type, chains_type, key_bytes, IsSized}
+use Rattle.mb_model.specs.signatures.Key.{tree_type, chains_type, key_bytes, IsSized}
 
 -- two texts that are equal as wholes are equal part by part, where their first parts have one length
 pub same_parts : (a b xs ys : List ℕ) → length a ≡ length b → a ++ xs ≡ b ++ ys → (a ≡ b) × (xs ≡ ys)

@@ -20,9 +20,9 @@ use Rattle.mb_model.specs.declared.order.OrderKind.TheVariants as kind
 use Rattle.mb_model.specs.declared.order.OrderForm.{OrderForm}
 use Rattle.mb_model.specs.declared.order.Payload.{Payload}
 use Rattle.mb_model.specs.declared.order.Countersignature.{Countersignature}
-use Rattle.mb_model.specs.OrderFormat.{TargetTag, serial_tag, length_tag, owner_tag, code_tag, target_byte, target_rows, target_tag, demanded_serial, demanded_length, demanded_owner, demanded_code, target_by, target_format, form_byte, form, form_rows, form_of, other_rows, differing_trusts, given_trusts, establish_in, load_in, emergency_in, made_in, payload_format, act_by, Body, body_by, body_format, sized_signature_format, Climb, countersignature_format, climb_after, countersignature_limit, countersignatures_format, order_format}
-use Rattle.mb_model.specs.Layers.{is_same_trust, are_equal}
-use Rattle.mb_model.specs.LayerFormat.{trust_byte, trust_format}
+use Rattle.mb_model.specs.records.OrderFormat.{TargetTag, serial_tag, length_tag, owner_tag, code_tag, target_byte, target_rows, target_tag, demanded_serial, demanded_length, demanded_owner, demanded_code, target_by, target_format, form_byte, form, form_rows, form_of, other_rows, differing_trusts, given_trusts, establish_in, load_in, emergency_in, made_in, payload_format, act_by, Body, body_by, body_format, sized_signature_format, Climb, countersignature_format, climb_after, countersignature_limit, countersignatures_format, order_format}
+use Rattle.mb_model.specs.owners.Layers.{is_same_trust, are_equal}
+use Rattle.mb_model.specs.records.LayerFormat.{trust_byte, trust_format}
 use Rattle.mb_model.proofs.KeyFormatLaws.{public_key_exact, trust_exact, one_trust_exact}
 use Rattle.mb_model.proofs.EntryFormatLaws.{key_kind_exact}
 

@@ -2,8 +2,8 @@
 use Rattle.std.proofs.Common.{◌≡◌, ℕ, ◌+◌, ◌-◌, ◌≤◌, List, ◌++◌, length, take, drop, refl, ap, sym, ◌∙◌, arith, append_assoc, length-append, length-drop}
 use Rattle.std.proofs.lemmas.List.{length-take-le, take-append-le, take-take, take_at, drop_at, drop-drop, drop-take, length-replicate}
 use Rattle.std.proofs.Math.Seq.{drop-append-add}
-use Rattle.mb_model.specs.Pieces.{part}
-use Rattle.mb_model.specs.Board.{memory_with_bytes, erased_bytes}
+use Rattle.mb_model.specs.outside.Pieces.{part}
+use Rattle.mb_model.specs.outside.Board.{memory_with_bytes, erased_bytes}
 
 pub length-part : (at n : ℕ) (bytes : List ℕ) → at + n ≤ length bytes → length (part at n bytes) ≡ n
 length-part at n bytes within = length-take-le n (drop at bytes) (omega (arith, length-drop at bytes))

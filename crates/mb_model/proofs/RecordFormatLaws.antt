@@ -8,9 +8,9 @@ use Rattle.mb_format.proofs.Compositions.{both_exact, as_record_exact, counted_e
 use Rattle.mb_model.specs.declared.region.RegionKey.{RegionKey}
 use Rattle.mb_model.specs.declared.stored.Fate.{Fate}
 use Rattle.mb_model.specs.declared.stored.Fate.TheVariants.{AddKey}
-use Rattle.mb_model.specs.RootFormat.{region_key_format, outgoing_format, FateTag, keep_tag, empty_tag, drop_tag, add_tag, fate_byte, fate_rows, fate_tag, key_added_by, fate_by, fate_format, pending_format, root_format}
-use Rattle.mb_model.specs.RegionFormat.{secret_format, most_secrets, secrets_format, least_keys, keys_format, region_by, region_format}
-use Rattle.mb_model.specs.PublicRecord.{code_format, codes_format, public_entry_format, public_format}
+use Rattle.mb_model.specs.records.RootFormat.{region_key_format, outgoing_format, FateTag, keep_tag, empty_tag, drop_tag, add_tag, fate_byte, fate_rows, fate_tag, key_added_by, fate_by, fate_format, pending_format, root_format}
+use Rattle.mb_model.specs.records.RegionFormat.{secret_format, most_secrets, secrets_format, least_keys, keys_format, region_by, region_format}
+use Rattle.mb_model.specs.memories.PublicRecord.{code_format, codes_format, public_entry_format, public_format}
 use Rattle.mb_model.proofs.KeyFormatLaws.{key_seed_exact}
 use Rattle.mb_model.proofs.EntryFormatLaws.{key_kind_exact, entry_exact}
 

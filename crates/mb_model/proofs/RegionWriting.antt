@@ -3,8 +3,8 @@ use Rattle.std.proofs.Common.{◌≡◌, ℕ, ◌≤◌, inl, inr, List, [], ◌
 use Rattle.mb_model.specs.declared.region.Region.{Region}
 use Rattle.mb_model.specs.declared.region.RegionKey.{RegionKey}
 use Rattle.mb_model.specs.declared.region.Secret.{Secret}
-use Rattle.mb_model.specs.Regions.{empty_region}
-use Rattle.mb_model.specs.RegionFormat.{secrets_format, region_by, region_format, SpellsRegion, CanBeWritten, written_with, written_region}
+use Rattle.mb_model.specs.owners.Regions.{empty_region}
+use Rattle.mb_model.specs.records.RegionFormat.{secrets_format, region_by, region_format, SpellsRegion, CanBeWritten, written_with, written_region}
 use Rattle.mb_model.proofs.FormatBounds.{region_short}
 use Rattle.mb_model.proofs.RecordFormatLaws.{few_secrets}
 

@@ -4,16 +4,16 @@ ghost use Rattle.std.specs.Prelude.{◌≡◌, ℕ};
 ghost use Rattle.mb_format.specs.Format.{IsClear, IsClearWhole, IsShort};
 ghost use Rattle.mb_format.specs.Reading.{IsLocal};
 ghost use Rattle.mb_model.specs.declared.key.PublicKey.{PublicKey};
-ghost use Rattle.mb_model.specs.Key.{key_bytes};
-ghost use Rattle.mb_model.specs.KeyFormat.{public_key_format, key_seed_format, keyfile_format};
-ghost use Rattle.mb_model.specs.LayerFormat.{trust_format, layer_format, layers_format};
-ghost use Rattle.mb_model.specs.EntryFormat.{entry_format, signed_entry_format};
-ghost use Rattle.mb_model.specs.OrderFormat.{target_format, body_format, order_format};
-ghost use Rattle.mb_model.specs.ChainFormat.{statement_format, chain_format};
-ghost use Rattle.mb_model.specs.RootFormat.{region_key_format, root_format};
-ghost use Rattle.mb_model.specs.RegionFormat.{secret_format, region_format};
-ghost use Rattle.mb_model.specs.PublicRecord.{public_entry_format, public_format};
-ghost use Rattle.mb_model.specs.HeaderFormat.{slot_format, header_format, log_format};
+ghost use Rattle.mb_model.specs.signatures.Key.{key_bytes};
+ghost use Rattle.mb_model.specs.records.KeyFormat.{public_key_format, key_seed_format, keyfile_format};
+ghost use Rattle.mb_model.specs.records.LayerFormat.{trust_format, layer_format, layers_format};
+ghost use Rattle.mb_model.specs.records.EntryFormat.{entry_format, signed_entry_format};
+ghost use Rattle.mb_model.specs.records.OrderFormat.{target_format, body_format, order_format};
+ghost use Rattle.mb_model.specs.records.ChainFormat.{statement_format, chain_format};
+ghost use Rattle.mb_model.specs.records.RootFormat.{region_key_format, root_format};
+ghost use Rattle.mb_model.specs.records.RegionFormat.{secret_format, region_format};
+ghost use Rattle.mb_model.specs.memories.PublicRecord.{public_entry_format, public_format};
+ghost use Rattle.mb_model.specs.records.HeaderFormat.{slot_format, header_format, log_format};
 ghost use Rattle.mb_model.specs.declared.limits.TheConstants.{STATEMENT_LIMIT, REGION_LIMIT};
 
 /// At each offset of arbitrary bytes either one value of the format is spelled, or one offset fails.

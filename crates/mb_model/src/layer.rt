@@ -1,7 +1,7 @@
 //! The layers of a device.
 
 ghost use Rattle.std.specs.Prelude.{◌≡◌};
-ghost use Rattle.mb_model.specs.Layers.{equal_trusts, are_equal, layer_without_owner};
+ghost use Rattle.mb_model.specs.owners.Layers.{equal_trusts, are_equal, layer_without_owner};
 
 use crate::key::{PublicKey, Trust};
 

@@ -1,7 +1,7 @@
 //! What a device answers.
 
 ghost use Rattle.std.specs.Prelude.{◌≡◌};
-ghost use Rattle.mb_model.specs.Refusals.{refusal_number, refusal_reply};
+ghost use Rattle.mb_model.specs.machine.Refusals.{refusal_number, refusal_reply};
 
 use crate::bytes::Bytes;
 

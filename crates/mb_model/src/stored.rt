@@ -1,7 +1,7 @@
 //! What stands in a device's memory: the decoded records.
 
 ghost use Rattle.std.specs.Prelude.{◌≡◌};
-ghost use Rattle.mb_model.specs.Meaning.{fate_of_two, fate_of_three};
+ghost use Rattle.mb_model.specs.memories.Meaning.{fate_of_two, fate_of_three};
 
 use crate::bytes::Bytes;
 use crate::entry::PublicEntries;

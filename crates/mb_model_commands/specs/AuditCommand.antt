@@ -2,9 +2,9 @@
 use Rattle.std.specs.Prelude.{◌≡◌, ℕ, List, codes, Option, None, Some}
 use Rattle.mb_model.specs.declared.key.PublicKey.{PublicKey}
 use Rattle.mb_model.specs.declared.state.State.{State}
-use Rattle.mb_model.specs.Texts.{line_with_lf}
-use Rattle.mb_model.specs.Acceptance.{Verdict, chain_acceptance, chain_rejection}
-use Rattle.mb_model.specs.DeviceChains.{own_lives, IsAudited}
+use Rattle.mb_model.specs.outside.Texts.{line_with_lf}
+use Rattle.mb_model.specs.chains.Acceptance.{Verdict, chain_acceptance, chain_rejection}
+use Rattle.mb_model.specs.chains.DeviceChains.{own_lives, IsAudited}
 use Rattle.mb_model_commands.specs.Commands.{Command, read, find, either_command, print, refuse}
 use Rattle.mb_model_commands.specs.Inputs.{image_input, root_input, chain_bytes_input}
 use Rattle.mb_model_commands.specs.VerifyCommand.{chain_refusal_line}

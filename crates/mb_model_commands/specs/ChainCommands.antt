@@ -5,10 +5,10 @@ use Rattle.mb_format.specs.Format.{Spells}
 use Rattle.mb_model.specs.declared.entry.Chain.{Chain}
 use Rattle.mb_model.specs.declared.entry.Statement.{Statement}
 use Rattle.mb_model.specs.declared.state.State.{State}
-use Rattle.mb_model.specs.Texts.{line_with_lf}
-use Rattle.mb_model.specs.ChainFormat.{chain_format}
-use Rattle.mb_model.specs.Attach.{stated_chain}
-use Rattle.mb_model.specs.DeviceChains.{IsChainOf}
+use Rattle.mb_model.specs.outside.Texts.{line_with_lf}
+use Rattle.mb_model.specs.records.ChainFormat.{chain_format}
+use Rattle.mb_model.specs.chains.Attach.{stated_chain}
+use Rattle.mb_model.specs.chains.DeviceChains.{IsChainOf}
 use Rattle.mb_model_commands.specs.declared.role.Role.TheVariants as role
 use Rattle.mb_model_commands.specs.Commands.{Command, read, find, either_command, write, print, refuse}
 use Rattle.mb_model_commands.specs.Inputs.{image_input, chain_input, statement_input}

@@ -3,9 +3,9 @@ use Rattle.std.specs.Prelude.{◌≡◌, ◌≢◌, ℕ, ◌≤◌, ◌⊎◌, B
 use Rattle.std.specs.Fmt.{decimal}
 use Rattle.mb_format.specs.Format.{IsBytes}
 use Rattle.mb_model.specs.declared.event.Answered.{Answered}
-use Rattle.mb_model.specs.Texts.{line_with_lf}
+use Rattle.mb_model.specs.outside.Texts.{line_with_lf}
 use Rattle.mb_model.specs.declared.limits.TheConstants.{FILE_LIMIT}
-use Rattle.mb_model.specs.Board.{Held, Used, not_used, loaded_once_more, having_answered}
+use Rattle.mb_model.specs.outside.Board.{Held, Used, not_used, loaded_once_more, having_answered}
 use Rattle.mb_model_commands.specs.declared.role.Role.{Role}
 use Rattle.mb_model_commands.specs.declared.role.Role.TheVariants as role
 use Rattle.mb_model_commands.specs.declared.role.Place.{Place}

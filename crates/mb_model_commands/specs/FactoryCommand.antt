@@ -4,10 +4,10 @@ use Rattle.std.specs.Prelude.{◌≡◌, List, ℕ, ◌++◌, codes}
 use Rattle.hex.specs.Hex.{encode_lower}
 use Rattle.mb_model.specs.declared.key.PublicKey.{PublicKey}
 use Rattle.mb_model.specs.declared.tools.Keyfile.{Keyfile}
-use Rattle.mb_model.specs.KeyFormat.{keyfile_format}
-use Rattle.mb_model.specs.Texts.{line_with_lf}
-use Rattle.mb_model.specs.SignedOrders.{keyfile_after_use}
-use Rattle.mb_model.specs.Factory.{serial_from, IsFactoryImage}
+use Rattle.mb_model.specs.records.KeyFormat.{keyfile_format}
+use Rattle.mb_model.specs.outside.Texts.{line_with_lf}
+use Rattle.mb_model.specs.machine.SignedOrders.{keyfile_after_use}
+use Rattle.mb_model.specs.memories.Factory.{serial_from, IsFactoryImage}
 use Rattle.mb_model_commands.specs.declared.role.Role.TheVariants as role
 use Rattle.mb_model_commands.specs.Commands.{Command, read, find, either_command, write, print, refuse}
 use Rattle.mb_model_commands.specs.Inputs.{birth_noise_input, key_input, owner_input, code_input}

@@ -6,13 +6,13 @@ use Rattle.mb_model.specs.declared.event.Event.{Event}
 use Rattle.mb_model.specs.declared.event.Answered.{Answered}
 use Rattle.mb_model.specs.declared.reply.Reply.TheVariants as reply
 use Rattle.mb_model.specs.declared.state.State.{State}
-use Rattle.mb_model.specs.Machine.{World}
-use Rattle.mb_model.specs.Board.{Held, image_of}
-use Rattle.mb_model.specs.Acknowledged.{Shows}
-use Rattle.mb_model.specs.Meaning.{IsWellFormed, log_length}
-use Rattle.mb_model.specs.Lines.{ReadsLines, text_of}
-use Rattle.mb_model.specs.Script.{IsScript, Drawn}
-use Rattle.mb_model.specs.Listing.{summary}
+use Rattle.mb_model.specs.machine.Machine.{World}
+use Rattle.mb_model.specs.outside.Board.{Held, image_of}
+use Rattle.mb_model.specs.memories.Acknowledged.{Shows}
+use Rattle.mb_model.specs.memories.Meaning.{IsWellFormed, log_length}
+use Rattle.mb_model.specs.chains.Lines.{ReadsLines, text_of}
+use Rattle.mb_model.specs.chains.Script.{IsScript, Drawn}
+use Rattle.mb_model.specs.chains.Listing.{summary}
 use Rattle.mb_model_commands.specs.declared.role.Role.TheVariants as role
 use Rattle.mb_model_commands.specs.declared.workload.Workload.{Workload}
 use Rattle.mb_model_commands.specs.Workload.{IsWorkload}

@@ -10,15 +10,15 @@ use Rattle.mb_model.specs.declared.event.Event.{Event}
 use Rattle.mb_model.specs.declared.state.State.{State}
 use Rattle.mb_model.specs.declared.order.Order.{Order}
 use Rattle.mb_model.specs.declared.tools.Keyfile.{Keyfile}
-use Rattle.mb_model.specs.KeyFormat.{public_key_format, keyfile_format}
-use Rattle.mb_model.specs.Lines.{ReadsLines, TextFailsAtLine}
-use Rattle.mb_model.specs.Drafts.{IsDraft}
-use Rattle.mb_model.specs.OrderLines.{IsOrderLine, IsStatementLine}
-use Rattle.mb_model.specs.ChainFormat.{chain_format}
-use Rattle.mb_model.specs.Script.{IsScript, IsShortNoise, Drawn}
-use Rattle.mb_model.specs.Meaning.{IsWellFormed}
-use Rattle.mb_model.specs.Faults.{Fault, HasFault, bad_length, bad_root, bad_public, bad_region_two}
-use Rattle.mb_model.specs.Faults.{bad_region_three, bad_state}
+use Rattle.mb_model.specs.records.KeyFormat.{public_key_format, keyfile_format}
+use Rattle.mb_model.specs.chains.Lines.{ReadsLines, TextFailsAtLine}
+use Rattle.mb_model.specs.chains.Drafts.{IsDraft}
+use Rattle.mb_model.specs.chains.OrderLines.{IsOrderLine, IsStatementLine}
+use Rattle.mb_model.specs.records.ChainFormat.{chain_format}
+use Rattle.mb_model.specs.chains.Script.{IsScript, IsShortNoise, Drawn}
+use Rattle.mb_model.specs.memories.Meaning.{IsWellFormed}
+use Rattle.mb_model.specs.memories.Faults.{Fault, HasFault, bad_length, bad_root, bad_public, bad_region_two}
+use Rattle.mb_model.specs.memories.Faults.{bad_region_three, bad_state}
 use Rattle.mb_model_commands.specs.declared.role.Role.{Role}
 use Rattle.mb_model_commands.specs.declared.role.Role.TheVariants as role
 use Rattle.mb_model_commands.specs.declared.role.Place.{Place}

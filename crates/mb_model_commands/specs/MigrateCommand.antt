@@ -2,9 +2,9 @@
 use Rattle.std.specs.Prelude.{◌≡◌, List, ℕ, ◌++◌, codes}
 use Rattle.hex.specs.Hex.{encode_lower}
 use Rattle.sha2.specs.Sha256.{sha256}
-use Rattle.mb_model.specs.Texts.{line_with_lf}
-use Rattle.mb_model.specs.Faults.{Fault}
-use Rattle.mb_model.specs.Migration.{IsMigrated, MeansTheSame, CannotMigrate}
+use Rattle.mb_model.specs.outside.Texts.{line_with_lf}
+use Rattle.mb_model.specs.memories.Faults.{Fault}
+use Rattle.mb_model.specs.memories.Migration.{IsMigrated, MeansTheSame, CannotMigrate}
 use Rattle.mb_model_commands.specs.declared.role.Role.TheVariants as role
 use Rattle.mb_model_commands.specs.Commands.{Input, Command, read, write, print}
 use Rattle.mb_model_commands.specs.Inputs.{fault_place}

@@ -3,13 +3,13 @@ use Rattle.std.specs.Prelude.{◌≡◌, ◌≢◌, ◌⊎◌, ℕ, List, map, A
 use Rattle.mb_model.specs.declared.event.Event.{Event}
 use Rattle.mb_model.specs.declared.event.Answered.{Answered}
 use Rattle.mb_model.specs.declared.state.State.{State}
-use Rattle.mb_model.specs.Machine.{World, Run, opening_world, off}
-use Rattle.mb_model.specs.Board.{Memory, Held, IsLoaded, AreBytes, image_of}
-use Rattle.mb_model.specs.Acknowledged.{Shows, AreWiping, LeavesMemory, LeavesCleanMemory}
-use Rattle.mb_model.specs.Clean.{Clean}
-use Rattle.mb_model.specs.Regions.{KeptRightly}
-use Rattle.mb_model.specs.Runs.{IsSoundRun, StatementsStayAccepted}
-use Rattle.mb_model.specs.Replies.{replies_text}
+use Rattle.mb_model.specs.machine.Machine.{World, Run, opening_world, off}
+use Rattle.mb_model.specs.outside.Board.{Memory, Held, IsLoaded, AreBytes, image_of}
+use Rattle.mb_model.specs.memories.Acknowledged.{Shows, AreWiping, LeavesMemory, LeavesCleanMemory}
+use Rattle.mb_model.specs.memories.Clean.{Clean}
+use Rattle.mb_model.specs.owners.Regions.{KeptRightly}
+use Rattle.mb_model.specs.machine.Runs.{IsSoundRun, StatementsStayAccepted}
+use Rattle.mb_model.specs.chains.Replies.{replies_text}
 use Rattle.mb_model_commands.specs.declared.role.Role.TheVariants as role
 use Rattle.mb_model_commands.specs.Inputs.{Image, image_input, script_input, draws_input}
 use Rattle.mb_model_commands.specs.Commands.{Command, read, load, serve, write, print}

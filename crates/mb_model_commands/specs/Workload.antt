@@ -14,16 +14,16 @@ use Rattle.mb_model.specs.declared.order.Act.{Act}
 use Rattle.mb_model.specs.declared.order.Act.TheVariants as act
 use Rattle.mb_model.specs.declared.order.Target.TheVariants as target
 use Rattle.mb_model.specs.declared.order.Order.{Order}
-use Rattle.mb_model.specs.Born.{officer_key}
-use Rattle.mb_model.specs.Signing.{public_of, signature_of}
-use Rattle.mb_model.specs.Layers.{equal_trusts}
-use Rattle.mb_model.specs.Factory.{IsFactoryImage}
-use Rattle.mb_model.specs.SignedTexts.{order_text, countersigned_text}
-use Rattle.mb_model.specs.OrderFormat.{order_body}
-use Rattle.mb_model.specs.OrderLines.{order_line}
-use Rattle.mb_model.specs.Rules.{kind_of, change_of, signing_layer}
-use Rattle.mb_model.specs.Lines.{text_of, spaced_words, hex_word}
-use Rattle.mb_model.specs.Script.{with_before}
+use Rattle.mb_model.specs.owners.Born.{officer_key}
+use Rattle.mb_model.specs.signatures.Signing.{public_of, signature_of}
+use Rattle.mb_model.specs.owners.Layers.{equal_trusts}
+use Rattle.mb_model.specs.memories.Factory.{IsFactoryImage}
+use Rattle.mb_model.specs.machine.SignedTexts.{order_text, countersigned_text}
+use Rattle.mb_model.specs.records.OrderFormat.{order_body}
+use Rattle.mb_model.specs.chains.OrderLines.{order_line}
+use Rattle.mb_model.specs.owners.Rules.{kind_of, change_of, signing_layer}
+use Rattle.mb_model.specs.chains.Lines.{text_of, spaced_words, hex_word}
+use Rattle.mb_model.specs.chains.Script.{with_before}
 use Rattle.mb_model_commands.specs.declared.workload.Workload.{Workload}
 
 -- ---- what is drawn

@@ -14,11 +14,11 @@ use Rattle.mb_model.specs.declared.entry.SignedEntry.{SignedEntry}
 use Rattle.mb_model.specs.declared.entry.Statement.{Statement}
 use Rattle.mb_model.specs.declared.state.Report.{Report}
 use Rattle.mb_model.specs.declared.state.State.{State}
-use Rattle.mb_model.specs.Log.{entries_of, number_of}
-use Rattle.mb_model.specs.ChainFormat.{statement_format, chain_format}
-use Rattle.mb_model.specs.Attach.{cut_at, stated_chain}
-use Rattle.mb_model.specs.Acceptance.{ChainRefusal, KeyEntry, IfStatement, IsCurrent, key_of, Accepts, bad_signature, bad_order, key_ended}
-use Rattle.mb_model.specs.Runs.{StaysAccepted}
+use Rattle.mb_model.specs.owners.Log.{entries_of, number_of}
+use Rattle.mb_model.specs.records.ChainFormat.{statement_format, chain_format}
+use Rattle.mb_model.specs.chains.Attach.{cut_at, stated_chain}
+use Rattle.mb_model.specs.chains.Acceptance.{ChainRefusal, KeyEntry, IfStatement, IsCurrent, key_of, Accepts, bad_signature, bad_order, key_ended}
+use Rattle.mb_model.specs.machine.Runs.{StaysAccepted}
 use Rattle.mb_model.proofs.EntryFormatLaws.{statement_exact, chain_exact}
 use Rattle.mb_model_lemmas.proofs.ChainLemmas.{one_refusal, never_both, one_report}
 use Rattle.mb_model_lemmas.proofs.Splits.{none_is_some}

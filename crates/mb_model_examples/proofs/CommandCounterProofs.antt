@@ -2,7 +2,7 @@
 use Rattle.std.proofs.Common.{◌≡◌, ℕ, zero, suc, ◌≤◌, List, [], ◌∷◌, length, take, inl, inr, Option, Some, true, sym, ap, ◌∙◌, arith}
 use Rattle.std.specs.Prelude.{◌⊎◌, codes, slice_index}
 use Rattle.std.proofs.lemmas.Bool.{false≢true}
-use Rattle.mb_model.specs.Board.{loaded_once_more, having_answered}
+use Rattle.mb_model.specs.outside.Board.{loaded_once_more, having_answered}
 use Rattle.mb_model_commands.specs.Outside.{Outside, count_after_call, read_once, FailsToRead, by_fault, by_absence}
 use Rattle.mb_model_commands.specs.Commands.{Command, read, find, either_command, load, serve, rehearse, write, print, refuse, lack, Input, Output, Past, Ended, end_seen_from, InputEnds, input_is_too_long, input_is_faulty, input_is_not_read, memory_lacks, PrintEnds, text_is_printed, text_is_not_printed, CommandEnds, HasInputsFor}
 use Rattle.mb_model_commands.specs.Inputs.{code_input}

@@ -1,6 +1,6 @@
 -- The examples of digits and checksums, computed.
 use Rattle.std.proofs.Common.{refl}
-use Rattle.mb_model.specs.Winternitz.{coef, shortfall, checksum}
+use Rattle.mb_model.specs.signatures.Winternitz.{coef, shortfall, checksum}
 use Rattle.mb_model_examples.specs.SigningExamples.{DigitExamples, ChecksumExamples}
 
 pub digits : DigitExamples

@@ -5,7 +5,7 @@ use Rattle.sha2.specs.Sha256.{first_words, schedule, rounds, compress, hash_afte
 use Rattle.hex.specs.Hex.{decode_pairs}
 use Rattle.mb_format.specs.Combinators.{number_bytes, items}
 use Rattle.mb_format.specs.Reading.{raw_at, number_at}
-use Rattle.mb_model.specs.HeaderFormat.{code_length_format, slot_format, entry_bytes_format, unsigned_format, header_format, log_format}
+use Rattle.mb_model.specs.records.HeaderFormat.{code_length_format, slot_format, entry_bytes_format, unsigned_format, header_format, log_format}
 use Rattle.mb_model.proofs.HeaderFormatLaws.{header_exact, log_exact}
 use Rattle.mb_model_examples.specs.RecordValues.{bytes_of, birth_digits, new_key_digits, succession_digits}
 use Rattle.mb_model_examples.specs.RecordExamples.{with_byte}

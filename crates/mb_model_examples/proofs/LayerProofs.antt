@@ -3,9 +3,9 @@ use Rattle.std.proofs.Common.{ℕ, List, [], refl}
 use Rattle.std.specs.Prelude.{codes}
 use Rattle.mb_model.specs.declared.event.Event.TheVariants as event
 use Rattle.mb_model.specs.declared.reply.Reply.TheVariants as reply
-use Rattle.mb_model.specs.Log.{number_of}
-use Rattle.mb_model.specs.LayerEvents.{with_secret, with_use, put_event, get_event, drop_event, sign_event}
-use Rattle.mb_model.specs.Machine.{off, ratchet}
+use Rattle.mb_model.specs.owners.Log.{number_of}
+use Rattle.mb_model.specs.machine.LayerEvents.{with_secret, with_use, put_event, get_event, drop_event, sign_event}
+use Rattle.mb_model.specs.machine.Machine.{off, ratchet}
 use Rattle.mb_model_examples.specs.Device.{after_uses, alive}
 use Rattle.mb_model_examples.specs.StepExamples.{armed_at}
 use Rattle.mb_model_examples.specs.LayerExamples.{PutExamples, GetExamples, stated, with_seal, SignExamples, ClosedExamples, StoppedExamples}

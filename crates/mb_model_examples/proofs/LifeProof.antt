@@ -5,8 +5,8 @@ use Rattle.mb_model.specs.declared.order.KeyKind.TheVariants as kinds
 use Rattle.mb_model.specs.declared.order.ChangeKind.TheVariants.{Establish, Load, Emergency}
 use Rattle.mb_model.specs.declared.entry.Entry.TheVariants.{Birth, Change, NewKey}
 use Rattle.mb_model.specs.declared.layer.Layers.{Layers}
-use Rattle.mb_model.specs.Rules.{after}
-use Rattle.mb_model.specs.Log.{figures_of, number_of, last_of, layers_of, uses_of_device_key, keys_made_by, has_version_two, MayHaveVersion, Ruled, RuledLog}
+use Rattle.mb_model.specs.owners.Rules.{after}
+use Rattle.mb_model.specs.owners.Log.{figures_of, number_of, last_of, layers_of, uses_of_device_key, keys_made_by, has_version_two, MayHaveVersion, Ruled, RuledLog}
 use Rattle.mb_model_examples.specs.RuleExamples.{officer, nobody, by_two, by_both, at_birth, with_two, with_three, two_runs, three_runs, one_renewed, three_renewed, life}
 use Rattle.mb_model_lemmas.proofs.LogLemmas.{RuledLog-nil, RuledLog-push}
 

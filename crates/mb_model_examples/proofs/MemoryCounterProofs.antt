@@ -13,16 +13,16 @@ use Rattle.mb_model.specs.declared.region.Region.{Region}
 use Rattle.mb_model.specs.declared.reply.Reply.TheVariants as reply
 use Rattle.mb_model.specs.declared.state.State.{State}
 use Rattle.mb_model.specs.declared.stored.Root.{Root}
-use Rattle.mb_model.specs.RootFormat.{root_format}
-use Rattle.mb_model.specs.RegionFormat.{secrets_format, keys_format, region_by, region_format}
-use Rattle.mb_model.specs.Memory.{IsImage, IsBlank, life_byte, inactive_area_of_slot, HoldsInArea}
-use Rattle.mb_model.specs.Machine.{World, ratchet, Step, machine_step, lacks_memory, loses_power}
-use Rattle.mb_model.specs.Board.{Held}
-use Rattle.mb_model.specs.Meaning.{is_dead, is_live}
-use Rattle.mb_model.specs.Faults.{Fault, bad_length, bad_root, bad_public, bad_region_two, bad_region_three, bad_state, HasFault}
-use Rattle.mb_model.specs.Clean.{Clean}
-use Rattle.mb_model.specs.Meaning.{log_length}
-use Rattle.mb_model.specs.Acknowledged.{Shows, power_is_on, device_was_tampered, nothing_was_left}
+use Rattle.mb_model.specs.records.RootFormat.{root_format}
+use Rattle.mb_model.specs.records.RegionFormat.{secrets_format, keys_format, region_by, region_format}
+use Rattle.mb_model.specs.memories.Memory.{IsImage, IsBlank, life_byte, inactive_area_of_slot, HoldsInArea}
+use Rattle.mb_model.specs.machine.Machine.{World, ratchet, Step, machine_step, lacks_memory, loses_power}
+use Rattle.mb_model.specs.outside.Board.{Held}
+use Rattle.mb_model.specs.memories.Meaning.{is_dead, is_live}
+use Rattle.mb_model.specs.memories.Faults.{Fault, bad_length, bad_root, bad_public, bad_region_two, bad_region_three, bad_state, HasFault}
+use Rattle.mb_model.specs.memories.Clean.{Clean}
+use Rattle.mb_model.specs.memories.Meaning.{log_length}
+use Rattle.mb_model.specs.memories.Acknowledged.{Shows, power_is_on, device_was_tampered, nothing_was_left}
 use Rattle.mb_model.proofs.RecordFormatLaws.{region_exact}
 use Rattle.mb_model_lemmas.proofs.LineLemmas.{cons_same, cons_none}
 use Rattle.mb_model_lemmas.proofs.MeaningLemmas.{not_blank}

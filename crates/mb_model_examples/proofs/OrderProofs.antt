@@ -15,18 +15,18 @@ use Rattle.mb_model.specs.declared.order.Order.{Order}
 use Rattle.mb_model.specs.declared.order.Target.TheVariants as target
 use Rattle.mb_model.specs.declared.reply.Reply.TheVariants as reply
 use Rattle.mb_model.specs.declared.state.State.{State}
-use Rattle.mb_model.specs.KeyFormat.{public_key_format}
-use Rattle.mb_model.specs.LayerFormat.{trust_format}
-use Rattle.mb_model.specs.Log.{entries_of, number_of, uses_of_device_key, keys_made_by}
-use Rattle.mb_model.specs.Rules.{after}
-use Rattle.mb_model.specs.Merkle.{Verifies}
-use Rattle.mb_model.specs.OrderFormat.{target_format, body_format, sized_signature_format, countersignatures_format, order_format}
+use Rattle.mb_model.specs.records.KeyFormat.{public_key_format}
+use Rattle.mb_model.specs.records.LayerFormat.{trust_format}
+use Rattle.mb_model.specs.owners.Log.{entries_of, number_of, uses_of_device_key, keys_made_by}
+use Rattle.mb_model.specs.owners.Rules.{after}
+use Rattle.mb_model.specs.signatures.Merkle.{Verifies}
+use Rattle.mb_model.specs.records.OrderFormat.{target_format, body_format, sized_signature_format, countersignatures_format, order_format}
 use Rattle.mb_model.specs.declared.reply.Refusal.{Refusal}
 use Rattle.mb_model.specs.declared.reply.Refusal.TheVariants.{WrongTarget, WrongState, WrongSignature}
-use Rattle.mb_model.specs.Refusals.{refusal_number}
-use Rattle.mb_model.specs.OrderChecks.{TargetHoldsIn, MayBeGiven, IsCountersigned, LogHasRoom, RegionHasRoom, Fails, view_of}
-use Rattle.mb_model.specs.OrderEffects.{entry_signed_by, state_after_succession, state_after_change, state_after_new_key, state_after_order}
-use Rattle.mb_model.specs.OrderStep.{spells_none, fails_check, is_obeyed}
+use Rattle.mb_model.specs.machine.Refusals.{refusal_number}
+use Rattle.mb_model.specs.machine.OrderChecks.{TargetHoldsIn, MayBeGiven, IsCountersigned, LogHasRoom, RegionHasRoom, Fails, view_of}
+use Rattle.mb_model.specs.machine.OrderEffects.{entry_signed_by, state_after_succession, state_after_change, state_after_new_key, state_after_order}
+use Rattle.mb_model.specs.machine.OrderStep.{spells_none, fails_check, is_obeyed}
 use Rattle.mb_model.proofs.OrderFormatLaws.{order_exact}
 use Rattle.mb_model_examples.specs.RuleExamples.{officer, seven}
 use Rattle.mb_model_examples.specs.Device.{alive}

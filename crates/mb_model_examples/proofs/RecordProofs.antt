@@ -9,20 +9,21 @@ use Rattle.mb_format.specs.Format.{IsBytes, Format, Spells, FailsWhole}
 use Rattle.mb_format.specs.Combinators.{number_bytes, items}
 use Rattle.mb_format.specs.Reading.{IsExact, reads_whole, raw_at, number_at}
 use Rattle.mb_format.proofs.Whole.{IsExactWhole-from_exact}
-use Rattle.mb_model.specs.KeyFormat.{public_key_format, key_seed_format, keyfile_format}
+use Rattle.mb_model.specs.records.KeyFormat.{public_key_format, key_seed_format, keyfile_format}
 use Rattle.mb_model.specs.declared.key.Trust.TheVariants.{Always, Never}
 use Rattle.mb_model.specs.declared.layer.Trusts.{Trusts}
-use Rattle.mb_model.specs.Layers.{layer_without_owner}
-use Rattle.mb_model.specs.LayerFormat.{trust_format, code_name_format, layer_format, layers_format}
-use Rattle.mb_model.specs.EntryFormat.{key_kind_format, pair_format, birth_format, change_format, new_key_format, succession_format, entry_format, signed_entry_format}
-use Rattle.mb_model.specs.RootFormat.{region_key_format, outgoing_format, fate_format, pending_format, root_format}
-use Rattle.mb_model.specs.RegionFormat.{secret_format, secrets_format, keys_format, region_by, region_format}
-use Rattle.mb_model.specs.ChainFormat.{statement_format, chain_format}
-use Rattle.mb_model.specs.PublicRecord.{code_format, codes_format, public_entry_format, public_format}
-use Rattle.mb_model.specs.SignedTexts.{statement_text}
-use Rattle.mb_model.specs.Key.{key_bytes}
-use Rattle.mb_model.specs.Born.{officer_key}
-use Rattle.mb_model.specs.OrderFormat.{target_format, payload_format, body_format}
+use Rattle.mb_model.specs.owners.Layers.{layer_without_owner}
+use Rattle.mb_model.specs.records.LayerFormat.{trust_format, code_name_format, layer_format, layers_format}
+use Rattle.mb_model.specs.records.EntryFormat.{key_kind_format, pair_format, birth_format, change_format, new_key_format, succession_format, entry_format, signed_entry_format}
+use Rattle.mb_model.specs.records.RootFormat.{region_key_format, outgoing_format, fate_format, pending_format}
+use Rattle.mb_model.specs.records.RootFormat.{root_format}
+use Rattle.mb_model.specs.records.RegionFormat.{secret_format, secrets_format, keys_format, region_by, region_format}
+use Rattle.mb_model.specs.records.ChainFormat.{statement_format, chain_format}
+use Rattle.mb_model.specs.memories.PublicRecord.{code_format, codes_format, public_entry_format, public_format}
+use Rattle.mb_model.specs.machine.SignedTexts.{statement_text}
+use Rattle.mb_model.specs.signatures.Key.{key_bytes}
+use Rattle.mb_model.specs.owners.Born.{officer_key}
+use Rattle.mb_model.specs.records.OrderFormat.{target_format, payload_format, body_format}
 use Rattle.mb_model.proofs.OrderFormatLaws.{body_exact}
 use Rattle.mb_model.proofs.KeyFormatLaws.{public_key_exact, keyfile_exact, layer_exact}
 use Rattle.mb_model.proofs.EntryFormatLaws.{entry_exact, statement_exact, chain_exact}

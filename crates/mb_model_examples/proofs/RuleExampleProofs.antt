@@ -1,9 +1,9 @@
 -- The examples, computed.
 use Rattle.std.proofs.Common.{ℕ, List, refl, arith}
-use Rattle.mb_model.specs.Rules.{after}
+use Rattle.mb_model.specs.owners.Rules.{after}
 use Rattle.mb_model_examples.specs.RuleExamples.{AuthorityExamples, TargetExamples, StandingExamples, AdmissionExamples, ConditionExamples, AfterExamples, LogExamples, LifeExamples}
-use Rattle.mb_model.specs.Log.{number_of, last_of, layers_of, device_of, uses_of_device_key, keys_made_by}
-use Rattle.mb_model.specs.Lives.{splits, lives_of}
+use Rattle.mb_model.specs.owners.Log.{number_of, last_of, layers_of, device_of, uses_of_device_key, keys_made_by}
+use Rattle.mb_model.specs.owners.Lives.{splits, lives_of}
 
 pub admission : AdmissionExamples
 admission = record {

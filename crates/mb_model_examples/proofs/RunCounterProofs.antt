@@ -20,19 +20,19 @@ use Rattle.mb_model.specs.declared.reply.Reply.{Reply}
 use Rattle.mb_model.specs.declared.reply.Reply.TheVariants as reply
 use Rattle.mb_model.specs.declared.state.State.{State}
 use Rattle.mb_model.specs.declared.reply.Refusal.{Refusal}
-use Rattle.mb_model.specs.Signing.{public_of}
-use Rattle.mb_model.specs.LayerFormat.{trust_format}
-use Rattle.mb_model.specs.OrderFormat.{target_format, payload_format, body_format, sized_signature_format, countersignatures_format, order_format}
-use Rattle.mb_model.specs.Log.{device_in, last_of, layers_of}
-use Rattle.mb_model.specs.Lives.{MadeKey, splits, alive_keys, ends_keys, Alive}
-use Rattle.mb_model.specs.Regions.{AdmittedSince}
-use Rattle.mb_model.specs.Rules.{IsFirstFailing}
-use Rattle.mb_model.specs.OrderChecks.{view_of, TargetHoldsIn, IsCountersigned}
-use Rattle.mb_model.specs.OrderStep.{spells_none, fails_check, is_obeyed}
-use Rattle.mb_model.specs.Machine.{Phase, World, Told, off, dead, ratchet, boot_event, running_state_in, status_of, status_event, Step, machine_step, lacks_memory, loses_power}
-use Rattle.mb_model.specs.Acknowledged.{LeavesMemory, LeavesCleanMemory, AreWiping}
-use Rattle.mb_model.specs.Board.{Held}
-use Rattle.mb_model.specs.Runs.{IsSignedAt, HasInCharge}
+use Rattle.mb_model.specs.signatures.Signing.{public_of}
+use Rattle.mb_model.specs.records.LayerFormat.{trust_format}
+use Rattle.mb_model.specs.records.OrderFormat.{target_format, payload_format, body_format, sized_signature_format, countersignatures_format, order_format}
+use Rattle.mb_model.specs.owners.Log.{device_in, last_of, layers_of}
+use Rattle.mb_model.specs.owners.Lives.{MadeKey, splits, alive_keys, ends_keys, Alive}
+use Rattle.mb_model.specs.owners.Regions.{AdmittedSince}
+use Rattle.mb_model.specs.owners.Rules.{IsFirstFailing}
+use Rattle.mb_model.specs.machine.OrderChecks.{view_of, TargetHoldsIn, IsCountersigned}
+use Rattle.mb_model.specs.machine.OrderStep.{spells_none, fails_check, is_obeyed}
+use Rattle.mb_model.specs.machine.Machine.{Phase, World, Told, off, dead, ratchet, boot_event, running_state_in, status_of, status_event, Step, machine_step, lacks_memory, loses_power}
+use Rattle.mb_model.specs.memories.Acknowledged.{LeavesMemory, LeavesCleanMemory, AreWiping}
+use Rattle.mb_model.specs.outside.Board.{Held}
+use Rattle.mb_model.specs.machine.Runs.{IsSignedAt, HasInCharge}
 use Rattle.mb_model.proofs.OrderFormatLaws.{order_exact}
 use Rattle.mb_model_commands.specs.Inputs.{Image}
 use Rattle.mb_model_lemmas.proofs.AliveLemmas.{alive_is_listed}

@@ -11,23 +11,23 @@ use Rattle.mb_model.specs.declared.entry.SignedEntry.{SignedEntry}
 use Rattle.mb_model.specs.declared.state.Codes.{Codes}
 use Rattle.mb_model.specs.declared.stored.Root.{Root}
 use Rattle.mb_model.specs.declared.stored.Header.{Header}
-use Rattle.mb_model.specs.Board.{Memory}
-use Rattle.mb_model.specs.Board.{erased_bytes}
-use Rattle.mb_model.specs.WrittenFlash.{in_sectors, slots_with, sectors_of, written_flash}
-use Rattle.mb_model.specs.KeyFormat.{public_key_format}
-use Rattle.mb_model.specs.LayerFormat.{trust_format, code_name_format, layer_format, layers_format}
-use Rattle.mb_model.specs.EntryFormat.{birth_format, entry_format}
-use Rattle.mb_model.specs.RegionFormat.{region_format}
-use Rattle.mb_model.specs.HeaderFormat.{code_length_format, slot_format, entry_bytes_format, unsigned_format, header_format, log_format}
-use Rattle.mb_model.specs.Sectors.{BeginsAs}
-use Rattle.mb_model.specs.Flash.{sector, code_slot, HoldsHeader, HoldsEntry, HoldsLog, AreBytesOf}
-use Rattle.mb_model.specs.StoredLog.{how_many_unsigned}
+use Rattle.mb_model.specs.outside.Board.{Memory}
+use Rattle.mb_model.specs.outside.Board.{erased_bytes}
+use Rattle.mb_model.specs.memories.WrittenFlash.{in_sectors, slots_with, sectors_of, written_flash}
+use Rattle.mb_model.specs.records.KeyFormat.{public_key_format}
+use Rattle.mb_model.specs.records.LayerFormat.{trust_format, code_name_format, layer_format, layers_format}
+use Rattle.mb_model.specs.records.EntryFormat.{birth_format, entry_format}
+use Rattle.mb_model.specs.records.RegionFormat.{region_format}
+use Rattle.mb_model.specs.records.HeaderFormat.{code_length_format, slot_format, entry_bytes_format, unsigned_format, header_format, log_format}
+use Rattle.mb_model.specs.memories.Sectors.{BeginsAs}
+use Rattle.mb_model.specs.memories.Flash.{sector, code_slot, HoldsHeader, HoldsEntry, HoldsLog, AreBytesOf}
+use Rattle.mb_model.specs.memories.StoredLog.{how_many_unsigned}
 use Rattle.mb_model.proofs.EntryFormatLaws.{entry_exact}
 use Rattle.mb_model.proofs.HeaderFormatLaws.{header_exact, log_exact}
-use Rattle.mb_model.specs.WrittenFlash.{CodesFitSlots}
+use Rattle.mb_model.specs.memories.WrittenFlash.{CodesFitSlots}
 use Rattle.mb_model_lemmas.specs.SegmentLaws.{SpellsLog}
 use Rattle.mb_model_lemmas.proofs.WrittenLemmas.{written_is_whole}
-use Rattle.mb_model.specs.Spared.{IsUnused}
+use Rattle.mb_model.specs.memories.Spared.{IsUnused}
 use Rattle.mb_model_memory.specs.FlashInForce.{AgreeInSlots}
 use Rattle.mb_model_lemmas.proofs.HeldSegments.{holds_entry}
 use Rattle.mb_model_lemmas.proofs.OneFlash.{one_entry}

@@ -4,24 +4,25 @@ use Rattle.std.proofs.Common.{◌≡◌, ℕ, zero, suc, ◌+◌, ◌^◌, ◌�
 use Rattle.std.specs.Prelude.{codes}
 use Rattle.std.specs.Int.{w32, to_be_bytes, from_be_bytes}
 use Rattle.std.proofs.lemmas.List.{take-append-le, drop-append-le, length-drop}
-use Rattle.mb_model.specs.Pieces.{part}
+use Rattle.mb_model.specs.outside.Pieces.{part}
 use Rattle.std.proofs.lemmas.List.Elements.{All-nil}
 use Rattle.sha2.specs.Sha256.{first_words, schedule, rounds, compress, hash_after, digest_bytes, sha256}
 use Rattle.hex.specs.Hex.{decode_pairs}
 use Rattle.mb_format.specs.Combinators.{number_bytes, items}
 use Rattle.mb_format.specs.Reading.{raw_at, number_at}
 use Rattle.mb_model.specs.declared.key.Chains.TheVariants.{W4}
-use Rattle.mb_model.specs.KeyFormat.{public_key_format}
-use Rattle.mb_model.specs.LayerFormat.{trust_format}
-use Rattle.mb_model.specs.Log.{number_of, uses_of_device_key}
-use Rattle.mb_model.specs.OrderFormat.{target_format, payload_format, body_format, sized_signature_format, countersignatures_format, order_format, order_body}
-use Rattle.mb_model.specs.SignedTexts.{order_text}
-use Rattle.mb_model.specs.Winternitz.{coef, shortfall, checksum, digits_of, message_hash, one_time_key_mark, chain_step, value_after_count, value_after_steps, value_at, chain_ends, one_time_key}
-use Rattle.mb_model.specs.Merkle.{leaf_node, inner_node, parent_node, climb, leaf_number, randomizer, chain_values, path_in, root_from, hash_of, HasForm, Verifies}
+use Rattle.mb_model.specs.records.KeyFormat.{public_key_format}
+use Rattle.mb_model.specs.records.LayerFormat.{trust_format}
+use Rattle.mb_model.specs.owners.Log.{number_of, uses_of_device_key}
+use Rattle.mb_model.specs.records.OrderFormat.{target_format, payload_format, body_format, sized_signature_format, countersignatures_format, order_format, order_body}
+use Rattle.mb_model.specs.machine.SignedTexts.{order_text}
+use Rattle.mb_model.specs.signatures.Winternitz.{coef, shortfall, checksum, digits_of, message_hash, one_time_key_mark, chain_step, value_after_count, value_after_steps, value_at, chain_ends, one_time_key}
+use Rattle.mb_model.specs.signatures.Merkle.{leaf_node, inner_node, parent_node, climb, leaf_number, randomizer, chain_values, path_in, root_from, hash_of, HasForm, Verifies}
 use Rattle.mb_model.specs.declared.reply.Refusal.TheVariants.{WrongSignature}
-use Rattle.mb_model.specs.OrderChecks.{TargetHoldsIn, IsCountersigned, view_of}
-use Rattle.mb_model.specs.OrderEffects.{entry_signed_by, state_after_succession, state_after_change, state_after_order}
-use Rattle.mb_model.specs.OrderStep.{fails_check, is_obeyed}
+use Rattle.mb_model.specs.machine.OrderChecks.{TargetHoldsIn, IsCountersigned, view_of}
+use Rattle.mb_model.specs.machine.OrderEffects.{entry_signed_by, state_after_succession, state_after_change}
+use Rattle.mb_model.specs.machine.OrderEffects.{state_after_order}
+use Rattle.mb_model.specs.machine.OrderStep.{fails_check, is_obeyed}
 use Rattle.mb_model.proofs.OrderFormatLaws.{order_exact}
 use Rattle.mb_model_examples.specs.RecordValues.{bytes_of}
 use Rattle.mb_model_examples.specs.SignedOrder.{owner_one, unended_signature, good_signature, flipped_signature, establish_order, order_bytes, newborn, VerifiedOrders}

@@ -8,14 +8,15 @@ use Rattle.mb_model.specs.declared.region.Secret.{Secret}
 use Rattle.mb_model.specs.declared.reply.Reply.{Reply}
 use Rattle.mb_model.specs.declared.reply.Reply.TheVariants as reply
 use Rattle.mb_model.specs.declared.state.State.{State}
-use Rattle.mb_model.specs.Layers.{is_runnable}
-use Rattle.mb_model.specs.Log.{number_of}
+use Rattle.mb_model.specs.owners.Layers.{is_runnable}
+use Rattle.mb_model.specs.owners.Log.{number_of}
 use Rattle.mb_model.specs.declared.reply.Refusal.{Refusal}
 use Rattle.mb_model.specs.declared.reply.Refusal.TheVariants.{PoweredOff, Zeroised, WrongLayer}
-use Rattle.mb_model.specs.Refusals.{refusal_number, refusal_reply}
-use Rattle.mb_model.specs.Regions.{region_of}
-use Rattle.mb_model.specs.LayerEvents.{Outcome, has_name, value_reply, put_event, get_event, drop_event, sign_event}
-use Rattle.mb_model.specs.Machine.{off, dead, World, Told, running_state_in, status_of, status_event, go_event, region_event, CommandStep, Machine, may_want_memory, may_be_cut, Step, machine_step, lacks_memory, loses_power}
+use Rattle.mb_model.specs.machine.Refusals.{refusal_number, refusal_reply}
+use Rattle.mb_model.specs.owners.Regions.{region_of}
+use Rattle.mb_model.specs.machine.LayerEvents.{Outcome, has_name, value_reply, put_event, get_event, drop_event}
+use Rattle.mb_model.specs.machine.LayerEvents.{sign_event}
+use Rattle.mb_model.specs.machine.Machine.{off, dead, World, Told, running_state_in, status_of, status_event, go_event, region_event, CommandStep, Machine, may_want_memory, may_be_cut, Step, machine_step, lacks_memory, loses_power}
 use Rattle.mb_model_lemmas.specs.RefusalLaws.{BringsBytes}
 use Rattle.mb_model_lemmas.proofs.RefusalLemmas.{machine_is_whole, machine_is_function}
 use Rattle.mb_model_examples.specs.Device.{world_at, dead_world}

@@ -9,14 +9,14 @@ use Rattle.mb_model.specs.declared.event.Event.{Event}
 use Rattle.mb_model.specs.declared.event.Event.TheVariants as event
 use Rattle.mb_model.specs.declared.order.Order.{Order}
 use Rattle.mb_model.specs.declared.state.State.{State}
-use Rattle.mb_model.specs.Memory.{IsImage, IsBlank, life_byte, selector_of}
-use Rattle.mb_model.specs.Pieces.{part}
-use Rattle.mb_model.specs.WrittenFlash.{written_flash}
-use Rattle.mb_model.specs.WrittenImage.{written_bbram, written_image, IsWrittenFor}
-use Rattle.mb_model.specs.ChainFormat.{statement_format}
-use Rattle.mb_model.specs.Lines.{ReadsLines, TextFailsAtLine}
-use Rattle.mb_model.specs.Script.{IsScript}
-use Rattle.mb_model.specs.OrderLines.{IsStatementLine}
+use Rattle.mb_model.specs.memories.Memory.{IsImage, IsBlank, life_byte, selector_of}
+use Rattle.mb_model.specs.outside.Pieces.{part}
+use Rattle.mb_model.specs.memories.WrittenFlash.{written_flash}
+use Rattle.mb_model.specs.memories.WrittenImage.{written_bbram, written_image, IsWrittenFor}
+use Rattle.mb_model.specs.records.ChainFormat.{statement_format}
+use Rattle.mb_model.specs.chains.Lines.{ReadsLines, TextFailsAtLine}
+use Rattle.mb_model.specs.chains.Script.{IsScript}
+use Rattle.mb_model.specs.chains.OrderLines.{IsStatementLine}
 use Rattle.mb_model_commands.specs.declared.workload.Workload.{Workload}
 use Rattle.mb_model_commands.specs.Workload.{DrawnBytes, workload_lines}
 use Rattle.mb_model_lemmas.proofs.DraftLemmas.{IsDraft-same, surrender_draft}

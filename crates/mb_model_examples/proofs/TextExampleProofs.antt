@@ -1,5 +1,5 @@
 -- The examples of texts, computed.
-use Rattle.mb_model.specs.Layers.{equal_trusts}
+use Rattle.mb_model.specs.owners.Layers.{equal_trusts}
 use Rattle.std.proofs.Common.{◌≡◌, ℕ, ◌≤◌, inl, inr, List, [], ◌∷◌, ◌++◌, length, replicate, refl, sym, ap, ◌∙◌, arith, true, Bool, not, ◌&&◌, eq-eqb, lit≤}
 use Rattle.std.specs.Prelude.{All, codes, ◌==◌, filter, Ok}
 use Rattle.std.specs.List.{AllZip}
@@ -13,15 +13,16 @@ use Rattle.mb_model.specs.declared.key.Trust.TheVariants.{Never}
 use Rattle.mb_model.specs.declared.order.Act.{Act}
 use Rattle.mb_model.specs.declared.order.Act.TheVariants as act
 use Rattle.mb_model.specs.declared.order.Order.{Order}
-use Rattle.mb_model.specs.Texts.{IsHex}
-use Rattle.mb_model.specs.Lines.{IsLine, IsBeginning, ends_early, ReadsLines, TextFailsAtLine}
-use Rattle.mb_model.specs.Script.{IsName, SaysEvent, is_skipped, IsScript, with_before, commands_in, drawn_events}
-use Rattle.mb_model.specs.Drafts.{SayAct, AreLoadLines, IsDraft}
-use Rattle.mb_model.specs.Listing.{summary}
+use Rattle.mb_model.specs.outside.Texts.{IsHex}
+use Rattle.mb_model.specs.chains.Lines.{IsLine, IsBeginning, ends_early, ReadsLines, TextFailsAtLine}
+use Rattle.mb_model.specs.chains.Script.{IsName, SaysEvent, is_skipped, IsScript, with_before, commands_in}
+use Rattle.mb_model.specs.chains.Script.{drawn_events}
+use Rattle.mb_model.specs.chains.Drafts.{SayAct, AreLoadLines, IsDraft}
+use Rattle.mb_model.specs.chains.Listing.{summary}
 use Rattle.mb_model_examples.specs.TextExamples.{LineExamples, ScriptExamples, script_text, script_events, DrawExamples, ReplyExamples, DraftExamples, order_of_code, OrderLineExamples, ListingExamples}
 use Rattle.mb_model_lemmas.proofs.OrderLineLemmas as lemmas
 use Rattle.mb_model_lemmas.proofs.DraftLemmas.{surrender_draft}
-use Rattle.mb_model.specs.OrderLines.{IsOrderLine}
+use Rattle.mb_model.specs.chains.OrderLines.{IsOrderLine}
 use Rattle.mb_model_lemmas.specs.SampleOrder.{surrender, surrender_line}
 use Rattle.mb_model_lemmas.proofs.LineLemmas.{cons_same, cons_none, isnt, HasLines-nil, bad_after}
 use Rattle.mb_model_lemmas.proofs.EventLemmas.{letters, letters_of, says_letters}

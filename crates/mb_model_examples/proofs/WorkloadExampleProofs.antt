@@ -2,7 +2,7 @@
 use Rattle.std.proofs.Common.{◌≡◌, [], ◌∷◌, refl}
 use Rattle.rand_core.specs.Steps.{first_words, u32_at}
 use Rattle.rand_chacha.specs.Block.{quarter_round, column_round, diagonal_round, double_rounds, block_word}
-use Rattle.mb_model.specs.Script.{with_before}
+use Rattle.mb_model.specs.chains.Script.{with_before}
 use Rattle.mb_model_commands.specs.Workload.{generator_words, signed_orders, workload_lines}
 use Rattle.mb_model_examples.specs.WorkloadExamples.{WorkloadExamples}
 

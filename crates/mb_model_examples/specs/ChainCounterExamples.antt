@@ -8,15 +8,15 @@ use Rattle.mb_model.specs.declared.entry.SignedEntry.{SignedEntry}
 use Rattle.mb_model.specs.declared.entry.Statement.{Statement}
 use Rattle.mb_model.specs.declared.state.Report.{Report}
 use Rattle.mb_model.specs.declared.state.State.{State}
-use Rattle.mb_model.specs.Merkle.{Verifies}
-use Rattle.mb_model.specs.Log.{entries_of, device_in, number_of}
-use Rattle.mb_model.specs.Attach.{cut_at}
-use Rattle.mb_model.specs.ChainFormat.{statement_format, chain_format}
-use Rattle.mb_model.specs.SignedTexts.{entry_text}
-use Rattle.mb_model.specs.Acceptance.{AreGood, key_of, Accepts, bad_signature, bad_order, key_unknown, key_ended}
-use Rattle.mb_model.specs.Acceptance.{chain_acceptance, chain_rejection, IsVerdict, Honest}
-use Rattle.mb_model.specs.DeviceChains.{TellsOfDevice}
-use Rattle.mb_model.specs.Runs.{StaysAccepted}
+use Rattle.mb_model.specs.signatures.Merkle.{Verifies}
+use Rattle.mb_model.specs.owners.Log.{entries_of, device_in, number_of}
+use Rattle.mb_model.specs.chains.Attach.{cut_at}
+use Rattle.mb_model.specs.records.ChainFormat.{statement_format, chain_format}
+use Rattle.mb_model.specs.machine.SignedTexts.{entry_text}
+use Rattle.mb_model.specs.chains.Acceptance.{AreGood, key_of, Accepts, bad_signature, bad_order, key_unknown, key_ended}
+use Rattle.mb_model.specs.chains.Acceptance.{chain_acceptance, chain_rejection, IsVerdict, Honest}
+use Rattle.mb_model.specs.chains.DeviceChains.{TellsOfDevice}
+use Rattle.mb_model.specs.machine.Runs.{StaysAccepted}
 use Rattle.mb_model_examples.specs.RuleExamples.{life}
 use Rattle.mb_model_examples.specs.Device.{signed_with}
 

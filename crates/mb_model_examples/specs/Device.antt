@@ -13,7 +13,7 @@ use Rattle.mb_model.specs.declared.region.Secret.{Secret}
 use Rattle.mb_model.specs.declared.region.RegionKey.{RegionKey}
 use Rattle.mb_model.specs.declared.region.Region.{Region}
 use Rattle.mb_model.specs.declared.state.State.{State}
-use Rattle.mb_model.specs.Machine.{Phase, World}
+use Rattle.mb_model.specs.machine.Machine.{Phase, World}
 use Rattle.mb_model_examples.specs.RuleExamples.{life, running, three_runs}
 
 -- entries, each with this signature

@@ -1,5 +1,5 @@
 -- The formats at work on short bytes; the checker computes each line. Do the formats say what their tables say?
-use Rattle.mb_model.specs.Layers.{equal_trusts}
+use Rattle.mb_model.specs.owners.Layers.{equal_trusts}
 use Rattle.std.specs.Prelude.{◌≡◌, ℕ, List, [], ◌∷◌, ◌++◌}
 use Rattle.mb_format.specs.Format.{FailsWhole}
 use Rattle.mb_model.specs.declared.key.Tree.TheVariants.{H5}
@@ -8,10 +8,10 @@ use Rattle.mb_model.specs.declared.key.Trust.TheVariants.{Never}
 use Rattle.mb_model.specs.declared.order.Act.TheVariants as act
 use Rattle.mb_model.specs.declared.order.KeyKind.TheVariants as kinds
 use Rattle.mb_model.specs.declared.order.Target.TheVariants as target
-use Rattle.mb_model.specs.KeyFormat.{public_key_format}
-use Rattle.mb_model.specs.OrderFormat.{body_format, order_format}
-use Rattle.mb_model.specs.ChainFormat.{chain_format}
-use Rattle.mb_model.specs.RegionFormat.{region_format}
+use Rattle.mb_model.specs.records.KeyFormat.{public_key_format}
+use Rattle.mb_model.specs.records.OrderFormat.{body_format, order_format}
+use Rattle.mb_model.specs.records.ChainFormat.{chain_format}
+use Rattle.mb_model.specs.records.RegionFormat.{region_format}
 
 -- the body of the surrender of layer 2, if the log has 7 entries
 abbrev pub surrender_bytes : List ℕ

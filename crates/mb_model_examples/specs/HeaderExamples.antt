@@ -5,7 +5,7 @@ use Rattle.sha2.specs.Sha256.{sha256}
 use Rattle.mb_format.specs.Format.{Spells, FailsWhole}
 use Rattle.mb_model.specs.declared.stored.Slot.{Slot}
 use Rattle.mb_model.specs.declared.stored.Header.{Header}
-use Rattle.mb_model.specs.HeaderFormat.{header_format, log_format}
+use Rattle.mb_model.specs.records.HeaderFormat.{header_format, log_format}
 use Rattle.mb_model_examples.specs.RecordValues.{bytes_of, birth_digits, new_key_digits, succession_digits}
 use Rattle.mb_model_examples.specs.RecordExamples.{with_byte}
 

@@ -6,9 +6,9 @@ use Rattle.mb_model.specs.declared.event.Event.TheVariants as event
 use Rattle.mb_model.specs.declared.reply.Reply.{Reply}
 use Rattle.mb_model.specs.declared.reply.Reply.TheVariants as reply
 use Rattle.mb_model.specs.declared.state.State.{State}
-use Rattle.mb_model.specs.ChainFormat.{statement_format}
-use Rattle.mb_model.specs.LayerEvents.{statement_of}
-use Rattle.mb_model.specs.Machine.{off, ratchet, Machine}
+use Rattle.mb_model.specs.records.ChainFormat.{statement_format}
+use Rattle.mb_model.specs.machine.LayerEvents.{statement_of}
+use Rattle.mb_model.specs.machine.Machine.{off, ratchet, Machine}
 use Rattle.mb_model_examples.specs.Device.{secret, pin, token, key_one, with_secrets, secrets_of_two, key_of_three}
 use Rattle.mb_model_examples.specs.Device.{with_letters, full_region, with_regions, after_uses, alive}
 use Rattle.mb_model_examples.specs.Device.{two_doubted, world_at}

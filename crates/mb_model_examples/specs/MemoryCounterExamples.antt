@@ -8,16 +8,16 @@ use Rattle.mb_model.specs.declared.region.Region.{Region}
 use Rattle.mb_model.specs.declared.reply.Reply.TheVariants as reply
 use Rattle.mb_model.specs.declared.state.State.{State}
 use Rattle.mb_model.specs.declared.stored.Root.{Root}
-use Rattle.mb_model.specs.RootFormat.{root_format}
-use Rattle.mb_model.specs.RegionFormat.{SpellsRegion}
-use Rattle.mb_model.specs.Memory.{IsBlank, life_byte, inactive_area_of_slot, HoldsInArea, HoldsRecord}
-use Rattle.mb_model.specs.Machine.{World, off, dead, ratchet}
-use Rattle.mb_model.specs.Board.{Held}
-use Rattle.mb_model.specs.Meaning.{HasMeaning, StandsFor, IsWellFormed}
-use Rattle.mb_model.specs.Faults.{Fault, bad_length, HasFault}
-use Rattle.mb_model.specs.Clean.{Clean}
-use Rattle.mb_model.specs.Flash.{sector}
-use Rattle.mb_model.specs.Acknowledged.{Shows, HoldsNoOther, HasToBeClean, AreWiping, MayAnswer}
+use Rattle.mb_model.specs.records.RootFormat.{root_format}
+use Rattle.mb_model.specs.records.RegionFormat.{SpellsRegion}
+use Rattle.mb_model.specs.memories.Memory.{IsBlank, life_byte, inactive_area_of_slot, HoldsInArea, HoldsRecord}
+use Rattle.mb_model.specs.machine.Machine.{World, off, dead, ratchet}
+use Rattle.mb_model.specs.outside.Board.{Held}
+use Rattle.mb_model.specs.memories.Meaning.{HasMeaning, StandsFor, IsWellFormed}
+use Rattle.mb_model.specs.memories.Faults.{Fault, bad_length, HasFault}
+use Rattle.mb_model.specs.memories.Clean.{Clean}
+use Rattle.mb_model.specs.memories.Flash.{sector}
+use Rattle.mb_model.specs.memories.Acknowledged.{Shows, HoldsNoOther, HasToBeClean, AreWiping, MayAnswer}
 use Rattle.mb_model_commands.specs.GenerateCommand.{ShowsLog}
 
 -- ---- what a memory holds

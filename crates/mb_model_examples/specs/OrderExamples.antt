@@ -19,14 +19,14 @@ use Rattle.mb_model.specs.declared.entry.Entry.{Entry}
 use Rattle.mb_model.specs.declared.entry.Entry.TheVariants.{Birth, Change}
 use Rattle.mb_model.specs.declared.reply.Reply.TheVariants as reply
 use Rattle.mb_model.specs.declared.state.State.{State}
-use Rattle.mb_model.specs.Layers.{equal_trusts, layer_without_owner}
+use Rattle.mb_model.specs.owners.Layers.{equal_trusts, layer_without_owner}
 use Rattle.mb_model.specs.declared.reply.Refusal.TheVariants.{WrongTarget, WrongCountersignature, LogFull, KeysFull}
-use Rattle.mb_model.specs.Regions.{empty_region}
-use Rattle.mb_model.specs.OrderFormat.{order_format}
-use Rattle.mb_model.specs.OrderChecks.{view_of, IsSigned, IsCountersigned, Fails, Passes}
-use Rattle.mb_model.specs.OrderStep.{OrderStep}
-use Rattle.mb_model.specs.OrderChecks.{needs_succession, entries_needed}
-use Rattle.mb_model.specs.OrderEffects.{next_key, state_after_order}
+use Rattle.mb_model.specs.owners.Regions.{empty_region}
+use Rattle.mb_model.specs.records.OrderFormat.{order_format}
+use Rattle.mb_model.specs.machine.OrderChecks.{view_of, IsSigned, IsCountersigned, Fails, Passes}
+use Rattle.mb_model.specs.machine.OrderStep.{OrderStep}
+use Rattle.mb_model.specs.machine.OrderChecks.{needs_succession, entries_needed}
+use Rattle.mb_model.specs.machine.OrderEffects.{next_key, state_after_order}
 use Rattle.mb_model_examples.specs.RuleExamples.{officer, bare, running, nobody, by_two}
 use Rattle.mb_model_examples.specs.RuleExamples.{by_both, layers_with, at_birth, seven}
 use Rattle.mb_model_examples.specs.Device.{signed_with, seed_of, key_one, with_keys, secrets_of_two, key_of_three}

@@ -3,19 +3,19 @@
 use Rattle.std.specs.Prelude.{◌≡◌, ℕ, ◌+◌, List, [], ◌∷◌, ◌++◌, length, take, drop, replicate, codes}
 use Rattle.sha2.specs.Sha256.{sha256}
 use Rattle.mb_format.specs.Format.{Spells, FailsWhole}
-use Rattle.mb_model.specs.Key.{key_bytes}
-use Rattle.mb_model.specs.Born.{officer_key}
-use Rattle.mb_model.specs.KeyFormat.{public_key_format, keyfile_format}
-use Rattle.mb_model.specs.OrderFormat.{body_format}
-use Rattle.mb_model.specs.Layers.{layer_without_owner}
-use Rattle.mb_model.specs.LayerFormat.{layer_format}
-use Rattle.mb_model.specs.EntryFormat.{entry_format}
-use Rattle.mb_model.specs.RootFormat.{root_format}
-use Rattle.mb_model.specs.RegionFormat.{region_format, written_region}
-use Rattle.mb_model.specs.Memory.{HoldsRecord}
-use Rattle.mb_model.specs.ChainFormat.{statement_format, chain_format}
-use Rattle.mb_model.specs.PublicRecord.{public_format}
-use Rattle.mb_model.specs.SignedTexts.{statement_text}
+use Rattle.mb_model.specs.signatures.Key.{key_bytes}
+use Rattle.mb_model.specs.owners.Born.{officer_key}
+use Rattle.mb_model.specs.records.KeyFormat.{public_key_format, keyfile_format}
+use Rattle.mb_model.specs.records.OrderFormat.{body_format}
+use Rattle.mb_model.specs.owners.Layers.{layer_without_owner}
+use Rattle.mb_model.specs.records.LayerFormat.{layer_format}
+use Rattle.mb_model.specs.records.EntryFormat.{entry_format}
+use Rattle.mb_model.specs.records.RootFormat.{root_format}
+use Rattle.mb_model.specs.records.RegionFormat.{region_format, written_region}
+use Rattle.mb_model.specs.memories.Memory.{HoldsRecord}
+use Rattle.mb_model.specs.records.ChainFormat.{statement_format, chain_format}
+use Rattle.mb_model.specs.memories.PublicRecord.{public_format}
+use Rattle.mb_model.specs.machine.SignedTexts.{statement_text}
 use Rattle.mb_model_examples.specs.RecordValues.{bytes_of, reliable_layer, reliable_layer_digits, doubted_layer}
 use Rattle.mb_model_examples.specs.RecordValues.{doubted_layer_digits, bare_layer}
 use Rattle.mb_model_examples.specs.RecordValues.{bare_layer_digits, birth, birth_digits}

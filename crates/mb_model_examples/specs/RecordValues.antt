@@ -24,8 +24,8 @@ use Rattle.mb_model.specs.declared.stored.Public.{Public}
 use Rattle.mb_model.specs.declared.tools.Keyfile.{Keyfile}
 use Rattle.mb_model.specs.declared.order.Act.TheVariants as act
 use Rattle.mb_model.specs.declared.order.Target.TheVariants.{Serial, Length, Owner, Code}
-use Rattle.mb_model.specs.OrderFormat.{Body}
-use Rattle.mb_model.specs.Layers.{equal_trusts, layer_without_owner}
+use Rattle.mb_model.specs.records.OrderFormat.{Body}
+use Rattle.mb_model.specs.owners.Layers.{equal_trusts, layer_without_owner}
 use Rattle.mb_model_examples.specs.RuleExamples.{layers_with, by_two, by_three, by_both}
 
 -- the bytes that hexadecimal digits spell

@@ -17,11 +17,11 @@ use Rattle.mb_model.specs.declared.entry.Entry.{Entry}
 use Rattle.mb_model.specs.declared.entry.Entry.TheVariants.{Birth, Change, NewKey}
 use Rattle.mb_model.specs.declared.order.Target.TheVariants as target
 use Rattle.mb_model.specs.declared.reply.Standing.TheVariants as stands
-use Rattle.mb_model.specs.Key.{key_bytes}
-use Rattle.mb_model.specs.Layers.{equal_trusts, layer_without_owner, layer_standing}
-use Rattle.mb_model.specs.Log.{number_of, layers_of, device_of, uses_of_device_key, keys_made_by}
-use Rattle.mb_model.specs.Lives.{lives_of}
-use Rattle.mb_model.specs.Rules.{authority, stands_for_order, TargetHolds, admits, after, layer_from_order}
+use Rattle.mb_model.specs.signatures.Key.{key_bytes}
+use Rattle.mb_model.specs.owners.Layers.{equal_trusts, layer_without_owner, layer_standing}
+use Rattle.mb_model.specs.owners.Log.{number_of, layers_of, device_of, uses_of_device_key, keys_made_by}
+use Rattle.mb_model.specs.owners.Lives.{lives_of}
+use Rattle.mb_model.specs.owners.Rules.{authority, stands_for_order, TargetHolds, admits, after, layer_from_order}
 
 abbrev pub officer : ℕ → PublicKey
 officer n = record { tree = H5; chains = W4; identifier = replicate 16 n; root = replicate 32 n }

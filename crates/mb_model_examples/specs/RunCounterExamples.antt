@@ -18,16 +18,16 @@ use Rattle.mb_model.specs.declared.reply.Reply.TheVariants as reply
 use Rattle.mb_model.specs.declared.state.State.{State}
 use Rattle.mb_model.specs.declared.reply.Refusal.{Refusal}
 use Rattle.mb_model.specs.declared.reply.Refusal.TheVariants.{WrongTarget, WrongCountersignature}
-use Rattle.mb_model.specs.Log.{device_in}
-use Rattle.mb_model.specs.Lives.{Alive}
-use Rattle.mb_model.specs.Regions.{empty_region, KeyAdmitted, RegionKeptRightly}
-use Rattle.mb_model.specs.OrderChecks.{view_of, Passes, Fails}
-use Rattle.mb_model.specs.OrderStep.{OrderStep}
-use Rattle.mb_model.specs.Machine.{World, off, ratchet, LosesPower, Step, Run}
-use Rattle.mb_model.specs.Memory.{life_byte}
-use Rattle.mb_model.specs.Board.{Held, image_of}
-use Rattle.mb_model.specs.Runs.{BeginsWith, LogGoesOn, HasInCharge, SignsEntriesOnce, SignsStatementsOnce}
-use Rattle.mb_model.specs.Runs.{SignsAfterUses, HoldsLivingKeys}
+use Rattle.mb_model.specs.owners.Log.{device_in}
+use Rattle.mb_model.specs.owners.Lives.{Alive}
+use Rattle.mb_model.specs.owners.Regions.{empty_region, KeyAdmitted, RegionKeptRightly}
+use Rattle.mb_model.specs.machine.OrderChecks.{view_of, Passes, Fails}
+use Rattle.mb_model.specs.machine.OrderStep.{OrderStep}
+use Rattle.mb_model.specs.machine.Machine.{World, off, ratchet, LosesPower, Step, Run}
+use Rattle.mb_model.specs.memories.Memory.{life_byte}
+use Rattle.mb_model.specs.outside.Board.{Held, image_of}
+use Rattle.mb_model.specs.machine.Runs.{BeginsWith, LogGoesOn, HasInCharge, SignsEntriesOnce, SignsStatementsOnce}
+use Rattle.mb_model.specs.machine.Runs.{SignsAfterUses, HoldsLivingKeys}
 use Rattle.mb_model_commands.specs.Inputs.{Image}
 use Rattle.mb_model_commands.specs.RunCommand.{IsCleanImage, IsServed}
 use Rattle.mb_model_examples.specs.RuleExamples.{officer, nobody, by_two, three_renewed, life}

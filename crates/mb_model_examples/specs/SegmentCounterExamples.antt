@@ -8,15 +8,15 @@ use Rattle.mb_model.specs.declared.order.Payload.{Payload}
 use Rattle.mb_model.specs.declared.state.Codes.{Codes}
 use Rattle.mb_model.specs.declared.stored.Root.{Root}
 use Rattle.mb_model.specs.declared.stored.Header.{Header}
-use Rattle.mb_model.specs.Board.{Memory}
-use Rattle.mb_model.specs.Meaning.{RootIn}
-use Rattle.mb_model.specs.Flash.{sector, code_slot, HoldsHeader, HoldsCode, HoldsEntry, HoldsLog, AreBytesOf}
-use Rattle.mb_model.specs.Flash.{HoldsPublic}
-use Rattle.mb_model.specs.WrittenFlash.{written_flash, CodesFitSlots, LogFitsSectors}
+use Rattle.mb_model.specs.outside.Board.{Memory}
+use Rattle.mb_model.specs.memories.Meaning.{RootIn}
+use Rattle.mb_model.specs.memories.Flash.{sector, code_slot, HoldsHeader, HoldsCode, HoldsEntry, HoldsLog, AreBytesOf}
+use Rattle.mb_model.specs.memories.Flash.{HoldsPublic}
+use Rattle.mb_model.specs.memories.WrittenFlash.{written_flash, CodesFitSlots, LogFitsSectors}
 use Rattle.mb_model_lemmas.specs.SegmentLaws.{IsOnlyHeader, HoldsNoEntry, IsSmallHeader, SegmentsFit, SpellsLog}
-use Rattle.mb_model.specs.Spared.{KeepsSignedLog, SparesSectors}
+use Rattle.mb_model.specs.memories.Spared.{KeepsSignedLog, SparesSectors}
 use Rattle.mb_model_memory.specs.FlashInForce.{AgreeInSlots, AgreeForArea, IsUncounted}
-use Rattle.mb_model.specs.Spared.{IsUnused}
+use Rattle.mb_model.specs.memories.Spared.{IsUnused}
 use Rattle.mb_model_memory.specs.FlashInForce.{IsFreeSlot, DiffersOnlyIn, BeginsWithBytes, IsSectorWritten}
 use Rattle.mb_model_memory.specs.NextHeaders.{HasNewCode, IsCodeWritten}
 use Rattle.mb_model_examples.specs.RecordValues.{bytes_of, birth, birth_digits, succession}

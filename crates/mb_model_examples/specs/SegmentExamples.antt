@@ -5,11 +5,11 @@ use Rattle.mb_model.specs.declared.entry.Entry.{Entry}
 use Rattle.mb_model.specs.declared.entry.SignedEntry.{SignedEntry}
 use Rattle.mb_model.specs.declared.region.Secret.{Secret}
 use Rattle.mb_model.specs.declared.stored.Slot.{Slot}
-use Rattle.mb_model.specs.Pieces.{part}
-use Rattle.mb_model.specs.Regions.{empty_region}
-use Rattle.mb_model.specs.RegionFormat.{written_region}
-use Rattle.mb_model.specs.WrittenFlash.{written_flash}
-use Rattle.mb_model.specs.Flash.{HoldsHeader, HoldsCode, HoldsEntry, AreBytesOf}
+use Rattle.mb_model.specs.outside.Pieces.{part}
+use Rattle.mb_model.specs.owners.Regions.{empty_region}
+use Rattle.mb_model.specs.records.RegionFormat.{written_region}
+use Rattle.mb_model.specs.memories.WrittenFlash.{written_flash}
+use Rattle.mb_model.specs.memories.Flash.{HoldsHeader, HoldsCode, HoldsEntry, AreBytesOf}
 use Rattle.mb_model_examples.specs.RecordValues.{bytes_of, birth, birth_digits, succession, succession_digits}
 use Rattle.mb_model_examples.specs.HeaderExamples.{header_of_one, log_bytes}
 

@@ -1,6 +1,6 @@
 -- An order with its signature, as an independent program made them; the checker verifies it. Is an order that the owner
 -- signed obeyed, and is it refused if one bit of its signature is flipped?
-use Rattle.mb_model.specs.Layers.{equal_trusts}
+use Rattle.mb_model.specs.owners.Layers.{equal_trusts}
 use Rattle.std.specs.Prelude.{ℕ, List, [], ◌∷◌, ◌++◌, codes, None, Some}
 use Rattle.mb_model.specs.declared.key.PublicKey.{PublicKey}
 use Rattle.mb_model.specs.declared.key.Tree.TheVariants.{H5}
@@ -12,12 +12,12 @@ use Rattle.mb_model.specs.declared.order.Act.TheVariants as act
 use Rattle.mb_model.specs.declared.entry.Entry.TheVariants.{Birth}
 use Rattle.mb_model.specs.declared.reply.Reply.TheVariants as reply
 use Rattle.mb_model.specs.declared.state.State.{State}
-use Rattle.mb_model.specs.Regions.{empty_region}
-use Rattle.mb_model.specs.SignedTexts.{order_text}
-use Rattle.mb_model.specs.OrderFormat.{order_body}
-use Rattle.mb_model.specs.Merkle.{Verifies}
-use Rattle.mb_model.specs.OrderEffects.{state_after_order}
-use Rattle.mb_model.specs.OrderStep.{OrderStep}
+use Rattle.mb_model.specs.owners.Regions.{empty_region}
+use Rattle.mb_model.specs.machine.SignedTexts.{order_text}
+use Rattle.mb_model.specs.records.OrderFormat.{order_body}
+use Rattle.mb_model.specs.signatures.Merkle.{Verifies}
+use Rattle.mb_model.specs.machine.OrderEffects.{state_after_order}
+use Rattle.mb_model.specs.machine.OrderStep.{OrderStep}
 use Rattle.mb_model_examples.specs.RuleExamples.{officer, running, at_birth}
 use Rattle.mb_model_examples.specs.Device.{signed_with, seed_of}
 use Rattle.mb_model_examples.specs.RecordValues.{bytes_of}

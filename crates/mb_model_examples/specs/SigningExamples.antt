@@ -2,7 +2,7 @@
 -- standard does?
 use Rattle.std.specs.Prelude.{◌≡◌, ℕ, List, [], ◌∷◌, replicate}
 use Rattle.mb_model.specs.declared.key.Chains.TheVariants.{W1, W2, W4, W8}
-use Rattle.mb_model.specs.Winternitz.{coef, checksum}
+use Rattle.mb_model.specs.signatures.Winternitz.{coef, checksum}
 
 -- the bytes 0x1234
 abbrev two_bytes : List ℕ

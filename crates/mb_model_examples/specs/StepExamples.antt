@@ -8,8 +8,8 @@ use Rattle.mb_model.specs.declared.reply.Reply.{Reply}
 use Rattle.mb_model.specs.declared.reply.Reply.TheVariants as reply
 use Rattle.mb_model.specs.declared.reply.Standing.TheVariants as stands
 use Rattle.mb_model.specs.declared.state.State.{State}
-use Rattle.mb_model.specs.OrderStep.{OrderStep}
-use Rattle.mb_model.specs.Machine.{Phase, off, dead, ratchet, World, Machine, Step, status_of}
+use Rattle.mb_model.specs.machine.OrderStep.{OrderStep}
+use Rattle.mb_model.specs.machine.Machine.{Phase, off, dead, ratchet, World, Machine, Step, status_of}
 use Rattle.mb_model_lemmas.specs.RefusalLaws.{BringsBytes}
 use Rattle.mb_model_examples.specs.Device.{alive, two_doubted, three_doubted, world_at, dead_world}
 

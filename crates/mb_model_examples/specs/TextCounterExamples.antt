@@ -8,12 +8,12 @@ use Rattle.mb_model.specs.declared.event.Tear.{Tear}
 use Rattle.mb_model.specs.declared.order.Order.{Order}
 use Rattle.mb_model.specs.declared.order.Target.TheVariants as target
 use Rattle.mb_model.specs.declared.state.State.{State}
-use Rattle.mb_model.specs.Memory.{IsImage, IsBlank, selector_of}
-use Rattle.mb_model.specs.WrittenImage.{FitsImage, IsWrittenFor}
-use Rattle.mb_model.specs.Lines.{HasLines, ReadsLines, TextFailsAtLine}
-use Rattle.mb_model.specs.Script.{IsScriptEvent, IsScript}
-use Rattle.mb_model.specs.Drafts.{SaysTarget, IsDraft}
-use Rattle.mb_model.specs.OrderLines.{IsOrderLine, IsStatementLine}
+use Rattle.mb_model.specs.memories.Memory.{IsImage, IsBlank, selector_of}
+use Rattle.mb_model.specs.memories.WrittenImage.{FitsImage, IsWrittenFor}
+use Rattle.mb_model.specs.chains.Lines.{HasLines, ReadsLines, TextFailsAtLine}
+use Rattle.mb_model.specs.chains.Script.{IsScriptEvent, IsScript}
+use Rattle.mb_model.specs.chains.Drafts.{SaysTarget, IsDraft}
+use Rattle.mb_model.specs.chains.OrderLines.{IsOrderLine, IsStatementLine}
 use Rattle.mb_model_commands.specs.declared.workload.Workload.{Workload}
 use Rattle.mb_model_commands.specs.Workload.{DrawnBytes, DrawnValue, IsWorkload}
 use Rattle.mb_model_lemmas.specs.SampleOrder.{surrender, surrender_line}

@@ -7,13 +7,13 @@ use Rattle.mb_model.specs.declared.event.Event.{Event}
 use Rattle.mb_model.specs.declared.event.Event.TheVariants as event
 use Rattle.mb_model.specs.declared.reply.Reply.TheVariants as reply
 use Rattle.mb_model.specs.declared.reply.Standing.TheVariants as stands
-use Rattle.mb_model.specs.Layers.{equal_trusts, layer_without_owner}
-use Rattle.mb_model.specs.Lines.{HasLines, FailsAtLine, ReadsLines, TextFailsAtLine}
-use Rattle.mb_model.specs.Script.{IsScript, drawn_events}
-use Rattle.mb_model.specs.Replies.{reply_line}
-use Rattle.mb_model.specs.Drafts.{IsDraft}
-use Rattle.mb_model.specs.OrderLines.{IsOrderLine, order_line}
-use Rattle.mb_model.specs.Listing.{layer_line, summary}
+use Rattle.mb_model.specs.owners.Layers.{equal_trusts, layer_without_owner}
+use Rattle.mb_model.specs.chains.Lines.{HasLines, FailsAtLine, ReadsLines, TextFailsAtLine}
+use Rattle.mb_model.specs.chains.Script.{IsScript, drawn_events}
+use Rattle.mb_model.specs.chains.Replies.{reply_line}
+use Rattle.mb_model.specs.chains.Drafts.{IsDraft}
+use Rattle.mb_model.specs.chains.OrderLines.{IsOrderLine, order_line}
+use Rattle.mb_model.specs.chains.Listing.{layer_line, summary}
 use Rattle.mb_model_lemmas.specs.SampleOrder.{surrender, surrender_line}
 
 -- ---- lines

@@ -1,7 +1,7 @@
 //! Events: what each comes to in each phase, what layers do, and what a power loss leaves.
 
 ghost use Rattle.std.specs.Prelude.{List, ℕ};
-ghost use Rattle.mb_model.specs.Machine.{World};
+ghost use Rattle.mb_model.specs.machine.Machine.{World};
 ghost use Rattle.mb_model.specs.declared.state.State.{State};
 ghost use Rattle.mb_model_examples.specs.StepExamples.{BootExamples, AlwaysExamples, SleepingExamples, AwakeExamples, GoExamples, StopExamples, MemoryExamples};
 ghost use Rattle.mb_model_examples.specs.LayerExamples.{PutExamples, GetExamples, SignExamples, ClosedExamples, StoppedExamples};

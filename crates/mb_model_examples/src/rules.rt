@@ -1,7 +1,7 @@
 //! Layers, their rules and the log at work.
 
 ghost use Rattle.std.specs.Prelude.{List, ℕ};
-ghost use Rattle.mb_model.specs.Log.{RuledLog};
+ghost use Rattle.mb_model.specs.owners.Log.{RuledLog};
 ghost use Rattle.mb_model_examples.specs.RuleExamples.{AuthorityExamples, TargetExamples, StandingExamples, AdmissionExamples, ConditionExamples, AfterExamples, life, LogExamples, LifeExamples};
 
 /// Which changes a layer admits, by its trust and by who countersigned.

@@ -17,16 +17,16 @@ use Rattle.mb_model.specs.declared.reply.Refusal.{Refusal}
 use Rattle.mb_model.specs.declared.reply.Reply.TheVariants as reply
 use Rattle.mb_model.specs.declared.state.Report.{Report}
 use Rattle.mb_model.specs.declared.state.State.{State}
-use Rattle.mb_model.specs.Acceptance.{KeyEntry, key_of, IfStatement, IsCurrent, Accepts, Honest}
-use Rattle.mb_model.specs.Layers.{is_runnable, is_upper, Runnable}
-use Rattle.mb_model.specs.LayerEvents.{Outcome, sign_event}
-use Rattle.mb_model.specs.Lives.{Alive, configuration}
-use Rattle.mb_model.specs.Log.{figures_of, entries_of, is_change, layers_in, serial_in, last_of, number_of, layers_of, serial_of, Ruled, RuledLog}
-use Rattle.mb_model.specs.Machine.{ratchet, World, Told, running_state_in, region_event, Step, machine_step, lacks_memory, loses_power, Run}
-use Rattle.mb_model.specs.Runs.{BeginsWith}
-use Rattle.mb_model.specs.SignedTexts.{statement_text}
-use Rattle.mb_model.specs.Signing.{public_of}
-use Rattle.mb_model.specs.Valid.{IsValidState, Valid}
+use Rattle.mb_model.specs.chains.Acceptance.{KeyEntry, key_of, IfStatement, IsCurrent, Accepts, Honest}
+use Rattle.mb_model.specs.owners.Layers.{is_runnable, is_upper, Runnable}
+use Rattle.mb_model.specs.machine.LayerEvents.{Outcome, sign_event}
+use Rattle.mb_model.specs.owners.Lives.{Alive, configuration}
+use Rattle.mb_model.specs.owners.Log.{figures_of, entries_of, is_change, layers_in, serial_in, last_of, number_of, layers_of, serial_of, Ruled, RuledLog}
+use Rattle.mb_model.specs.machine.Machine.{ratchet, World, Told, running_state_in, region_event, Step, machine_step, lacks_memory, loses_power, Run}
+use Rattle.mb_model.specs.machine.Runs.{BeginsWith}
+use Rattle.mb_model.specs.machine.SignedTexts.{statement_text}
+use Rattle.mb_model.specs.signatures.Signing.{public_of}
+use Rattle.mb_model.specs.memories.Valid.{IsValidState, Valid}
 use Rattle.mb_model.proofs.KeyLemmas.{same_parts, word_same}
 use Rattle.mb_model_lemmas.proofs.ChainLemmas.{honest_is_front}
 use Rattle.mb_model_lemmas.proofs.LineLemmas.{cons_same}

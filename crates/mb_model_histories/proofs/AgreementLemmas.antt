@@ -24,14 +24,15 @@ use Rattle.mb_model.specs.declared.state.Configuration.{Configuration}
 use Rattle.mb_model.specs.declared.state.Report.{Report}
 use Rattle.mb_model.specs.declared.state.State.{State}
 use Rattle.mb_model.specs.declared.tools.Keyfile.{Keyfile}
-use Rattle.mb_model.specs.Acceptance.{KeyEntry, key_of, Honest}
-use Rattle.mb_model.specs.Layers.{layer_of, unowned_layers}
-use Rattle.mb_model.specs.Lives.{splits, lives_of}
-use Rattle.mb_model.specs.Log.{figures_of, device_in, entries_of, last_of, layers_of, serial_in, serial_of, Ruled, RuledLog}
-use Rattle.mb_model.specs.Machine.{World, machine_step, Run}
-use Rattle.mb_model.specs.OrderChecks.{view_of, needs_succession}
-use Rattle.mb_model.specs.OrderEffects.{log_with, state_after_succession, state_after_order, ready_for, own_entry}
-use Rattle.mb_model.specs.Valid.{EachFollows, IsValidState, Valid}
+use Rattle.mb_model.specs.chains.Acceptance.{KeyEntry, key_of, Honest}
+use Rattle.mb_model.specs.owners.Layers.{layer_of, unowned_layers}
+use Rattle.mb_model.specs.owners.Lives.{splits, lives_of}
+use Rattle.mb_model.specs.owners.Log.{figures_of, device_in, entries_of, last_of, layers_of, serial_in, serial_of, Ruled, RuledLog}
+use Rattle.mb_model.specs.machine.Machine.{World, machine_step, Run}
+use Rattle.mb_model.specs.machine.OrderChecks.{view_of, needs_succession}
+use Rattle.mb_model.specs.machine.OrderEffects.{log_with, state_after_succession, state_after_order, ready_for}
+use Rattle.mb_model.specs.machine.OrderEffects.{own_entry}
+use Rattle.mb_model.specs.memories.Valid.{EachFollows, IsValidState, Valid}
 use Rattle.mb_model_lemmas.proofs.ChainLemmas.{accepted_is_ruled, good_is_ruled, honest_is_front}
 use Rattle.mb_model_lemmas.proofs.LineLemmas.{cons_same}
 use Rattle.mb_model_lemmas.proofs.LogLemmas.{length-entries_of, RuledLog-front}

@@ -8,18 +8,18 @@ use Rattle.mb_model.specs.declared.key.KeySeed.{KeySeed}
 use Rattle.mb_model.specs.declared.key.PublicKey.{PublicKey}
 use Rattle.mb_model.specs.declared.reply.Reply.TheVariants as reply
 use Rattle.mb_model.specs.declared.state.State.{State}
-use Rattle.mb_model.specs.Acceptance.{IsBornOf}
-use Rattle.mb_model.specs.Factory.{birth_entry, state_at_birth, IsFactoryImage}
-use Rattle.mb_model.specs.Flash.{HoldsPublic}
-use Rattle.mb_model.specs.Log.{figures_of, entries_of}
-use Rattle.mb_model.specs.Machine.{World, opening_world, Run}
-use Rattle.mb_model.specs.Merkle.{Verifies}
-use Rattle.mb_model.specs.OrderEffects.{entry_signed_by}
-use Rattle.mb_model.specs.Runs.{worlds_of, IsAcceptedIn, StatementsStayAccepted, StaysAccepted}
-use Rattle.mb_model.specs.Script.{IsScriptEvent}
-use Rattle.mb_model.specs.Signing.{public_of}
-use Rattle.mb_model.specs.SignedTexts.{entry_text}
-use Rattle.mb_model.specs.Valid.{Follows, IsValidState}
+use Rattle.mb_model.specs.chains.Acceptance.{IsBornOf}
+use Rattle.mb_model.specs.memories.Factory.{birth_entry, state_at_birth, IsFactoryImage}
+use Rattle.mb_model.specs.memories.Flash.{HoldsPublic}
+use Rattle.mb_model.specs.owners.Log.{figures_of, entries_of}
+use Rattle.mb_model.specs.machine.Machine.{World, opening_world, Run}
+use Rattle.mb_model.specs.signatures.Merkle.{Verifies}
+use Rattle.mb_model.specs.machine.OrderEffects.{entry_signed_by}
+use Rattle.mb_model.specs.machine.Runs.{worlds_of, IsAcceptedIn, StatementsStayAccepted, StaysAccepted}
+use Rattle.mb_model.specs.chains.Script.{IsScriptEvent}
+use Rattle.mb_model.specs.signatures.Signing.{public_of}
+use Rattle.mb_model.specs.machine.SignedTexts.{entry_text}
+use Rattle.mb_model.specs.memories.Valid.{Follows, IsValidState}
 use Rattle.mb_model_lemmas.proofs.FactoryLemmas.{birth_is_valid, factory_is_well_formed}
 use Rattle.mb_model_lemmas.proofs.HeldSegments.{segments_parts_fit}
 use Rattle.mb_model_lemmas.proofs.LineLemmas.{cons_same}

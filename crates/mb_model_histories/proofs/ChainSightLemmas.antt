@@ -3,10 +3,10 @@ use Rattle.std.proofs.Common.{◌≡◌, List, inl, inr, sym, ap, subst, ◌∙�
 use Rattle.mb_model.specs.declared.entry.Chain.{Chain}
 use Rattle.mb_model.specs.declared.entry.SignedEntry.{SignedEntry}
 use Rattle.mb_model.specs.declared.state.State.{State}
-use Rattle.mb_model.specs.Acceptance.{IsBornOf, key_of}
-use Rattle.mb_model.specs.Attach.{bare_chain}
-use Rattle.mb_model.specs.DeviceChains.{IsChainOf}
-use Rattle.mb_model.specs.Log.{entries_of}
+use Rattle.mb_model.specs.chains.Acceptance.{IsBornOf, key_of}
+use Rattle.mb_model.specs.chains.Attach.{bare_chain}
+use Rattle.mb_model.specs.chains.DeviceChains.{IsChainOf}
+use Rattle.mb_model.specs.owners.Log.{entries_of}
 use Rattle.mb_model_commands.specs.Commands.{CommandEnds}
 use Rattle.mb_model_histories.specs.SightLaws.{ChainsTellOfTheLogAlone, ChainsTellOfTheWholeLog}
 

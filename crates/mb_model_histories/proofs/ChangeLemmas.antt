@@ -9,12 +9,12 @@ use Rattle.mb_model.specs.declared.reply.Refusal.TheVariants.{WrongPhase, WrongL
 use Rattle.mb_model.specs.declared.reply.Reply.{Reply}
 use Rattle.mb_model.specs.declared.reply.Reply.TheVariants as reply
 use Rattle.mb_model.specs.declared.state.State.{State}
-use Rattle.mb_model.specs.Layers.{is_runnable}
-use Rattle.mb_model.specs.LayerEvents.{Outcome, on_region, put_event, get_event, drop_event, sign_event}
-use Rattle.mb_model.specs.Machine.{Phase, off, dead, ratchet, World, Told, boot_event, running_state, running_state_in, status_of, status_event, go_event, region_event, CommandStep, Machine, may_want_memory, Step, machine_step, lacks_memory, loses_power}
-use Rattle.mb_model.specs.OrderStep.{OrderStep}
-use Rattle.mb_model.specs.Refusals.{refusal_reply}
-use Rattle.mb_model.specs.Regions.{empty_region, region_of, with_region}
+use Rattle.mb_model.specs.owners.Layers.{is_runnable}
+use Rattle.mb_model.specs.machine.LayerEvents.{Outcome, on_region, put_event, get_event, drop_event, sign_event}
+use Rattle.mb_model.specs.machine.Machine.{Phase, off, dead, ratchet, World, Told, boot_event, running_state, running_state_in, status_of, status_event, go_event, region_event, CommandStep, Machine, may_want_memory, Step, machine_step, lacks_memory, loses_power}
+use Rattle.mb_model.specs.machine.OrderStep.{OrderStep}
+use Rattle.mb_model.specs.machine.Refusals.{refusal_reply}
+use Rattle.mb_model.specs.owners.Regions.{empty_region, region_of, with_region}
 use Rattle.mb_model_histories.proofs.StepLemmas.{awake_phase}
 
 is_equal : (a b : ℕ) → (a == b) ≡ true → a ≡ b

@@ -12,15 +12,15 @@ use Rattle.mb_model.specs.declared.region.RegionKey.{RegionKey}
 use Rattle.mb_model.specs.declared.reply.Reply.TheVariants as reply
 use Rattle.mb_model.specs.declared.state.Report.{Report}
 use Rattle.mb_model.specs.declared.state.State.{State}
-use Rattle.mb_model.specs.Acceptance.{key_of, IsCurrent, report_of, Honest}
-use Rattle.mb_model.specs.LayerEvents.{statement_of}
-use Rattle.mb_model.specs.Log.{entries_of, number_of, serial_of, RuledLog}
-use Rattle.mb_model.specs.Machine.{World, Run}
-use Rattle.mb_model.specs.Merkle.{Verifies}
-use Rattle.mb_model.specs.Regions.{region_of}
-use Rattle.mb_model.specs.SignedTexts.{statement_text}
-use Rattle.mb_model.specs.Signing.{public_of, signature_of}
-use Rattle.mb_model.specs.Valid.{IsValidState, Valid}
+use Rattle.mb_model.specs.chains.Acceptance.{key_of, IsCurrent, report_of, Honest}
+use Rattle.mb_model.specs.machine.LayerEvents.{statement_of}
+use Rattle.mb_model.specs.owners.Log.{entries_of, number_of, serial_of, RuledLog}
+use Rattle.mb_model.specs.machine.Machine.{World, Run}
+use Rattle.mb_model.specs.signatures.Merkle.{Verifies}
+use Rattle.mb_model.specs.owners.Regions.{region_of}
+use Rattle.mb_model.specs.machine.SignedTexts.{statement_text}
+use Rattle.mb_model.specs.signatures.Signing.{public_of, signature_of}
+use Rattle.mb_model.specs.memories.Valid.{IsValidState, Valid}
 use Rattle.mb_model_lemmas.proofs.FateLemmas.{pairs_head}
 use Rattle.mb_model_lemmas.proofs.ReaderLemmas.{living_is_flagged}
 use Rattle.mb_model_lemmas.proofs.SignatureLemmas.{signature_verifies}

@@ -9,9 +9,10 @@ use Rattle.mb_model.specs.declared.region.RegionKey.{RegionKey}
 use Rattle.mb_model.specs.declared.reply.Reply.{Reply}
 use Rattle.mb_model.specs.declared.reply.Reply.TheVariants as reply
 use Rattle.mb_model.specs.declared.state.State.{State}
-use Rattle.mb_model.specs.Machine.{Phase, off, ratchet, World, opening_world, Step, machine_step, loses_power, Run}
-use Rattle.mb_model.specs.Runs.{BeginsWith, IsSignedAt, SignsStatementsOnce, SignsAfterUses}
-use Rattle.mb_model.specs.Valid.{Valid}
+use Rattle.mb_model.specs.machine.Machine.{Phase, off, ratchet, World, opening_world, Step, machine_step, loses_power}
+use Rattle.mb_model.specs.machine.Machine.{Run}
+use Rattle.mb_model.specs.machine.Runs.{BeginsWith, IsSignedAt, SignsStatementsOnce, SignsAfterUses}
+use Rattle.mb_model.specs.memories.Valid.{Valid}
 use Rattle.mb_model_lemmas.proofs.FateLemmas.{pairs_head, pairs_tail}
 use Rattle.mb_model_lemmas.proofs.Splits.{none_is_some}
 use Rattle.mb_model_lemmas.proofs.ValidSteps.{run_valid}

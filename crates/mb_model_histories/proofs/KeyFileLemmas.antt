@@ -7,10 +7,10 @@ use Rattle.mb_format.specs.Format.{Spells, IsClearWhole}
 use Rattle.mb_format.proofs.Whole.{IsClearWhole-from_exact}
 use Rattle.mb_model.specs.declared.order.Order.{Order}
 use Rattle.mb_model.specs.declared.tools.Keyfile.{Keyfile}
-use Rattle.mb_model.specs.KeyFormat.{keyfile_format}
-use Rattle.mb_model.specs.OrderLines.{order_line}
-use Rattle.mb_model.specs.SignedOrders.{keyfile_after_use, signed_order, countersigned_order}
-use Rattle.mb_model.specs.Texts.{line_with_lf}
+use Rattle.mb_model.specs.records.KeyFormat.{keyfile_format}
+use Rattle.mb_model.specs.chains.OrderLines.{order_line}
+use Rattle.mb_model.specs.machine.SignedOrders.{keyfile_after_use, signed_order, countersigned_order}
+use Rattle.mb_model.specs.outside.Texts.{line_with_lf}
 use Rattle.mb_model.proofs.KeyFormatLaws.{keyfile_exact}
 use Rattle.mb_model_commands.specs.declared.role.Role.{Role}
 use Rattle.mb_model_commands.specs.declared.role.Role.TheVariants as role

@@ -20,16 +20,16 @@ use Rattle.mb_model.specs.declared.region.Region.{Region}
 use Rattle.mb_model.specs.declared.region.RegionKey.{RegionKey}
 use Rattle.mb_model.specs.declared.separators.TheConstants.{KEY_SECRET, OFFICER_SECRET}
 use Rattle.mb_model.specs.declared.state.State.{State}
-use Rattle.mb_model.specs.Born.{born_key, officer_key}
-use Rattle.mb_model.specs.Factory.{state_at_birth}
-use Rattle.mb_model.specs.LayerEvents.{has_number, with_use}
-use Rattle.mb_model.specs.Log.{entries_of}
-use Rattle.mb_model.specs.Machine.{opening_world}
-use Rattle.mb_model.specs.OrderChecks.{view_of, needs_succession}
-use Rattle.mb_model.specs.OrderEffects.{cosigners_of, key_made, state_after_succession, state_after_change, state_after_new_key, state_after_act, state_after_order, ready_for}
-use Rattle.mb_model.specs.Regions.{empty_region, is_epoch, region_of, with_key, KeyAdmitted}
-use Rattle.mb_model.specs.Rules.{admits}
-use Rattle.mb_model.specs.Valid.{IsValidState}
+use Rattle.mb_model.specs.owners.Born.{born_key, officer_key}
+use Rattle.mb_model.specs.memories.Factory.{state_at_birth}
+use Rattle.mb_model.specs.machine.LayerEvents.{has_number, with_use}
+use Rattle.mb_model.specs.owners.Log.{entries_of}
+use Rattle.mb_model.specs.machine.Machine.{opening_world}
+use Rattle.mb_model.specs.machine.OrderChecks.{view_of, needs_succession}
+use Rattle.mb_model.specs.machine.OrderEffects.{cosigners_of, key_made, state_after_succession, state_after_change, state_after_new_key, state_after_act, state_after_order, ready_for}
+use Rattle.mb_model.specs.owners.Regions.{empty_region, is_epoch, region_of, with_key, KeyAdmitted}
+use Rattle.mb_model.specs.owners.Rules.{admits}
+use Rattle.mb_model.specs.memories.Valid.{IsValidState}
 use Rattle.mb_model.proofs.KeyLemmas.{same_parts, word_same}
 use Rattle.mb_model_lemmas.proofs.FactoryLemmas.{birth_is_valid}
 use Rattle.mb_model_lemmas.proofs.LineLemmas.{cons_same}

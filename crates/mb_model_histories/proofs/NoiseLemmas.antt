@@ -33,22 +33,23 @@ use Rattle.mb_model.specs.declared.reply.Reply.TheVariants as reply
 use Rattle.mb_model.specs.declared.state.Codes.{Codes}
 use Rattle.mb_model.specs.declared.state.State.{State}
 use Rattle.mb_model.specs.declared.state.View.{View}
-use Rattle.mb_model.specs.Born.{born_key}
-use Rattle.mb_model.specs.ChainFormat.{statement_format}
-use Rattle.mb_model.specs.LayerEvents.{Outcome, has_name, has_number, with_secret, with_use, on_region, put_event, get_event, drop_event, sign_with, sign_event, statement_of, value_reply}
-use Rattle.mb_model.specs.Layers.{is_runnable, layer_standing, layer_of}
-use Rattle.mb_model.specs.Log.{entries_of, is_change, device_in, keys_in, number_of, uses_of_device_key, keys_made_by}
-use Rattle.mb_model.specs.Machine.{Phase, off, dead, ratchet, World, Told, boot_event, running_state, running_state_in, status_of, status_event, go_event, region_event, CommandStep, Machine, may_want_memory, may_be_cut, Step, machine_step, lacks_memory, loses_power}
-use Rattle.mb_model.specs.OrderChecks.{view_of, change_by, needs_succession, Passes, Fails, RegionHasRoom}
-use Rattle.mb_model.specs.OrderEffects.{cosigners_of, change_fact, entry_of, next_device_key, next_key, device_after, succession_entry, key_made, codes_after, entry_signed_by, log_with, state_after_succession, state_after_change, state_after_new_key, state_after_act, state_after_order, ready_for}
+use Rattle.mb_model.specs.owners.Born.{born_key}
+use Rattle.mb_model.specs.records.ChainFormat.{statement_format}
+use Rattle.mb_model.specs.machine.LayerEvents.{Outcome, has_name, has_number, with_secret, with_use, on_region, put_event, get_event, drop_event, sign_with, sign_event, statement_of, value_reply}
+use Rattle.mb_model.specs.owners.Layers.{is_runnable, layer_standing, layer_of}
+use Rattle.mb_model.specs.owners.Log.{entries_of, is_change, device_in, keys_in, number_of, uses_of_device_key}
+use Rattle.mb_model.specs.owners.Log.{keys_made_by}
+use Rattle.mb_model.specs.machine.Machine.{Phase, off, dead, ratchet, World, Told, boot_event, running_state, running_state_in, status_of, status_event, go_event, region_event, CommandStep, Machine, may_want_memory, may_be_cut, Step, machine_step, lacks_memory, loses_power}
+use Rattle.mb_model.specs.machine.OrderChecks.{view_of, change_by, needs_succession, Passes, Fails, RegionHasRoom}
+use Rattle.mb_model.specs.machine.OrderEffects.{cosigners_of, change_fact, entry_of, next_device_key, next_key, device_after, succession_entry, key_made, codes_after, entry_signed_by, log_with, state_after_succession, state_after_change, state_after_new_key, state_after_act, state_after_order, ready_for}
 use Rattle.mb_model.specs.declared.state.Fact.TheVariants as fact
 use Rattle.mb_format.specs.Combinators.{number_bytes}
-use Rattle.mb_model.specs.OrderStep.{OrderStep, spells_none, fails_check, is_obeyed}
-use Rattle.mb_model.specs.Refusals.{refusal_reply}
-use Rattle.mb_model.specs.Regions.{empty_region, is_epoch, region_of, with_region, region_after, without_configuration_keys, with_key}
-use Rattle.mb_model.specs.Rules.{admits, renews, change_of, kind_of, after, layer_from_order, kept_regions}
-use Rattle.mb_model.specs.Signing.{signature_of, randomizer_of, signed_values, signed_digits, path_from}
-use Rattle.mb_model.specs.SignedTexts.{entry_text}
+use Rattle.mb_model.specs.machine.OrderStep.{OrderStep, spells_none, fails_check, is_obeyed}
+use Rattle.mb_model.specs.machine.Refusals.{refusal_reply}
+use Rattle.mb_model.specs.owners.Regions.{empty_region, is_epoch, region_of, with_region, region_after, without_configuration_keys, with_key}
+use Rattle.mb_model.specs.owners.Rules.{admits, renews, change_of, kind_of, after, layer_from_order, kept_regions}
+use Rattle.mb_model.specs.signatures.Signing.{signature_of, randomizer_of, signed_values, signed_digits, path_from}
+use Rattle.mb_model.specs.machine.SignedTexts.{entry_text}
 use Rattle.mb_model_lemmas.proofs.LineLemmas.{cons_same}
 use Rattle.mb_model_lemmas.proofs.SignatureLemmas.{length-signature_of}
 use Rattle.mb_model_lemmas.proofs.Splits.{some_same}

@@ -11,10 +11,10 @@ use Rattle.mb_model.specs.declared.order.ChangeKind.TheVariants.{Establish, Surr
 use Rattle.mb_model.specs.declared.order.Order.{Order}
 use Rattle.mb_model.specs.declared.state.Codes.{Codes}
 use Rattle.mb_model.specs.declared.state.State.{State}
-use Rattle.mb_model.specs.Layers.{layer_without_owner, layer_of, is_layer_number}
-use Rattle.mb_model.specs.OrderChecks.{IsSigned, needs_succession, view_of}
-use Rattle.mb_model.specs.OrderEffects.{code_after, codes_after, cosigners_of, layers_after, state_after_succession, state_after_change, state_after_new_key, state_after_act, state_after_order, ready_for, own_entry, log_with, fact_of}
-use Rattle.mb_model.specs.Rules.{kind_of, change_of, admits, layer_from_order, layer_after, after}
+use Rattle.mb_model.specs.owners.Layers.{layer_without_owner, layer_of, is_layer_number}
+use Rattle.mb_model.specs.machine.OrderChecks.{IsSigned, needs_succession, view_of}
+use Rattle.mb_model.specs.machine.OrderEffects.{code_after, codes_after, cosigners_of, layers_after, state_after_succession, state_after_change, state_after_new_key, state_after_act, state_after_order, ready_for, own_entry, log_with, fact_of}
+use Rattle.mb_model.specs.owners.Rules.{kind_of, change_of, admits, layer_from_order, layer_after, after}
 use Rattle.mb_model_lemmas.proofs.OwnEntries.{appends_own}
 use Rattle.mb_model_lemmas.proofs.ValidOrders.{own_layer}
 use Rattle.mb_model_histories.specs.ObeyedOrders.{Becomes, stays, is_ordered, is_distrusted}

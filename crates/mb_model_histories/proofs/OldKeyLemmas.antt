@@ -14,14 +14,14 @@ use Rattle.mb_model.specs.declared.order.Order.{Order}
 use Rattle.mb_model.specs.declared.region.Region.{Region}
 use Rattle.mb_model.specs.declared.region.RegionKey.{RegionKey}
 use Rattle.mb_model.specs.declared.state.State.{State}
-use Rattle.mb_model.specs.LayerEvents.{has_number, with_use}
-use Rattle.mb_model.specs.Log.{entries_of, keys_in, keys_made_by}
-use Rattle.mb_model.specs.Machine.{World, opening_world}
-use Rattle.mb_model.specs.OrderChecks.{view_of, needs_succession}
-use Rattle.mb_model.specs.OrderEffects.{cosigners_of, key_made, state_after_succession, state_after_change, state_after_new_key, state_after_act, state_after_order, ready_for}
-use Rattle.mb_model.specs.Regions.{empty_region, is_epoch, with_key}
-use Rattle.mb_model.specs.Rules.{admits}
-use Rattle.mb_model.specs.Runs.{BeginsWith}
+use Rattle.mb_model.specs.machine.LayerEvents.{has_number, with_use}
+use Rattle.mb_model.specs.owners.Log.{entries_of, keys_in, keys_made_by}
+use Rattle.mb_model.specs.machine.Machine.{World, opening_world}
+use Rattle.mb_model.specs.machine.OrderChecks.{view_of, needs_succession}
+use Rattle.mb_model.specs.machine.OrderEffects.{cosigners_of, key_made, state_after_succession, state_after_change, state_after_new_key, state_after_act, state_after_order, ready_for}
+use Rattle.mb_model.specs.owners.Regions.{empty_region, is_epoch, with_key}
+use Rattle.mb_model.specs.owners.Rules.{admits}
+use Rattle.mb_model.specs.machine.Runs.{BeginsWith}
 use Rattle.mb_model_runs.proofs.GrowthLemmas.{obeyed_begins}
 use Rattle.mb_model_runs.proofs.KeptByRuns.{IsKept, run_kept}
 use Rattle.mb_model_histories.specs.Histories.{ComesAfter, in_this_run, in_a_later_run}

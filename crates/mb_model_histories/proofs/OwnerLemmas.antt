@@ -13,18 +13,18 @@ use Rattle.mb_model.specs.declared.region.Region.{Region}
 use Rattle.mb_model.specs.declared.reply.Reply.{Reply}
 use Rattle.mb_model.specs.declared.reply.Reply.TheVariants as reply
 use Rattle.mb_model.specs.declared.state.State.{State}
-use Rattle.mb_model.specs.Layers.{layer_of, is_upper, is_owned, IsLayer, IsLayers}
-use Rattle.mb_model.specs.Log.{entries_of, last_of, layers_of}
-use Rattle.mb_model.specs.Machine.{World, Step, Run}
-use Rattle.mb_model.specs.Merkle.{Verifies}
-use Rattle.mb_model.specs.OrderChecks.{view_of, IsSigned}
-use Rattle.mb_model.specs.OrderEffects.{state_after_order}
-use Rattle.mb_model.specs.OrderFormat.{order_body}
-use Rattle.mb_model.specs.Regions.{empty_region, region_of}
-use Rattle.mb_model.specs.Rules.{kind_of, change_of, Condition, layer_from_order, signing_layer}
-use Rattle.mb_model.specs.Signing.{public_of}
-use Rattle.mb_model.specs.SignedTexts.{order_text, IsSignedBy}
-use Rattle.mb_model.specs.Valid.{IsValidState, Valid}
+use Rattle.mb_model.specs.owners.Layers.{layer_of, is_upper, is_owned, IsLayer, IsLayers}
+use Rattle.mb_model.specs.owners.Log.{entries_of, last_of, layers_of}
+use Rattle.mb_model.specs.machine.Machine.{World, Step, Run}
+use Rattle.mb_model.specs.signatures.Merkle.{Verifies}
+use Rattle.mb_model.specs.machine.OrderChecks.{view_of, IsSigned}
+use Rattle.mb_model.specs.machine.OrderEffects.{state_after_order}
+use Rattle.mb_model.specs.records.OrderFormat.{order_body}
+use Rattle.mb_model.specs.owners.Regions.{empty_region, region_of}
+use Rattle.mb_model.specs.owners.Rules.{kind_of, change_of, Condition, layer_from_order, signing_layer}
+use Rattle.mb_model.specs.signatures.Signing.{public_of}
+use Rattle.mb_model.specs.machine.SignedTexts.{order_text, IsSignedBy}
+use Rattle.mb_model.specs.memories.Valid.{IsValidState, Valid}
 use Rattle.mb_model_lemmas.proofs.RegionLemmas.{at_upper}
 use Rattle.mb_model_lemmas.proofs.RuleLemmas.{ruled_are_layers}
 use Rattle.mb_model_lemmas.proofs.Splits.{some_same}

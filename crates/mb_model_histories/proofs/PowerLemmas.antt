@@ -13,11 +13,11 @@ use Rattle.mb_model.specs.declared.reply.Refusal.TheVariants.{WrongLayer}
 use Rattle.mb_model.specs.declared.reply.Reply.{Reply}
 use Rattle.mb_model.specs.declared.reply.Reply.TheVariants as reply
 use Rattle.mb_model.specs.declared.state.State.{State}
-use Rattle.mb_model.specs.LayerEvents.{Outcome, with_secret, put_event}
-use Rattle.mb_model.specs.Machine.{Phase, ratchet, World, Told, opening_world, status_event, running_state_in, Machine, LosesPower, may_be_cut, Step, machine_step, lacks_memory, loses_power, Run}
-use Rattle.mb_model.specs.Layers.{is_runnable}
-use Rattle.mb_model.specs.Refusals.{refusal_reply}
-use Rattle.mb_model.specs.Regions.{empty_region}
+use Rattle.mb_model.specs.machine.LayerEvents.{Outcome, with_secret, put_event}
+use Rattle.mb_model.specs.machine.Machine.{Phase, ratchet, World, Told, opening_world, status_event, running_state_in, Machine, LosesPower, may_be_cut, Step, machine_step, lacks_memory, loses_power, Run}
+use Rattle.mb_model.specs.owners.Layers.{is_runnable}
+use Rattle.mb_model.specs.machine.Refusals.{refusal_reply}
+use Rattle.mb_model.specs.owners.Regions.{empty_region}
 use Rattle.mb_model_lemmas.specs.RefusalLaws.{BringsBytes}
 use Rattle.mb_model_lemmas.proofs.LineLemmas.{cons_same}
 use Rattle.mb_model_lemmas.proofs.RefusalLemmas.{machine_is_whole, machine_is_function}

@@ -12,13 +12,13 @@ use Rattle.mb_model.specs.declared.region.Secret.{Secret}
 use Rattle.mb_model.specs.declared.reply.Refusal.{Refusal}
 use Rattle.mb_model.specs.declared.reply.Reply.TheVariants as reply
 use Rattle.mb_model.specs.declared.state.State.{State}
-use Rattle.mb_model.specs.Layers.{layer_without_owner, unowned_layers, is_runnable}
-use Rattle.mb_model.specs.LayerEvents.{Outcome, has_name, value_reply, get_event}
-use Rattle.mb_model.specs.Log.{entries_of, layers_of}
-use Rattle.mb_model.specs.Machine.{ratchet, World, Told, running_state_in, region_event, Step, machine_step, lacks_memory, loses_power}
-use Rattle.mb_model.specs.Regions.{empty_region, region_of, AdmittedSince}
-use Rattle.mb_model.specs.Rules.{Admits}
-use Rattle.mb_model.specs.Valid.{Valid}
+use Rattle.mb_model.specs.owners.Layers.{layer_without_owner, unowned_layers, is_runnable}
+use Rattle.mb_model.specs.machine.LayerEvents.{Outcome, has_name, value_reply, get_event}
+use Rattle.mb_model.specs.owners.Log.{entries_of, layers_of}
+use Rattle.mb_model.specs.machine.Machine.{ratchet, World, Told, running_state_in, region_event, Step, machine_step, lacks_memory, loses_power}
+use Rattle.mb_model.specs.owners.Regions.{empty_region, region_of, AdmittedSince}
+use Rattle.mb_model.specs.owners.Rules.{Admits}
+use Rattle.mb_model.specs.memories.Valid.{Valid}
 use Rattle.mb_model_lemmas.proofs.RefusalLemmas.{awake_state}
 use Rattle.mb_model_lemmas.proofs.Splits.{some_same}
 use Rattle.mb_model_histories.specs.OwnerLaws.{ReadsSecret, InvalidStatesReadMore}

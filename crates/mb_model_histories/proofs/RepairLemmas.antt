@@ -25,19 +25,20 @@ use Rattle.mb_model.specs.declared.reply.Reply.TheVariants as reply
 use Rattle.mb_model.specs.declared.state.State.{State}
 use Rattle.mb_model.specs.declared.state.View.{View}
 use Rattle.mb_model.specs.declared.tools.Keyfile.{Keyfile}
-use Rattle.mb_model.specs.Key.{IsSized}
-use Rattle.mb_model.specs.KeyFormat.{public_key_format}
-use Rattle.mb_model.specs.LayerFormat.{trust_format}
-use Rattle.mb_model.specs.Layers.{layer_of, is_layer_number, is_owned, is_upper, IsLayers}
-use Rattle.mb_model.specs.Log.{entries_of, layers_of}
-use Rattle.mb_model.specs.Machine.{Phase, off, dead as gone, ratchet, World, Told, opening_world, boot_event, Machine, LosesPower, Step, machine_step, lacks_memory, loses_power, Run}
-use Rattle.mb_model.specs.OrderChecks.{view_of, change_by, needs_succession, entries_needed, TargetHoldsIn, LogHasRoom, RegionHasRoom, IsSigned, IsCountersigned, Passes}
-use Rattle.mb_model.specs.OrderEffects.{state_after_order}
-use Rattle.mb_model.specs.OrderFormat.{order_body, act_by, differs_in, target_format, payload_format, body_format, sized_signature_format, countersignatures_format, order_format}
-use Rattle.mb_model.specs.Rules.{renews, kind_of, change_of, MayBeFor, Condition, signing_layer, layer_from_order}
-use Rattle.mb_model.specs.SignedOrders.{signed_order}
-use Rattle.mb_model.specs.SignedTexts.{order_text, IsSignedBy}
-use Rattle.mb_model.specs.Valid.{IsValidState}
+use Rattle.mb_model.specs.signatures.Key.{IsSized}
+use Rattle.mb_model.specs.records.KeyFormat.{public_key_format}
+use Rattle.mb_model.specs.records.LayerFormat.{trust_format}
+use Rattle.mb_model.specs.owners.Layers.{layer_of, is_layer_number, is_owned, is_upper, IsLayers}
+use Rattle.mb_model.specs.owners.Log.{entries_of, layers_of}
+use Rattle.mb_model.specs.machine.Machine.{Phase, off, dead as gone, ratchet, World, Told, opening_world, boot_event, Machine, LosesPower, Step, machine_step, lacks_memory, loses_power, Run}
+use Rattle.mb_model.specs.machine.OrderChecks.{view_of, change_by, needs_succession, entries_needed, TargetHoldsIn, LogHasRoom, RegionHasRoom, IsSigned, IsCountersigned, Passes}
+use Rattle.mb_model.specs.machine.OrderEffects.{state_after_order}
+use Rattle.mb_model.specs.records.OrderFormat.{order_body, act_by, differs_in, target_format, payload_format, body_format, sized_signature_format, countersignatures_format, order_format}
+use Rattle.mb_model.specs.owners.Rules.{renews, kind_of, change_of, MayBeFor, Condition, signing_layer}
+use Rattle.mb_model.specs.owners.Rules.{layer_from_order}
+use Rattle.mb_model.specs.machine.SignedOrders.{signed_order}
+use Rattle.mb_model.specs.machine.SignedTexts.{order_text, IsSignedBy}
+use Rattle.mb_model.specs.memories.Valid.{IsValidState}
 use Rattle.mb_model_lemmas.proofs.RuleLemmas.{ruled_are_layers}
 use Rattle.mb_model_lemmas.proofs.SignatureLemmas.{length-signature_of}
 use Rattle.mb_model_lemmas.proofs.Splits.{some_same}

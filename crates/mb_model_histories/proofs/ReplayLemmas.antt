@@ -7,13 +7,13 @@ use Rattle.mb_model.specs.declared.region.RegionKey.{RegionKey}
 use Rattle.mb_model.specs.declared.reply.Reply.{Reply}
 use Rattle.mb_model.specs.declared.reply.Reply.TheVariants as reply
 use Rattle.mb_model.specs.declared.state.State.{State}
-use Rattle.mb_model.specs.ChainFormat.{statement_format}
-use Rattle.mb_model.specs.Layers.{is_runnable, is_upper, Runnable}
-use Rattle.mb_model.specs.LayerEvents.{Outcome, on_region, has_number, sign_with, sign_event, statement_of}
-use Rattle.mb_model.specs.Log.{entries_of}
-use Rattle.mb_model.specs.Machine.{ratchet, World, opening_world, Step, machine_step}
-use Rattle.mb_model.specs.Regions.{region_of}
-use Rattle.mb_model.specs.Valid.{IsValidState}
+use Rattle.mb_model.specs.records.ChainFormat.{statement_format}
+use Rattle.mb_model.specs.owners.Layers.{is_runnable, is_upper, Runnable}
+use Rattle.mb_model.specs.machine.LayerEvents.{Outcome, on_region, has_number, sign_with, sign_event, statement_of}
+use Rattle.mb_model.specs.owners.Log.{entries_of}
+use Rattle.mb_model.specs.machine.Machine.{ratchet, World, opening_world, Step, machine_step}
+use Rattle.mb_model.specs.owners.Regions.{region_of}
+use Rattle.mb_model.specs.memories.Valid.{IsValidState}
 use Rattle.mb_model_lemmas.proofs.FateLemmas.{keys_increase, found_by_number}
 use Rattle.mb_model_lemmas.proofs.Splits.{All-from_splits}
 use Rattle.mb_model_lemmas.proofs.ValidStates.{valid_is_ruled, region_is_valid}

@@ -12,13 +12,13 @@ use Rattle.mb_model.specs.declared.reply.Refusal.TheVariants.{RegionFull, KeySpe
 use Rattle.mb_model.specs.declared.reply.Reply.{Reply}
 use Rattle.mb_model.specs.declared.reply.Reply.TheVariants as reply
 use Rattle.mb_model.specs.declared.state.State.{State}
-use Rattle.mb_model.specs.ChainFormat.{statement_format}
-use Rattle.mb_model.specs.LayerEvents.{Outcome, has_name, has_number, with_secret, with_use, value_reply, on_region, put_event, get_event, drop_event, sign_with, sign_event, statement_of}
-use Rattle.mb_model.specs.Layers.{is_runnable}
-use Rattle.mb_model.specs.Log.{entries_of, number_of}
-use Rattle.mb_model.specs.Machine.{Phase, off, dead, ratchet, World, Told, boot_event, running_state_in, status_event, go_event, region_event, CommandStep, Machine, Step, machine_step, lacks_memory, loses_power}
-use Rattle.mb_model.specs.Refusals.{refusal_reply}
-use Rattle.mb_model.specs.Regions.{empty_region, region_of, with_region}
+use Rattle.mb_model.specs.records.ChainFormat.{statement_format}
+use Rattle.mb_model.specs.machine.LayerEvents.{Outcome, has_name, has_number, with_secret, with_use, value_reply, on_region, put_event, get_event, drop_event, sign_with, sign_event, statement_of}
+use Rattle.mb_model.specs.owners.Layers.{is_runnable}
+use Rattle.mb_model.specs.owners.Log.{entries_of, number_of}
+use Rattle.mb_model.specs.machine.Machine.{Phase, off, dead, ratchet, World, Told, boot_event, running_state_in, status_event, go_event, region_event, CommandStep, Machine, Step, machine_step, lacks_memory, loses_power}
+use Rattle.mb_model.specs.machine.Refusals.{refusal_reply}
+use Rattle.mb_model.specs.owners.Regions.{empty_region, region_of, with_region}
 use Rattle.mb_model_lemmas.proofs.RefusalLemmas.{awake_state}
 use Rattle.mb_model_lemmas.proofs.Splits.{some_same}
 use Rattle.mb_model_histories.specs.SightLaws.{without_region_two, WhatIsBeneathIsOutOfSight, OutOfSightInRuns, LayerTwoSeesItsRegion}

@@ -7,10 +7,10 @@ use Rattle.mb_model.specs.declared.key.PublicKey.{PublicKey}
 use Rattle.mb_model.specs.declared.key.Tree.{Tree}
 use Rattle.mb_model.specs.declared.key.Tree.TheVariants.{H5, H10, H15, H20, H25}
 use Rattle.mb_model.specs.declared.entry.Entry.{Entry}
-use Rattle.mb_model.specs.Key.{tree_type, key_bytes}
-use Rattle.mb_model.specs.EntryFormat.{entry_format}
-use Rattle.mb_model.specs.OrderFormat.{Body, body_format}
-use Rattle.mb_model.specs.SignedTexts.{order_text, countersigned_text, entry_text, statement_text}
+use Rattle.mb_model.specs.signatures.Key.{tree_type, key_bytes}
+use Rattle.mb_model.specs.records.EntryFormat.{entry_format}
+use Rattle.mb_model.specs.records.OrderFormat.{Body, body_format}
+use Rattle.mb_model.specs.machine.SignedTexts.{order_text, countersigned_text, entry_text, statement_text}
 use Rattle.mb_model.proofs.EntryFormatLaws.{entry_exact}
 use Rattle.mb_model.proofs.KeyLemmas.{same_parts, word_same}
 use Rattle.mb_model.proofs.OrderFormatLaws.{body_exact}

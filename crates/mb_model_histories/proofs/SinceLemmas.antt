@@ -16,11 +16,11 @@ use Rattle.mb_model.specs.declared.region.Region.{Region}
 use Rattle.mb_model.specs.declared.region.RegionKey.{RegionKey}
 use Rattle.mb_model.specs.declared.region.Secret.{Secret}
 use Rattle.mb_model.specs.declared.state.State.{State}
-use Rattle.mb_model.specs.Layers.{layer_of, is_upper}
-use Rattle.mb_model.specs.Log.{figures_of, entries_of, keys_in, layers_in, last_of, number_of, layers_of, keys_made_by, AreFirst, ChangesRightly, Ruled, RuledLog}
-use Rattle.mb_model.specs.Regions.{empty_region, region_of, AdmittedSince, KeyAdmitted}
-use Rattle.mb_model.specs.Rules.{CanPlace, is_own_load, admits, Admits}
-use Rattle.mb_model.specs.Valid.{IsValidState}
+use Rattle.mb_model.specs.owners.Layers.{layer_of, is_upper}
+use Rattle.mb_model.specs.owners.Log.{figures_of, entries_of, keys_in, layers_in, last_of, number_of, layers_of, keys_made_by, AreFirst, ChangesRightly, Ruled, RuledLog}
+use Rattle.mb_model.specs.owners.Regions.{empty_region, region_of, AdmittedSince, KeyAdmitted}
+use Rattle.mb_model.specs.owners.Rules.{CanPlace, is_own_load, admits, Admits}
+use Rattle.mb_model.specs.memories.Valid.{IsValidState}
 use Rattle.mb_model_lemmas.proofs.LineLemmas.{cons_same}
 use Rattle.mb_model_lemmas.proofs.LogLemmas.{layers_of-push, number_of-append}
 use Rattle.mb_model_lemmas.proofs.RegionLemmas.{at_upper, layer_of-after}

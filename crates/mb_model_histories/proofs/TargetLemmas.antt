@@ -21,16 +21,17 @@ use Rattle.mb_model.specs.declared.reply.Refusal.{Refusal}
 use Rattle.mb_model.specs.declared.reply.Reply.{Reply}
 use Rattle.mb_model.specs.declared.reply.Reply.TheVariants as reply
 use Rattle.mb_model.specs.declared.state.State.{State}
-use Rattle.mb_model.specs.Layers.{layer_of, is_owned, is_layer_number}
-use Rattle.mb_model.specs.Listing.{is_done, replies_that}
-use Rattle.mb_model.specs.Log.{entries_of, number_of}
-use Rattle.mb_model.specs.Machine.{Phase, ratchet, World, opening_world, running_state, running_state_in, CommandStep, Step, machine_step, Run}
-use Rattle.mb_model.specs.OrderChecks.{view_of, change_by, needs_succession, entries_needed, IsCountersigned, LogHasRoom, RegionHasRoom, TargetHoldsIn, Passes}
-use Rattle.mb_model.specs.OrderEffects.{state_after_order}
-use Rattle.mb_model.specs.OrderFormat.{order_body, order_format}
-use Rattle.mb_model.specs.OrderStep.{OrderStep, is_obeyed}
-use Rattle.mb_model.specs.Rules.{kind_of, change_of, is_load, layer_from_order, loaded_layer, signing_layer, Condition}
-use Rattle.mb_model.specs.SignedTexts.{order_text, countersigned_text, IsSignedBy}
+use Rattle.mb_model.specs.owners.Layers.{layer_of, is_owned, is_layer_number}
+use Rattle.mb_model.specs.chains.Listing.{is_done, replies_that}
+use Rattle.mb_model.specs.owners.Log.{entries_of, number_of}
+use Rattle.mb_model.specs.machine.Machine.{Phase, ratchet, World, opening_world, running_state, running_state_in, CommandStep, Step, machine_step, Run}
+use Rattle.mb_model.specs.machine.OrderChecks.{view_of, change_by, needs_succession, entries_needed, IsCountersigned, LogHasRoom, RegionHasRoom, TargetHoldsIn, Passes}
+use Rattle.mb_model.specs.machine.OrderEffects.{state_after_order}
+use Rattle.mb_model.specs.records.OrderFormat.{order_body, order_format}
+use Rattle.mb_model.specs.machine.OrderStep.{OrderStep, is_obeyed}
+use Rattle.mb_model.specs.owners.Rules.{kind_of, change_of, is_load, layer_from_order, loaded_layer, signing_layer}
+use Rattle.mb_model.specs.owners.Rules.{Condition}
+use Rattle.mb_model.specs.machine.SignedTexts.{order_text, countersigned_text, IsSignedBy}
 use Rattle.mb_model_lemmas.proofs.Splits.{some_same}
 use Rattle.mb_model_runs.proofs.GrowthLemmas.{logs_grow}
 use Rattle.mb_model_runs.proofs.KeptByRuns.{IsKept, run_kept}

@@ -7,13 +7,13 @@ use Rattle.mb_format.specs.Format.{IsBytes}
 use Rattle.mb_model.specs.declared.event.Answered.{Answered}
 use Rattle.mb_model.specs.declared.event.Event.{Event}
 use Rattle.mb_model.specs.declared.state.State.{State}
-use Rattle.mb_model.specs.Board.{image_of, Held}
-use Rattle.mb_model.specs.Flash.{HoldsPublic}
-use Rattle.mb_model.specs.Machine.{opening_world}
-use Rattle.mb_model.specs.Meaning.{IsWellFormed}
-use Rattle.mb_model.specs.Migration.{IsMigrated, from_present, from_before}
-use Rattle.mb_model.specs.Runs.{IsSoundWorld}
-use Rattle.mb_model.specs.WrittenImage.{written_image, FitsImage}
+use Rattle.mb_model.specs.outside.Board.{image_of, Held}
+use Rattle.mb_model.specs.memories.Flash.{HoldsPublic}
+use Rattle.mb_model.specs.machine.Machine.{opening_world}
+use Rattle.mb_model.specs.memories.Meaning.{IsWellFormed}
+use Rattle.mb_model.specs.memories.Migration.{IsMigrated, from_present, from_before}
+use Rattle.mb_model.specs.machine.Runs.{IsSoundWorld}
+use Rattle.mb_model.specs.memories.WrittenImage.{written_image, FitsImage}
 use Rattle.mb_model_commands.specs.Inputs.{Image}
 use Rattle.mb_model_commands.specs.RunCommand.{IsServed}
 use Rattle.mb_model_lemmas.proofs.FaultLemmas.{well_formed_stands_for_one}

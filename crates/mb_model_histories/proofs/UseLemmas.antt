@@ -20,22 +20,22 @@ use Rattle.mb_model.specs.declared.reply.Reply.{Reply}
 use Rattle.mb_model.specs.declared.reply.Reply.TheVariants as reply
 use Rattle.mb_model.specs.declared.state.State.{State}
 use Rattle.mb_model.specs.declared.tools.Keyfile.{Keyfile}
-use Rattle.mb_model.specs.Acceptance.{IsBornOf, report_of, Honest}
-use Rattle.mb_model.specs.ChainFormat.{chain_format}
-use Rattle.mb_model.specs.EntryFormat.{key_kind_format}
-use Rattle.mb_model.specs.Factory.{state_at_birth}
-use Rattle.mb_model.specs.LayerEvents.{statement_of}
-use Rattle.mb_model.specs.Layers.{equal_trusts, layer_of, is_runnable, IsLayers, Runnable}
-use Rattle.mb_model.specs.Log.{entries_of, number_of, layers_of, serial_of}
-use Rattle.mb_model.specs.Machine.{World, opening_world, Step}
-use Rattle.mb_model.specs.OrderChecks.{view_of, needs_succession}
-use Rattle.mb_model.specs.OrderEffects.{key_made, state_after_succession, state_after_change, state_after_new_key, state_after_order, ready_for}
-use Rattle.mb_model.specs.Regions.{empty_region, region_of}
-use Rattle.mb_model.specs.Script.{IsScriptEvent}
-use Rattle.mb_model.specs.SignedOrders.{keyfile_after_use}
-use Rattle.mb_model.specs.SignedTexts.{statement_text}
-use Rattle.mb_model.specs.Signing.{public_of}
-use Rattle.mb_model.specs.Valid.{IsValidState, Valid}
+use Rattle.mb_model.specs.chains.Acceptance.{IsBornOf, report_of, Honest}
+use Rattle.mb_model.specs.records.ChainFormat.{chain_format}
+use Rattle.mb_model.specs.records.EntryFormat.{key_kind_format}
+use Rattle.mb_model.specs.memories.Factory.{state_at_birth}
+use Rattle.mb_model.specs.machine.LayerEvents.{statement_of}
+use Rattle.mb_model.specs.owners.Layers.{equal_trusts, layer_of, is_runnable, IsLayers, Runnable}
+use Rattle.mb_model.specs.owners.Log.{entries_of, number_of, layers_of, serial_of}
+use Rattle.mb_model.specs.machine.Machine.{World, opening_world, Step}
+use Rattle.mb_model.specs.machine.OrderChecks.{view_of, needs_succession}
+use Rattle.mb_model.specs.machine.OrderEffects.{key_made, state_after_succession, state_after_change, state_after_new_key, state_after_order, ready_for}
+use Rattle.mb_model.specs.owners.Regions.{empty_region, region_of}
+use Rattle.mb_model.specs.chains.Script.{IsScriptEvent}
+use Rattle.mb_model.specs.machine.SignedOrders.{keyfile_after_use}
+use Rattle.mb_model.specs.machine.SignedTexts.{statement_text}
+use Rattle.mb_model.specs.signatures.Signing.{public_of}
+use Rattle.mb_model.specs.memories.Valid.{IsValidState, Valid}
 use Rattle.mb_model_lemmas.proofs.FactoryLemmas.{birth_is_valid}
 use Rattle.mb_model_lemmas.proofs.RuleLemmas.{ruled_are_layers}
 use Rattle.mb_model_lemmas.proofs.SignatureLemmas.{public_sized}

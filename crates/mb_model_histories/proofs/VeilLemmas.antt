@@ -24,15 +24,15 @@ use Rattle.mb_model.specs.declared.reply.Refusal.TheVariants.{WrongLayer, Zerois
 use Rattle.mb_model.specs.declared.reply.Reply.{Reply}
 use Rattle.mb_model.specs.declared.reply.Reply.TheVariants as reply
 use Rattle.mb_model.specs.declared.state.State.{State}
-use Rattle.mb_model.specs.Layers.{is_runnable}
-use Rattle.mb_model.specs.LayerEvents.{Outcome, has_name, with_secret, value_reply, get_event}
-use Rattle.mb_model.specs.Machine.{Phase, off, dead, ratchet, World, Told, Machine, Step, Run}
-use Rattle.mb_model.specs.OrderChecks.{view_of, needs_succession}
-use Rattle.mb_model.specs.OrderEffects.{cosigners_of, state_after_succession, state_after_change, state_after_new_key, state_after_act, state_after_order, ready_for, key_made}
-use Rattle.mb_model.specs.OrderStep.{OrderStep, spells_none, fails_check, is_obeyed}
-use Rattle.mb_model.specs.Refusals.{refusal_reply}
-use Rattle.mb_model.specs.Regions.{empty_region, region_of, with_region, region_after, without_configuration_keys, with_key}
-use Rattle.mb_model.specs.Rules.{admits}
+use Rattle.mb_model.specs.owners.Layers.{is_runnable}
+use Rattle.mb_model.specs.machine.LayerEvents.{Outcome, has_name, with_secret, value_reply, get_event}
+use Rattle.mb_model.specs.machine.Machine.{Phase, off, dead, ratchet, World, Told, Machine, Step, Run}
+use Rattle.mb_model.specs.machine.OrderChecks.{view_of, needs_succession}
+use Rattle.mb_model.specs.machine.OrderEffects.{cosigners_of, state_after_succession, state_after_change, state_after_new_key, state_after_act, state_after_order, ready_for, key_made}
+use Rattle.mb_model.specs.machine.OrderStep.{OrderStep, spells_none, fails_check, is_obeyed}
+use Rattle.mb_model.specs.machine.Refusals.{refusal_reply}
+use Rattle.mb_model.specs.owners.Regions.{empty_region, region_of, with_region, region_after, without_configuration_keys, with_key}
+use Rattle.mb_model.specs.owners.Rules.{admits}
 use Rattle.mb_model_lemmas.specs.RefusalLaws.{BringsBytes}
 use Rattle.mb_model_lemmas.proofs.ValidRegions.{filter-map}
 use Rattle.mb_model_histories.specs.SightLaws.{HiddenSecrets, veiled_value, veiled_secret, veiled_region, veiled_state, veiled_world, veiled_event, veiled_answered, asks_hidden, HiddenValuesAreNotSeen, HiddenValuesAreNotSeenInRuns, HiddenValuesChangeNoAnswer, AskedValuesAreSeen}

@@ -13,17 +13,17 @@ use Rattle.mb_model.specs.declared.reply.Reply.TheVariants as reply
 use Rattle.mb_model.specs.declared.state.Configuration.{Configuration}
 use Rattle.mb_model.specs.declared.state.Report.{Report}
 use Rattle.mb_model.specs.declared.state.State.{State}
-use Rattle.mb_model.specs.Acceptance.{IsBornOf, KeyEntry, key_of, Accepts, Honest}
-use Rattle.mb_model.specs.ChainFormat.{chain_format}
-use Rattle.mb_model.specs.LayerEvents.{statement_of}
-use Rattle.mb_model.specs.Layers.{Runnable}
-use Rattle.mb_model.specs.Lives.{configuration}
-use Rattle.mb_model.specs.Log.{entries_of, number_of, serial_of}
-use Rattle.mb_model.specs.Machine.{ratchet, World, Step}
-use Rattle.mb_model.specs.Merkle.{Verifies}
-use Rattle.mb_model.specs.Regions.{region_of}
-use Rattle.mb_model.specs.SignedTexts.{statement_text}
-use Rattle.mb_model.specs.Valid.{AreNamed, IsValidState, Valid}
+use Rattle.mb_model.specs.chains.Acceptance.{IsBornOf, KeyEntry, key_of, Accepts, Honest}
+use Rattle.mb_model.specs.records.ChainFormat.{chain_format}
+use Rattle.mb_model.specs.machine.LayerEvents.{statement_of}
+use Rattle.mb_model.specs.owners.Layers.{Runnable}
+use Rattle.mb_model.specs.owners.Lives.{configuration}
+use Rattle.mb_model.specs.owners.Log.{entries_of, number_of, serial_of}
+use Rattle.mb_model.specs.machine.Machine.{ratchet, World, Step}
+use Rattle.mb_model.specs.signatures.Merkle.{Verifies}
+use Rattle.mb_model.specs.owners.Regions.{region_of}
+use Rattle.mb_model.specs.machine.SignedTexts.{statement_text}
+use Rattle.mb_model.specs.memories.Valid.{AreNamed, IsValidState, Valid}
 use Rattle.mb_model_histories.specs.Histories.{ComesAfter}
 
 -- Between two worlds of a history, at one event, a key with this number signs this text.

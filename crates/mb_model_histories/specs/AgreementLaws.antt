@@ -12,14 +12,14 @@ use Rattle.mb_model.specs.declared.state.Configuration.{Configuration}
 use Rattle.mb_model.specs.declared.state.Report.{Report}
 use Rattle.mb_model.specs.declared.state.State.{State}
 use Rattle.mb_model.specs.declared.tools.Keyfile.{Keyfile}
-use Rattle.mb_model.specs.Acceptance.{AreGood, Accepts, Honest}
-use Rattle.mb_model.specs.Lives.{lives_of}
-use Rattle.mb_model.specs.Log.{device_in, entries_of, serial_of, RuledLog}
-use Rattle.mb_model.specs.Machine.{World}
-use Rattle.mb_model.specs.Merkle.{Verifies}
-use Rattle.mb_model.specs.OrderEffects.{state_after_order}
-use Rattle.mb_model.specs.SignedTexts.{entry_text}
-use Rattle.mb_model.specs.Valid.{EachFollows, IsValidState}
+use Rattle.mb_model.specs.chains.Acceptance.{AreGood, Accepts, Honest}
+use Rattle.mb_model.specs.owners.Lives.{lives_of}
+use Rattle.mb_model.specs.owners.Log.{device_in, entries_of, serial_of, RuledLog}
+use Rattle.mb_model.specs.machine.Machine.{World}
+use Rattle.mb_model.specs.signatures.Merkle.{Verifies}
+use Rattle.mb_model.specs.machine.OrderEffects.{state_after_order}
+use Rattle.mb_model.specs.machine.SignedTexts.{entry_text}
+use Rattle.mb_model.specs.memories.Valid.{EachFollows, IsValidState}
 use Rattle.mb_model_histories.specs.RepairLaws.{CanBeLoaded, CanBeGiven, HasKeyOf, plain_order}
 
 -- the first list of entries is a prefix of the second, which may be equal

@@ -4,7 +4,7 @@ use Rattle.mb_model.specs.declared.event.Answered.{Answered}
 use Rattle.mb_model.specs.declared.event.Event.TheVariants as event
 use Rattle.mb_model.specs.declared.reply.Reply.TheVariants as reply
 use Rattle.mb_model.specs.declared.state.State.{State}
-use Rattle.mb_model.specs.Machine.{World, opening_world, Run}
+use Rattle.mb_model.specs.machine.Machine.{World, opening_world, Run}
 
 -- Runs of a device one after another, from one state to another: each begins with power off and no power loss armed,
 -- from the state in which the one before it ended.

@@ -10,18 +10,18 @@ use Rattle.mb_model.specs.declared.key.PublicKey.{PublicKey}
 use Rattle.mb_model.specs.declared.region.RegionKey.{RegionKey}
 use Rattle.mb_model.specs.declared.reply.Reply.TheVariants as reply
 use Rattle.mb_model.specs.declared.state.State.{State}
-use Rattle.mb_model.specs.Acceptance.{IsBornOf}
-use Rattle.mb_model.specs.Board.{image_of, Held}
-use Rattle.mb_model.specs.Factory.{state_at_birth, IsFactoryImage}
-use Rattle.mb_model.specs.Layers.{Runnable}
-use Rattle.mb_model.specs.Machine.{World, opening_world, Run}
-use Rattle.mb_model.specs.Meaning.{IsWellFormed}
-use Rattle.mb_model.specs.Migration.{IsMigrated}
-use Rattle.mb_model.specs.Regions.{region_of}
-use Rattle.mb_model.specs.Runs.{BeginsWith, IsSignedAt, SignsStatementsOnce, SignsAfterUses, StaysAccepted}
-use Rattle.mb_model.specs.Script.{IsScriptEvent}
-use Rattle.mb_model.specs.Signing.{public_of}
-use Rattle.mb_model.specs.Valid.{IsValidState, Valid}
+use Rattle.mb_model.specs.chains.Acceptance.{IsBornOf}
+use Rattle.mb_model.specs.outside.Board.{image_of, Held}
+use Rattle.mb_model.specs.memories.Factory.{state_at_birth, IsFactoryImage}
+use Rattle.mb_model.specs.owners.Layers.{Runnable}
+use Rattle.mb_model.specs.machine.Machine.{World, opening_world, Run}
+use Rattle.mb_model.specs.memories.Meaning.{IsWellFormed}
+use Rattle.mb_model.specs.memories.Migration.{IsMigrated}
+use Rattle.mb_model.specs.owners.Regions.{region_of}
+use Rattle.mb_model.specs.machine.Runs.{BeginsWith, IsSignedAt, SignsStatementsOnce, SignsAfterUses, StaysAccepted}
+use Rattle.mb_model.specs.chains.Script.{IsScriptEvent}
+use Rattle.mb_model.specs.signatures.Signing.{public_of}
+use Rattle.mb_model.specs.memories.Valid.{IsValidState, Valid}
 use Rattle.mb_model_commands.specs.Inputs.{Image}
 use Rattle.mb_model_commands.specs.RunCommand.{IsServed}
 use Rattle.mb_model_histories.specs.Histories.{History, all_answered, ComesAfter, IsJoined}

@@ -10,9 +10,9 @@ use Rattle.mb_model.specs.declared.limits.TheConstants.{ENTRY_LIMIT}
 use Rattle.mb_model.specs.declared.region.RegionKey.{RegionKey}
 use Rattle.mb_model.specs.declared.separators.TheConstants.{KEY_SECRET, OFFICER_SECRET}
 use Rattle.mb_model.specs.declared.state.State.{State}
-use Rattle.mb_model.specs.Born.{born_key, officer_key}
-use Rattle.mb_model.specs.Factory.{state_at_birth}
-use Rattle.mb_model.specs.Regions.{region_of}
+use Rattle.mb_model.specs.owners.Born.{born_key, officer_key}
+use Rattle.mb_model.specs.memories.Factory.{state_at_birth}
+use Rattle.mb_model.specs.owners.Regions.{region_of}
 use Rattle.mb_model_histories.specs.Histories.{History}
 
 -- ---- the texts that keys are derived from

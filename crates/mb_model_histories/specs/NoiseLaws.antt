@@ -24,13 +24,13 @@ use Rattle.mb_model.specs.declared.reply.Reply.{Reply}
 use Rattle.mb_model.specs.declared.reply.Reply.TheVariants as reply
 use Rattle.mb_model.specs.declared.state.State.{State}
 use Rattle.mb_model.specs.declared.state.View.{View}
-use Rattle.mb_model.specs.Log.{entries_of, keys_made_by}
-use Rattle.mb_model.specs.Machine.{World, Run}
-use Rattle.mb_model.specs.OrderChecks.{view_of, change_by, needs_succession}
-use Rattle.mb_model.specs.OrderEffects.{state_after_order}
-use Rattle.mb_model.specs.OrderFormat.{order_format}
-use Rattle.mb_model.specs.OrderStep.{OrderStep}
-use Rattle.mb_model.specs.Rules.{renews}
+use Rattle.mb_model.specs.owners.Log.{entries_of, keys_made_by}
+use Rattle.mb_model.specs.machine.Machine.{World, Run}
+use Rattle.mb_model.specs.machine.OrderChecks.{view_of, change_by, needs_succession}
+use Rattle.mb_model.specs.machine.OrderEffects.{state_after_order}
+use Rattle.mb_model.specs.records.OrderFormat.{order_format}
+use Rattle.mb_model.specs.machine.OrderStep.{OrderStep}
+use Rattle.mb_model.specs.owners.Rules.{renews}
 use Rattle.mb_model_lemmas.specs.RefusalLaws.{BringsBytes}
 use Rattle.mb_model_histories.specs.Histories.{ComesAfter}
 use Rattle.mb_model_histories.specs.KeyLaws.{Collide, device_key_text}

@@ -6,12 +6,12 @@ use Rattle.mb_model.specs.declared.event.Event.TheVariants.{Command, Put, Drop, 
 use Rattle.mb_model.specs.declared.layer.Layer.{Layer}
 use Rattle.mb_model.specs.declared.order.Order.{Order}
 use Rattle.mb_model.specs.declared.state.State.{State}
-use Rattle.mb_model.specs.Layers.{layer_of, Runnable}
-use Rattle.mb_model.specs.Machine.{ratchet, World}
-use Rattle.mb_model.specs.OrderChecks.{view_of, IsSigned, Passes}
-use Rattle.mb_model.specs.OrderEffects.{state_after_order}
-use Rattle.mb_model.specs.OrderFormat.{order_format}
-use Rattle.mb_model.specs.Rules.{layer_from_order}
+use Rattle.mb_model.specs.owners.Layers.{layer_of, Runnable}
+use Rattle.mb_model.specs.machine.Machine.{ratchet, World}
+use Rattle.mb_model.specs.machine.OrderChecks.{view_of, IsSigned, Passes}
+use Rattle.mb_model.specs.machine.OrderEffects.{state_after_order}
+use Rattle.mb_model.specs.records.OrderFormat.{order_format}
+use Rattle.mb_model.specs.owners.Rules.{layer_from_order}
 
 -- At this event, while layer 1 runs, the order passes, and what it leaves is the state of the next world. Whether the
 -- device answered so, or lost power after it had written, is left open.

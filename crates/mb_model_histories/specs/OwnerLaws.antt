@@ -16,14 +16,14 @@ use Rattle.mb_model.specs.declared.reply.Reply.TheVariants as reply
 use Rattle.mb_model.specs.declared.state.Codes.{Codes}
 use Rattle.mb_model.specs.declared.state.State.{State}
 use Rattle.mb_model.specs.declared.tools.Keyfile.{Keyfile}
-use Rattle.mb_model.specs.Layers.{layer_of, is_upper, Runnable}
-use Rattle.mb_model.specs.Log.{entries_of, number_of, layers_of, keys_made_by}
-use Rattle.mb_model.specs.Machine.{ratchet, World, Step}
-use Rattle.mb_model.specs.Merkle.{Verifies}
-use Rattle.mb_model.specs.OrderFormat.{order_body}
-use Rattle.mb_model.specs.Regions.{region_of, AdmittedSince}
-use Rattle.mb_model.specs.SignedTexts.{order_text}
-use Rattle.mb_model.specs.Valid.{IsValidState, Valid}
+use Rattle.mb_model.specs.owners.Layers.{layer_of, is_upper, Runnable}
+use Rattle.mb_model.specs.owners.Log.{entries_of, number_of, layers_of, keys_made_by}
+use Rattle.mb_model.specs.machine.Machine.{ratchet, World, Step}
+use Rattle.mb_model.specs.signatures.Merkle.{Verifies}
+use Rattle.mb_model.specs.records.OrderFormat.{order_body}
+use Rattle.mb_model.specs.owners.Regions.{region_of, AdmittedSince}
+use Rattle.mb_model.specs.machine.SignedTexts.{order_text}
+use Rattle.mb_model.specs.memories.Valid.{IsValidState, Valid}
 use Rattle.mb_model_histories.specs.Histories.{ComesAfter}
 use Rattle.mb_model_histories.specs.ObeyedOrders.{ObeysAt, KeepsAllButRegions, ActsOnRegion, Becomes}
 use Rattle.mb_model_histories.specs.RepairLaws.{plain_order, CanBeGiven, HasKeyOf}

@@ -8,9 +8,9 @@ use Rattle.mb_model.specs.declared.event.Tear.{Tear}
 use Rattle.mb_model.specs.declared.reply.Reply.{Reply}
 use Rattle.mb_model.specs.declared.reply.Reply.TheVariants as reply
 use Rattle.mb_model.specs.declared.state.State.{State}
-use Rattle.mb_model.specs.Layers.{is_runnable}
-use Rattle.mb_model.specs.Machine.{ratchet, World, opening_world, Machine, Step, Run, may_be_cut}
-use Rattle.mb_model.specs.Regions.{empty_region}
+use Rattle.mb_model.specs.owners.Layers.{is_runnable}
+use Rattle.mb_model.specs.machine.Machine.{ratchet, World, opening_world, Machine, Step, Run, may_be_cut}
+use Rattle.mb_model.specs.owners.Regions.{empty_region}
 use Rattle.mb_model_lemmas.specs.RefusalLaws.{BringsBytes}
 
 -- ---- runs without power losses and want of memory

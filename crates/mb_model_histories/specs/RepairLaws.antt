@@ -18,18 +18,18 @@ use Rattle.mb_model.specs.declared.reply.Reply.{Reply}
 use Rattle.mb_model.specs.declared.reply.Reply.TheVariants as reply
 use Rattle.mb_model.specs.declared.state.State.{State}
 use Rattle.mb_model.specs.declared.tools.Keyfile.{Keyfile}
-use Rattle.mb_model.specs.Key.{IsSized}
-use Rattle.mb_model.specs.Layers.{layer_of, is_upper, is_owned}
-use Rattle.mb_model.specs.Log.{entries_of, number_of, uses_of_device_key}
-use Rattle.mb_model.specs.Machine.{off, ratchet, World, opening_world, Step}
-use Rattle.mb_model.specs.OrderChecks.{view_of, change_by, Passes}
-use Rattle.mb_model.specs.OrderEffects.{state_after_order}
-use Rattle.mb_model.specs.OrderFormat.{order_body, order_format}
-use Rattle.mb_model.specs.Rules.{renews, layer_from_order}
-use Rattle.mb_model.specs.SignedOrders.{signed_order}
-use Rattle.mb_model.specs.SignedTexts.{order_text, IsSignedBy}
-use Rattle.mb_model.specs.Signing.{public_of}
-use Rattle.mb_model.specs.Valid.{IsValidState}
+use Rattle.mb_model.specs.signatures.Key.{IsSized}
+use Rattle.mb_model.specs.owners.Layers.{layer_of, is_upper, is_owned}
+use Rattle.mb_model.specs.owners.Log.{entries_of, number_of, uses_of_device_key}
+use Rattle.mb_model.specs.machine.Machine.{off, ratchet, World, opening_world, Step}
+use Rattle.mb_model.specs.machine.OrderChecks.{view_of, change_by, Passes}
+use Rattle.mb_model.specs.machine.OrderEffects.{state_after_order}
+use Rattle.mb_model.specs.records.OrderFormat.{order_body, order_format}
+use Rattle.mb_model.specs.owners.Rules.{renews, layer_from_order}
+use Rattle.mb_model.specs.machine.SignedOrders.{signed_order}
+use Rattle.mb_model.specs.machine.SignedTexts.{order_text, IsSignedBy}
+use Rattle.mb_model.specs.signatures.Signing.{public_of}
+use Rattle.mb_model.specs.memories.Valid.{IsValidState}
 use Rattle.mb_model_histories.specs.Histories.{ComesAfter}
 use Rattle.mb_model_histories.specs.ObeyedOrders.{ObeysAt}
 use Rattle.mb_model_histories.specs.PowerLaws.{SmoothRun, power_off}

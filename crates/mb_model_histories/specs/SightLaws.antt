@@ -11,11 +11,11 @@ use Rattle.mb_model.specs.declared.reply.Reply.{Reply}
 use Rattle.mb_model.specs.declared.reply.Reply.TheVariants as reply
 use Rattle.mb_model.specs.declared.state.State.{State}
 use Rattle.mb_model.specs.declared.entry.Chain.{Chain}
-use Rattle.mb_model.specs.DeviceChains.{IsChainOf}
-use Rattle.mb_model.specs.LayerEvents.{has_name}
-use Rattle.mb_model.specs.Layers.{is_runnable}
-use Rattle.mb_model.specs.Machine.{ratchet, World, Machine, Step, Run}
-use Rattle.mb_model.specs.Regions.{empty_region}
+use Rattle.mb_model.specs.chains.DeviceChains.{IsChainOf}
+use Rattle.mb_model.specs.machine.LayerEvents.{has_name}
+use Rattle.mb_model.specs.owners.Layers.{is_runnable}
+use Rattle.mb_model.specs.machine.Machine.{ratchet, World, Machine, Step, Run}
+use Rattle.mb_model.specs.owners.Regions.{empty_region}
 use Rattle.mb_model_commands.specs.ChainCommands.{ChainNames, chain_of}
 use Rattle.mb_model_commands.specs.Commands.{Past, Ended, CommandEnds}
 use Rattle.mb_model_lemmas.specs.RefusalLaws.{BringsBytes}

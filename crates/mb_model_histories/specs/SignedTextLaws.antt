@@ -6,10 +6,10 @@ use Rattle.mb_format.specs.Combinators.{limit}
 use Rattle.mb_model.specs.declared.separators.TheConstants.{ORDER_TEXT, COUNTERSIGNED_TEXT, ENTRY_TEXT, STATEMENT_TEXT}
 use Rattle.mb_model.specs.declared.key.PublicKey.{PublicKey}
 use Rattle.mb_model.specs.declared.entry.Entry.{Entry}
-use Rattle.mb_model.specs.Key.{key_bytes}
-use Rattle.mb_model.specs.EntryFormat.{entry_format}
-use Rattle.mb_model.specs.OrderFormat.{Body, body_format}
-use Rattle.mb_model.specs.SignedTexts.{order_text, countersigned_text, entry_text, statement_text}
+use Rattle.mb_model.specs.signatures.Key.{key_bytes}
+use Rattle.mb_model.specs.records.EntryFormat.{entry_format}
+use Rattle.mb_model.specs.records.OrderFormat.{Body, body_format}
+use Rattle.mb_model.specs.machine.SignedTexts.{order_text, countersigned_text, entry_text, statement_text}
 
 -- What is signed: by the owner in charge, all of an order but its signatures; the same for the layer of a
 -- countersignature; an entry of a log; a message, with the serial of the device, the number of the region's key and the

@@ -12,14 +12,14 @@ use Rattle.mb_model.specs.declared.order.Payload.{Payload}
 use Rattle.mb_model.specs.declared.order.Target.TheVariants.{Serial, Length}
 use Rattle.mb_model.specs.declared.state.State.{State}
 use Rattle.mb_model.specs.declared.tools.Keyfile.{Keyfile}
-use Rattle.mb_model.specs.Listing.{is_done, replies_that}
-use Rattle.mb_model.specs.Machine.{ratchet, World, Run}
-use Rattle.mb_model.specs.OrderChecks.{view_of, change_by, LogHasRoom, Passes}
-use Rattle.mb_model.specs.OrderEffects.{state_after_order}
-use Rattle.mb_model.specs.OrderFormat.{order_format}
-use Rattle.mb_model.specs.Rules.{is_load, renews}
-use Rattle.mb_model.specs.SignedOrders.{signed_order}
-use Rattle.mb_model.specs.Valid.{IsValidState}
+use Rattle.mb_model.specs.chains.Listing.{is_done, replies_that}
+use Rattle.mb_model.specs.machine.Machine.{ratchet, World, Run}
+use Rattle.mb_model.specs.machine.OrderChecks.{view_of, change_by, LogHasRoom, Passes}
+use Rattle.mb_model.specs.machine.OrderEffects.{state_after_order}
+use Rattle.mb_model.specs.records.OrderFormat.{order_format}
+use Rattle.mb_model.specs.owners.Rules.{is_load, renews}
+use Rattle.mb_model.specs.machine.SignedOrders.{signed_order}
+use Rattle.mb_model.specs.memories.Valid.{IsValidState}
 use Rattle.mb_model_histories.specs.Histories.{History, all_answered, ComesAfter}
 use Rattle.mb_model_histories.specs.ObeyedOrders.{ObeysAt}
 use Rattle.mb_model_histories.specs.RepairLaws.{plain_order, HasKeyOf}

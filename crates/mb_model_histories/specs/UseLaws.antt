@@ -10,14 +10,14 @@ use Rattle.mb_model.specs.declared.region.RegionKey.{RegionKey}
 use Rattle.mb_model.specs.declared.state.Report.{Report}
 use Rattle.mb_model.specs.declared.state.State.{State}
 use Rattle.mb_model.specs.declared.tools.Keyfile.{Keyfile}
-use Rattle.mb_model.specs.Acceptance.{Accepts, Honest}
-use Rattle.mb_model.specs.Factory.{state_at_birth, IsFactoryImage}
-use Rattle.mb_model.specs.Layers.{Runnable}
-use Rattle.mb_model.specs.Log.{entries_of}
-use Rattle.mb_model.specs.Machine.{World, opening_world}
-use Rattle.mb_model.specs.Regions.{region_of}
-use Rattle.mb_model.specs.Script.{IsScriptEvent, FitsMessage}
-use Rattle.mb_model.specs.Signing.{public_of}
+use Rattle.mb_model.specs.chains.Acceptance.{Accepts, Honest}
+use Rattle.mb_model.specs.memories.Factory.{state_at_birth, IsFactoryImage}
+use Rattle.mb_model.specs.owners.Layers.{Runnable}
+use Rattle.mb_model.specs.owners.Log.{entries_of}
+use Rattle.mb_model.specs.machine.Machine.{World, opening_world}
+use Rattle.mb_model.specs.owners.Regions.{region_of}
+use Rattle.mb_model.specs.chains.Script.{IsScriptEvent, FitsMessage}
+use Rattle.mb_model.specs.signatures.Signing.{public_of}
 use Rattle.mb_model_histories.specs.AcceptanceLaws.{HonestStatement}
 use Rattle.mb_model_histories.specs.Histories.{History, all_answered, ComesAfter}
 use Rattle.mb_model_histories.specs.RepairLaws.{CanBeLoaded}

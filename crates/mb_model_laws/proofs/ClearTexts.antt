@@ -2,10 +2,10 @@
 use Rattle.std.proofs.Common.{◌≡◌, ℕ, ◌+◌, List, [], ◌∷◌, ◌++◌, length, refl, sym, subst, ◌∙◌, append_assoc, rules}
 use Rattle.std.specs.Prelude.{codes}
 use Rattle.std.proofs.lemmas.List.{append-nil}
-use Rattle.mb_model.specs.Lines.{IsBeginning, FailsAtLine, bad_line, ends_early}
-use Rattle.mb_model.specs.Script.{IsScript}
-use Rattle.mb_model.specs.Drafts.{IsDraft}
-use Rattle.mb_model.specs.OrderLines.{IsOrderLine, IsStatementLine}
+use Rattle.mb_model.specs.chains.Lines.{IsBeginning, FailsAtLine, bad_line, ends_early}
+use Rattle.mb_model.specs.chains.Script.{IsScript}
+use Rattle.mb_model.specs.chains.Drafts.{IsDraft}
+use Rattle.mb_model.specs.chains.OrderLines.{IsOrderLine, IsStatementLine}
 use Rattle.mb_model_laws.specs.TextLaws.{IsClearText}
 use Rattle.mb_model_lemmas.specs.SampleOrder.{surrender, surrender_line}
 use Rattle.mb_model_lemmas.proofs.LineLemmas.{HasLines-same, HasLines-always, FailsAtLine-same, FailsAtLine-none}

@@ -11,15 +11,15 @@ use Rattle.mb_model.specs.declared.reply.Reply.{Reply}
 use Rattle.mb_model.specs.declared.reply.Reply.TheVariants as reply
 use Rattle.mb_model.specs.declared.reply.Standing.{Standing}
 use Rattle.mb_model.specs.declared.reply.Standing.TheVariants as stands
-use Rattle.mb_model.specs.Texts.{IsHex}
-use Rattle.mb_model.specs.Lines.{hex_word}
+use Rattle.mb_model.specs.outside.Texts.{IsHex}
+use Rattle.mb_model.specs.chains.Lines.{hex_word}
 use Rattle.mb_model.specs.declared.reply.Refusal.{Refusal}
 use Rattle.mb_model.specs.declared.reply.Refusal.TheVariants.{PoweredOff, WrongPhase, Zeroised, WrongLayer}
 use Rattle.mb_model.specs.declared.reply.Refusal.TheVariants.{RegionFull, NoSuchKey, KeySpent, BadText, WrongTarget}
 use Rattle.mb_model.specs.declared.reply.Refusal.TheVariants.{WrongState, WrongSignature, WrongCountersignature}
 use Rattle.mb_model.specs.declared.reply.Refusal.TheVariants.{LogFull, KeysFull}
-use Rattle.mb_model.specs.Refusals.{refusal_reply}
-use Rattle.mb_model.specs.Replies.{HasLine, standing_word, refusal_words, reply_line}
+use Rattle.mb_model.specs.machine.Refusals.{refusal_reply}
+use Rattle.mb_model.specs.chains.Replies.{HasLine, standing_word, refusal_words, reply_line}
 use Rattle.mb_model_laws.specs.TextLaws.{IsReplyInRange}
 use Rattle.mb_model_lemmas.proofs.LineLemmas.{Without, isnt, first_same}
 use Rattle.mb_model_lemmas.proofs.WordLemmas.{number_front, limited_fits, IsHex-same, hex_word-read}

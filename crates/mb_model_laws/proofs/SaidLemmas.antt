@@ -8,8 +8,8 @@ use Rattle.hex.specs.Hex.{IsBytes}
 use Rattle.mb_model.specs.declared.event.Event.{Event}
 use Rattle.mb_model.specs.declared.event.Event.TheVariants as event
 use Rattle.mb_model.specs.declared.event.Tear.{Tear}
-use Rattle.mb_model.specs.Lines.{spaced_words, hex_word}
-use Rattle.mb_model.specs.Script.{IsTear, IsCut, IsScriptEvent, IsCutLine, EndsInHex, SaysEvent}
+use Rattle.mb_model.specs.chains.Lines.{spaced_words, hex_word}
+use Rattle.mb_model.specs.chains.Script.{IsTear, IsCut, IsScriptEvent, IsCutLine, EndsInHex, SaysEvent}
 use Rattle.mb_model_lemmas.proofs.WordLemmas.{hex_word-read}
 use Rattle.mb_model_laws.specs.TextLaws.{HoldsBytes, undrawn}
 

@@ -1,7 +1,7 @@
 -- Slots of a flash in segments stand one after another, numbered by twice their layer and their number.
 use Rattle.std.proofs.Common.{◌≡◌, ℕ, ◌+◌, ◌*◌, ◌<◌, ◌≤◌, ◌⊎◌, Bool, true, false, ltb, refl, inl, inr, arith}
 use Rattle.std.proofs.lemmas.Bool.{ltb-true, ltb-false}
-use Rattle.mb_model.specs.Sectors.{code_sector}
+use Rattle.mb_model.specs.memories.Sectors.{code_sector}
 use Rattle.mb_model_laws.specs.SectorLaws.{IsSlotOf, SlotsAreApart, SlotsAreBetween}
 
 ends_before : (layer slot other_layer other_slot : ℕ) → IsSlotOf layer slot → IsSlotOf other_layer other_slot

@@ -6,9 +6,9 @@ use Rattle.mb_model.specs.declared.key.Trust.{Trust}
 use Rattle.mb_model.specs.declared.entry.Entry.{Entry}
 use Rattle.mb_model.specs.declared.entry.Entry.TheVariants.{Birth, Change, NewKey, Succession}
 use Rattle.mb_model.specs.declared.layer.Trusts.{Trusts}
-use Rattle.mb_model.specs.LayerFormat.{layer_format}
-use Rattle.mb_model.specs.Rules.{is_load, lets_load_in}
-use Rattle.mb_model.specs.Log.{figures_of, is_version_two, has_version_two, Ruled}
+use Rattle.mb_model.specs.records.LayerFormat.{layer_format}
+use Rattle.mb_model.specs.owners.Rules.{is_load, lets_load_in}
+use Rattle.mb_model.specs.owners.Log.{figures_of, is_version_two, has_version_two, Ruled}
 use Rattle.mb_model_laws.specs.TrustLaws.{EqualTrustsAreOneTrust, version_in, VersionsOnlyRise, VersionOneHasEqualTrusts}
 
 pub equal_trusts_are_one : EqualTrustsAreOneTrust

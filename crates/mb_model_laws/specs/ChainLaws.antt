@@ -7,11 +7,11 @@ use Rattle.mb_model.specs.declared.entry.Entry.{Entry}
 use Rattle.mb_model.specs.declared.entry.SignedEntry.{SignedEntry}
 use Rattle.mb_model.specs.declared.state.Report.{Report}
 use Rattle.mb_model.specs.declared.state.State.{State}
-use Rattle.mb_model.specs.Log.{entries_of, RuledLog}
-use Rattle.mb_model.specs.Lives.{lives_of}
-use Rattle.mb_model.specs.Valid.{EachFollows, IsValidState}
-use Rattle.mb_model.specs.Acceptance.{ChainRefusal, Accepts, IsRefused, Verdict, IsVerdict, Honest}
-use Rattle.mb_model.specs.DeviceChains.{IsAudited}
+use Rattle.mb_model.specs.owners.Log.{entries_of, RuledLog}
+use Rattle.mb_model.specs.owners.Lives.{lives_of}
+use Rattle.mb_model.specs.memories.Valid.{EachFollows, IsValidState}
+use Rattle.mb_model.specs.chains.Acceptance.{ChainRefusal, Accepts, IsRefused, Verdict, IsVerdict, Honest}
+use Rattle.mb_model.specs.chains.DeviceChains.{IsAudited}
 
 -- bytes are never both accepted and refused
 abbrev pub NeverBoth : Type 0

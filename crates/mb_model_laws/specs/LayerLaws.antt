@@ -9,11 +9,12 @@ use Rattle.mb_model.specs.declared.order.ChangeKind.{ChangeKind}
 use Rattle.mb_model.specs.declared.region.Region.{Region}
 use Rattle.mb_model.specs.declared.region.RegionKey.{RegionKey}
 use Rattle.mb_model.specs.declared.order.KeyKind.{KeyKind}
-use Rattle.mb_model.specs.Layers.{layer_of, is_upper, IsLayers, Runnable}
-use Rattle.mb_model.specs.Rules.{kind_of, change_of, Condition, CanPlace, layer_from_order, after}
-use Rattle.mb_model.specs.Log.{is_change, layers_in, device_in, number_of, layers_of, device_of, uses_of_device_key}
-use Rattle.mb_model.specs.Log.{RuledLog}
-use Rattle.mb_model.specs.Regions.{empty_region, region_after, with_key, AdmittedSince, RegionKeptRightly}
+use Rattle.mb_model.specs.owners.Layers.{layer_of, is_upper, IsLayers, Runnable}
+use Rattle.mb_model.specs.owners.Rules.{kind_of, change_of, Condition, CanPlace, layer_from_order, after}
+use Rattle.mb_model.specs.owners.Log.{is_change, layers_in, device_in, number_of, layers_of, device_of}
+use Rattle.mb_model.specs.owners.Log.{uses_of_device_key}
+use Rattle.mb_model.specs.owners.Log.{RuledLog}
+use Rattle.mb_model.specs.owners.Regions.{empty_region, region_after, with_key, AdmittedSince, RegionKeptRightly}
 use Rattle.mb_model.specs.declared.entry.Entry.{Entry}
 use Rattle.mb_model.specs.declared.entry.Entry.TheVariants.{Change, NewKey}
 

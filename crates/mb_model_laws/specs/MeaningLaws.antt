@@ -4,13 +4,13 @@ use Rattle.mb_format.specs.Format.{IsBytes}
 use Rattle.mb_model.specs.declared.key.KeySeed.{KeySeed}
 use Rattle.mb_model.specs.declared.key.PublicKey.{PublicKey}
 use Rattle.mb_model.specs.declared.state.State.{State}
-use Rattle.mb_model.specs.Log.{entries_of, layers_of}
-use Rattle.mb_model.specs.Memory.{IsBlank}
-use Rattle.mb_model.specs.Flash.{HoldsPublic}
-use Rattle.mb_model.specs.Meaning.{Contents, FlashForm, HoldsContents, StandsFor, IsWellFormedBy, IsWellFormed}
-use Rattle.mb_model.specs.Faults.{Fault, HasFaultBy}
-use Rattle.mb_model.specs.Clean.{root_of, IsCleanFor, Clean}
-use Rattle.mb_model.specs.Factory.{state_at_birth, IsFactoryImage}
+use Rattle.mb_model.specs.owners.Log.{entries_of, layers_of}
+use Rattle.mb_model.specs.memories.Memory.{IsBlank}
+use Rattle.mb_model.specs.memories.Flash.{HoldsPublic}
+use Rattle.mb_model.specs.memories.Meaning.{Contents, FlashForm, HoldsContents, StandsFor, IsWellFormedBy, IsWellFormed}
+use Rattle.mb_model.specs.memories.Faults.{Fault, HasFaultBy}
+use Rattle.mb_model.specs.memories.Clean.{root_of, IsCleanFor, Clean}
+use Rattle.mb_model.specs.memories.Factory.{state_at_birth, IsFactoryImage}
 
 -- ---- memories
 

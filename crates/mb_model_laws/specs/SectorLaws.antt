@@ -1,6 +1,6 @@
 -- Laws of where things stand in a flash in segments. Can a write to one of them change another?
 use Rattle.std.specs.Prelude.{◌≡◌, ℕ, ◌+◌, ◌<◌, ◌≤◌, ◌⊎◌}
-use Rattle.mb_model.specs.Sectors.{header_sector, code_sector, log_sector}
+use Rattle.mb_model.specs.memories.Sectors.{header_sector, code_sector, log_sector}
 
 -- each of layers 1 to 3 has a slot 1 and a slot 2
 pub record IsSlotOf (layer slot : ℕ) : Type 0 where

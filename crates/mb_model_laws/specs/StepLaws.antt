@@ -5,9 +5,9 @@ use Rattle.mb_model.specs.declared.event.Answered.{Answered}
 use Rattle.mb_model.specs.declared.reply.Reply.{Reply}
 use Rattle.mb_model.specs.declared.order.Order.{Order}
 use Rattle.mb_model.specs.declared.state.State.{State}
-use Rattle.mb_model.specs.OrderEffects.{log_with, ready_for, own_entry, state_after_order}
-use Rattle.mb_model.specs.Machine.{World, Step, Run}
-use Rattle.mb_model.specs.Valid.{Valid}
+use Rattle.mb_model.specs.machine.OrderEffects.{log_with, ready_for, own_entry, state_after_order}
+use Rattle.mb_model.specs.machine.Machine.{World, Step, Run}
+use Rattle.mb_model.specs.memories.Valid.{Valid}
 
 -- each step from a valid state leads to a valid state
 abbrev pub StepsStayValid : Type 0

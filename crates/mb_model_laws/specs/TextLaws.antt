@@ -8,12 +8,13 @@ use Rattle.mb_model.specs.declared.reply.Reply.TheVariants as reply
 use Rattle.mb_model.specs.declared.order.Order.{Order}
 use Rattle.mb_model.specs.declared.entry.Statement.{Statement}
 use Rattle.mb_model.specs.declared.reply.Refusal.{Refusal}
-use Rattle.mb_model.specs.Refusals.{refusal_reply}
-use Rattle.mb_model.specs.Replies.{HasLine, reply_line}
-use Rattle.mb_model.specs.OrderLines.{IsOrderLine, IsStatementLine}
-use Rattle.mb_model.specs.Texts.{IsHex}
-use Rattle.mb_model.specs.Lines.{HasLines, hex_word, number_limit, FailsAtLine, ReadsLines, TextFailsAtLine}
-use Rattle.mb_model.specs.Script.{IsScriptEvent, SaysEvent, is_skipped, IsScript, drawn_event, drawn_events, Drawn}
+use Rattle.mb_model.specs.machine.Refusals.{refusal_reply}
+use Rattle.mb_model.specs.chains.Replies.{HasLine, reply_line}
+use Rattle.mb_model.specs.chains.OrderLines.{IsOrderLine, IsStatementLine}
+use Rattle.mb_model.specs.outside.Texts.{IsHex}
+use Rattle.mb_model.specs.chains.Lines.{HasLines, hex_word, number_limit, FailsAtLine, ReadsLines, TextFailsAtLine}
+use Rattle.mb_model.specs.chains.Script.{IsScriptEvent, SaysEvent, is_skipped, IsScript, drawn_event, drawn_events}
+use Rattle.mb_model.specs.chains.Script.{Drawn}
 use Rattle.mb_model_commands.specs.Workload.{generator_words, Draws, DrawnInOrder}
 
 -- A text means one value, or one line of it is the first that is wrong: never two of either, never both, never neither.

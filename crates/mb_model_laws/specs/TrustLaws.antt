@@ -9,11 +9,11 @@ use Rattle.mb_model.specs.declared.layer.Trusts.{Trusts}
 use Rattle.mb_model.specs.declared.order.ChangeKind.{ChangeKind}
 use Rattle.mb_model.specs.declared.entry.Entry.{Entry}
 use Rattle.mb_model.specs.declared.entry.Entry.TheVariants.{Birth, Change, NewKey, Succession}
-use Rattle.mb_model.specs.Layers.{are_equal}
-use Rattle.mb_model.specs.Rules.{admits}
-use Rattle.mb_model.specs.Log.{is_version_two, RuledLog}
-use Rattle.mb_model.specs.LayerFormat.{layer_format}
-use Rattle.mb_model.specs.OrderFormat.{given_trusts}
+use Rattle.mb_model.specs.owners.Layers.{are_equal}
+use Rattle.mb_model.specs.owners.Rules.{admits}
+use Rattle.mb_model.specs.owners.Log.{is_version_two, RuledLog}
+use Rattle.mb_model.specs.records.LayerFormat.{layer_format}
+use Rattle.mb_model.specs.records.OrderFormat.{given_trusts}
 
 -- with equal trusts layer 3 admits a change of layer 1 exactly if it would admit the same change of layer 2
 abbrev pub EqualTrustsAreOneTrust : Type 0

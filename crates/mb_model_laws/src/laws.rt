@@ -1,8 +1,8 @@
 //! Laws of the layers, their rules and the log: what the definitions give.
 
 ghost use Rattle.std.specs.Prelude.{◌≤◌, List, length, ◌≢◌, []};
-ghost use Rattle.mb_model.specs.Layers.{IsLayers};
-ghost use Rattle.mb_model.specs.Log.{number_of, layers_of, uses_of_device_key, keys_made_by, RuledLog};
+ghost use Rattle.mb_model.specs.owners.Layers.{IsLayers};
+ghost use Rattle.mb_model.specs.owners.Log.{number_of, layers_of, uses_of_device_key, keys_made_by, RuledLog};
 ghost use Rattle.mb_model_laws.specs.LayerLaws.{RunnableLayersAreReliable, ReliableLayersRun, OrdersPlaceWhatEntriesShow, EntriesShowWhatOrdersPlace, LayersStayLayers, UnreliableRegionsAreEmpty, LastLayersCount, LastDeviceCounts, UsedAfterTheLast, ChangesKeepRightly, NewKeysKeepRightly, OtherEntriesKeepRightly, NowIsAdmitted};
 ghost use Rattle.mb_model.specs.declared.entry.Entry.{Entry};
 

@@ -1,7 +1,7 @@
 //! Laws of what a memory means.
 
 ghost use Rattle.mb_model_laws.specs.MeaningLaws.{HoldsOneContents, StandsForOne, OneFaultBy, WellFormedHasNoFaultBy, WellFormedOrFaultyBy, WellFormedStandsForOneBy, OneFault, WellFormedHasNoFault, WellFormedOrFaulty, WellFormedStandsForOne, CleanStandsForIt, BlankIsDead, FactoryImageIsWellFormed};
-ghost use Rattle.mb_model.specs.OldFlash.{HeldPublic};
+ghost use Rattle.mb_model.specs.memories.OldFlash.{HeldPublic};
 ghost use Rattle.mb_model_lemmas.specs.FormLaws.{HoldsOnePublic, HoldsFittingParts};
 ghost use Rattle.mb_model_lemmas.specs.ImageLaws.{WrittenMemoriesAreSized, WrittenMemoryIsClean, WrittenImagesAreWellFormed};
 

@@ -2,9 +2,9 @@
 
 ghost use Rattle.std.specs.Prelude.{◌≡◌, ℕ, List, length};
 ghost use Rattle.mb_model.specs.declared.key.KeySeed.{KeySeed};
-ghost use Rattle.mb_model.specs.Key.{IsSized};
-ghost use Rattle.mb_model.specs.Signing.{public_of, signature_of};
-ghost use Rattle.mb_model.specs.Born.{born_key, officer_key};
+ghost use Rattle.mb_model.specs.signatures.Key.{IsSized};
+ghost use Rattle.mb_model.specs.signatures.Signing.{public_of, signature_of};
+ghost use Rattle.mb_model.specs.owners.Born.{born_key, officer_key};
 ghost use Rattle.mb_model_lemmas.specs.SigningLaws.{SignaturesVerify, SignaturesBearTheirIndex, LeavesAreOfOneTimeKeys, InnerNodesHashTwo, IsSizedSeed};
 
 /// What a key's seed signs at an index of its tree verifies under its public key.

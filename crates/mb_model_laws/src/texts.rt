@@ -1,8 +1,8 @@
 //! Laws of texts: what their lines mean.
 
-ghost use Rattle.mb_model.specs.Script.{IsScript};
-ghost use Rattle.mb_model.specs.Drafts.{IsDraft};
-ghost use Rattle.mb_model.specs.OrderLines.{IsOrderLine, IsStatementLine};
+ghost use Rattle.mb_model.specs.chains.Script.{IsScript};
+ghost use Rattle.mb_model.specs.chains.Drafts.{IsDraft};
+ghost use Rattle.mb_model.specs.chains.OrderLines.{IsOrderLine, IsStatementLine};
 ghost use Rattle.mb_model_laws.specs.TextLaws.{IsClearText, SomeLines, OneListOfLines, WordsAreReadBack, ScriptsGiveScriptEvents, ScriptEventsAreSaid, DrawsKeepScriptEvents, DrawsInTurn, DrawsKeepCount, TooManyEvents, SecondOrderLine, SecondStatementLine, FirstOrderLine, RepliesDiffer, RefusalsHaveWords, OneWorkload};
 
 /// Each text has one list of lines.

@@ -8,11 +8,11 @@ use Rattle.mb_model.specs.declared.order.Order.{Order}
 use Rattle.mb_model.specs.declared.entry.Entry.{Entry}
 use Rattle.mb_model.specs.declared.state.State.{State}
 use Rattle.mb_model.specs.declared.state.View.{View}
-use Rattle.mb_model.specs.Rules.{kind_of, change_of, renews}
-use Rattle.mb_model.specs.Log.{entries_of, number_of, uses_of_device_key, keys_made_by}
-use Rattle.mb_model.specs.OrderChecks.{view_of, succession_is_due, needs_succession}
-use Rattle.mb_model.specs.OrderEffects.{fact_of, names_next, next_key, layers_after, entry_of, succession_entry, device_after, uses_after, state_after_succession, state_after_change, state_after_new_key, ready_for, state_after_act, state_after_order}
-use Rattle.mb_model.specs.Work.{after_succession, ready_by, first_by, bodies_for, bodies_by}
+use Rattle.mb_model.specs.owners.Rules.{kind_of, change_of, renews}
+use Rattle.mb_model.specs.owners.Log.{entries_of, number_of, uses_of_device_key, keys_made_by}
+use Rattle.mb_model.specs.machine.OrderChecks.{view_of, succession_is_due, needs_succession}
+use Rattle.mb_model.specs.machine.OrderEffects.{fact_of, names_next, next_key, layers_after, entry_of, succession_entry, device_after, uses_after, state_after_succession, state_after_change, state_after_new_key, ready_for, state_after_act, state_after_order}
+use Rattle.mb_model.specs.machine.Work.{after_succession, ready_by, first_by, bodies_for, bodies_by}
 use Rattle.mb_model_lemmas.proofs.LogLemmas.{number_of-push, used-push, made-push}
 use Rattle.mb_model_lemmas.proofs.ValidLogs.{entries_of-signed}
 

@@ -15,8 +15,8 @@ use Rattle.mb_model.specs.declared.order.KeyKind.{KeyKind}
 use Rattle.mb_model.specs.declared.entry.Entry.{Entry}
 use Rattle.mb_model.specs.declared.entry.Entry.TheVariants.{Birth, Change, NewKey, Succession}
 use Rattle.mb_model.specs.declared.state.Configuration.{Configuration}
-use Rattle.mb_model.specs.Log.{figures_of, keys_in, layers_of, keys_made_by, Ruled, RuledLog}
-use Rattle.mb_model.specs.Lives.{ends_keys, Alive, configuration, Split, with_front, splits, configurations_opened_by, configurations_outlived_by, lives_from, lives_of, MadeKey, lasting_keys_of, alive_keys}
+use Rattle.mb_model.specs.owners.Log.{figures_of, keys_in, layers_of, keys_made_by, Ruled, RuledLog}
+use Rattle.mb_model.specs.owners.Lives.{ends_keys, Alive, configuration, Split, with_front, splits, configurations_opened_by, configurations_outlived_by, lives_from, lives_of, MadeKey, lasting_keys_of, alive_keys}
 use Rattle.mb_model_lemmas.specs.AliveLaws.{goes_on, made_by, makes, IsUnmade}
 use Rattle.mb_model_lemmas.proofs.LogLemmas.{made-push, by_entries, RuledLog-front}
 

@@ -10,9 +10,9 @@ use Rattle.mb_format.specs.Combinators.{items, times, limit}
 use Rattle.mb_model.specs.declared.entry.Chain.{Chain}
 use Rattle.mb_model.specs.declared.entry.SignedEntry.{SignedEntry}
 use Rattle.mb_model.specs.declared.entry.Statement.{Statement}
-use Rattle.mb_model.specs.EntryFormat.{signed_entry_format}
-use Rattle.mb_model.specs.ChainFormat.{statement_format, chain_format}
-use Rattle.mb_model.specs.Attach.{is_change_above, cut_at, stated_chain}
+use Rattle.mb_model.specs.records.EntryFormat.{signed_entry_format}
+use Rattle.mb_model.specs.records.ChainFormat.{statement_format, chain_format}
+use Rattle.mb_model.specs.chains.Attach.{is_change_above, cut_at, stated_chain}
 
 pub statement_allowed : (number : ℕ) (message signature : List ℕ) → number < limit w32 → length message ≤ 128 → length signature ≡ 2348
     → statement_format.Allowed (record { number = number; message = message; signature = signature })

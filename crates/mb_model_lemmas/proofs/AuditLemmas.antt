@@ -8,12 +8,12 @@ use Rattle.mb_model.specs.declared.entry.Chain.{Chain}
 use Rattle.mb_model.specs.declared.entry.Entry.{Entry}
 use Rattle.mb_model.specs.declared.state.Report.{Report}
 use Rattle.mb_model.specs.declared.state.State.{State}
-use Rattle.mb_model.specs.Log.{entries_of}
-use Rattle.mb_model.specs.Lives.{lives_of}
-use Rattle.mb_model.specs.ChainFormat.{chain_format}
-use Rattle.mb_model.specs.Valid.{IsValidState}
-use Rattle.mb_model.specs.Acceptance.{Verdict, IsVerdict, Accepts, Honest}
-use Rattle.mb_model.specs.DeviceChains.{own_lives, TellsOfDevice, IsAudited}
+use Rattle.mb_model.specs.owners.Log.{entries_of}
+use Rattle.mb_model.specs.owners.Lives.{lives_of}
+use Rattle.mb_model.specs.records.ChainFormat.{chain_format}
+use Rattle.mb_model.specs.memories.Valid.{IsValidState}
+use Rattle.mb_model.specs.chains.Acceptance.{Verdict, IsVerdict, Accepts, Honest}
+use Rattle.mb_model.specs.chains.DeviceChains.{own_lives, TellsOfDevice, IsAudited}
 use Rattle.mb_model.proofs.EntryFormatLaws.{chain_exact}
 use Rattle.mb_model_lemmas.proofs.ChainLemmas.{honest_is_front}
 use Rattle.mb_model_lemmas.proofs.LogLemmas.{length-entries_of}

@@ -14,13 +14,13 @@ use Rattle.mb_model.specs.declared.entry.SignedEntry.{SignedEntry}
 use Rattle.mb_model.specs.declared.entry.Statement.{Statement}
 use Rattle.mb_model.specs.declared.state.Figures.{Figures}
 use Rattle.mb_model.specs.declared.state.Report.{Report}
-use Rattle.mb_model.specs.Merkle.{Verifies}
-use Rattle.mb_model.specs.Log.{figures_of, entries_of, device_in, last_of, number_of, device_of, StandsAt, Ruled, RuledLog}
-use Rattle.mb_model.specs.Lives.{lives_of}
-use Rattle.mb_model.specs.ChainFormat.{chain_format}
-use Rattle.mb_model.specs.SignedTexts.{entry_text, IsSignedBy}
-use Rattle.mb_model.specs.Valid.{EachFollows}
-use Rattle.mb_model.specs.Acceptance.{ChainRefusal, bad_form, bad_signature, bad_order, breaks_rules, key_unknown, bad_statement, wrong_number, key_ended, in_charge, IsCertified, IsInPlace, IsGood, AreGood, IsNext, KeyEntry, key_of, is_alive, IsStated, IfStatement, IsCurrent, IsGoodFor, report_of, Accepts, IsRefused, Honest}
+use Rattle.mb_model.specs.signatures.Merkle.{Verifies}
+use Rattle.mb_model.specs.owners.Log.{figures_of, entries_of, device_in, last_of, number_of, device_of, StandsAt, Ruled, RuledLog}
+use Rattle.mb_model.specs.owners.Lives.{lives_of}
+use Rattle.mb_model.specs.records.ChainFormat.{chain_format}
+use Rattle.mb_model.specs.machine.SignedTexts.{entry_text, IsSignedBy}
+use Rattle.mb_model.specs.memories.Valid.{EachFollows}
+use Rattle.mb_model.specs.chains.Acceptance.{ChainRefusal, bad_form, bad_signature, bad_order, breaks_rules, key_unknown, bad_statement, wrong_number, key_ended, in_charge, IsCertified, IsInPlace, IsGood, AreGood, IsNext, KeyEntry, key_of, is_alive, IsStated, IfStatement, IsCurrent, IsGoodFor, report_of, Accepts, IsRefused, Honest}
 use Rattle.mb_model.proofs.EntryFormatLaws.{chain_exact}
 use Rattle.mb_model_lemmas.proofs.LogLemmas.{split_push}
 use Rattle.mb_model_lemmas.proofs.Splits.{same_halves, two_splits, map_split, IsOne, one_more, Lacks, one_lacks, lacks_none, some_same, none_is_some}

@@ -12,18 +12,18 @@ use Rattle.mb_model.specs.declared.order.KeyKind.{KeyKind}
 use Rattle.mb_model.specs.declared.order.KeyKind.TheVariants as kinds
 use Rattle.mb_model.specs.declared.order.OrderKind.{OrderKind}
 use Rattle.mb_model.specs.declared.order.Payload.{Payload}
-use Rattle.mb_model.specs.Rules.{kind_of, MayBeFor}
+use Rattle.mb_model.specs.owners.Rules.{kind_of, MayBeFor}
 use Rattle.mb_model.specs.declared.order.Act.{Act}
 use Rattle.mb_model.specs.declared.order.Act.TheVariants as act
 use Rattle.mb_model.specs.declared.order.Target.{Target}
 use Rattle.mb_model.specs.declared.order.Target.TheVariants as target
 use Rattle.mb_model.specs.declared.order.Order.{Order}
-use Rattle.mb_model.specs.Key.{key_bytes}
-use Rattle.mb_model.specs.Layers.{is_layer_number}
-use Rattle.mb_model.specs.Lines.{spaced_words}
+use Rattle.mb_model.specs.signatures.Key.{key_bytes}
+use Rattle.mb_model.specs.owners.Layers.{is_layer_number}
+use Rattle.mb_model.specs.chains.Lines.{spaced_words}
 use Rattle.mb_model.specs.declared.layer.Trusts.{Trusts}
-use Rattle.mb_model.specs.Layers.{equal_trusts}
-use Rattle.mb_model.specs.Drafts.{trust_word, trust_line, trusts_line, SaysTrusts, kind_word, version_line, order_words, SaysTarget, AreLoadLines, AreOwnerLines, SayAct, IsDraft}
+use Rattle.mb_model.specs.owners.Layers.{equal_trusts}
+use Rattle.mb_model.specs.chains.Drafts.{trust_word, trust_line, trusts_line, SaysTrusts, kind_word, version_line, order_words, SaysTarget, AreLoadLines, AreOwnerLines, SayAct, IsDraft}
 use Rattle.mb_model.proofs.KeyLemmas.{key_bytes-same}
 use Rattle.mb_model_lemmas.specs.SampleOrder.{surrender}
 use Rattle.mb_model_lemmas.proofs.LineLemmas.{cons_same}

@@ -6,7 +6,8 @@ use Rattle.std.proofs.lemmas.List.Elements.{All-nil, All-cons, All-head, All-tai
 use Rattle.std.proofs.lemmas.List.Sums.{sum_by-append}
 use Rattle.mb_model.specs.declared.event.Event.{Event}
 use Rattle.mb_model.specs.declared.event.Event.TheVariants as event
-use Rattle.mb_model.specs.Script.{IsScriptEvent, with_before, is_command, commands_in, drawn_event, drawn_events, Drawn}
+use Rattle.mb_model.specs.chains.Script.{IsScriptEvent, with_before, is_command, commands_in, drawn_event, drawn_events}
+use Rattle.mb_model.specs.chains.Script.{Drawn}
 use Rattle.mb_model.proofs.Places.{length-part}
 
 map_map : {X Y Z : Type 0} (f : Y → Z) (g : X → Y) (xs : List X) → map f (map g xs) ≡ map (λ x. f (g x)) xs

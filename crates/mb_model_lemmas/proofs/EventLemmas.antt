@@ -8,9 +8,9 @@ use Rattle.std.proofs.lemmas.List.Elements.{filter-append}
 use Rattle.mb_model.specs.declared.event.Event.{Event}
 use Rattle.mb_model.specs.declared.event.Event.TheVariants as event
 use Rattle.mb_model.specs.declared.event.Tear.{Tear}
-use Rattle.mb_model.specs.Lines.{spaced_words, FailsAtLine}
-use Rattle.mb_model.specs.Layers.{is_upper}
-use Rattle.mb_model.specs.Script.{tear_of, IsName, IsCutLine, EndsInHex, SaysEvent, is_skipped, IsScript}
+use Rattle.mb_model.specs.chains.Lines.{spaced_words, FailsAtLine}
+use Rattle.mb_model.specs.owners.Layers.{is_upper}
+use Rattle.mb_model.specs.chains.Script.{tear_of, IsName, IsCutLine, EndsInHex, SaysEvent, is_skipped, IsScript}
 use Rattle.mb_model_lemmas.proofs.LineLemmas.{cons_same, first_same, IsBeginning-all, bad_after}
 use Rattle.mb_model_lemmas.proofs.WordLemmas.{number_front, upper_fits, limited_fits, name_spaceless, IsHex-same}
 

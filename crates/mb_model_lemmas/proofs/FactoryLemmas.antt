@@ -5,14 +5,14 @@ use Rattle.mb_model.specs.declared.entry.SignedEntry.{SignedEntry}
 use Rattle.mb_model.specs.declared.key.KeySeed.{KeySeed}
 use Rattle.mb_model.specs.declared.key.PublicKey.{PublicKey}
 use Rattle.mb_model.specs.declared.state.State.{State}
-use Rattle.mb_model.specs.Log.{figures_of, entries_of, last_of, layers_of, device_of, serial_of, uses_of_device_key, has_version_two}
-use Rattle.mb_model.specs.Lives.{splits, alive_keys}
-use Rattle.mb_model.specs.Regions.{empty_region}
-use Rattle.mb_model.specs.OrderEffects.{entry_signed_by}
-use Rattle.mb_model.specs.Valid.{Follows, EachFollows, IsValidRegion, IsValidState}
-use Rattle.mb_model.specs.Meaning.{IsWellFormed}
+use Rattle.mb_model.specs.owners.Log.{figures_of, entries_of, last_of, layers_of, device_of, serial_of, uses_of_device_key, has_version_two}
+use Rattle.mb_model.specs.owners.Lives.{splits, alive_keys}
+use Rattle.mb_model.specs.owners.Regions.{empty_region}
+use Rattle.mb_model.specs.machine.OrderEffects.{entry_signed_by}
+use Rattle.mb_model.specs.memories.Valid.{Follows, EachFollows, IsValidRegion, IsValidState}
+use Rattle.mb_model.specs.memories.Meaning.{IsWellFormed}
 use Rattle.mb_model_lemmas.proofs.RuleLemmas.{version_two_may_follow}
-use Rattle.mb_model.specs.Factory.{layers_at_birth, birth_entry, state_at_birth, IsFactoryImage}
+use Rattle.mb_model.specs.memories.Factory.{layers_at_birth, birth_entry, state_at_birth, IsFactoryImage}
 use Rattle.mb_model_lemmas.proofs.WrittenImages.{written_is_well_formed}
 
 -- ---- the state

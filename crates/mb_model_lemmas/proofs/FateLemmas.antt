@@ -14,14 +14,14 @@ use Rattle.mb_model.specs.declared.region.Region.{Region}
 use Rattle.mb_model.specs.declared.region.RegionKey.{RegionKey}
 use Rattle.mb_model.specs.declared.stored.Fate.{Fate}
 use Rattle.mb_model.specs.declared.stored.Fate.TheVariants.{Keep, Empty, DropConfiguration, AddKey}
-use Rattle.mb_model.specs.Rules.{admits}
-use Rattle.mb_model.specs.Log.{keys_made_by, RuledLog}
-use Rattle.mb_model.specs.Lives.{MadeKey, alive_keys}
-use Rattle.mb_model.specs.Regions.{empty_region, is_epoch, without_configuration_keys, region_after, with_key}
-use Rattle.mb_model.specs.LayerEvents.{has_number, with_use}
-use Rattle.mb_model.specs.Meaning.{region_after_fate}
-use Rattle.mb_model.specs.Valid.{as_made}
-use Rattle.mb_model.specs.Fates.{change_fate}
+use Rattle.mb_model.specs.owners.Rules.{admits}
+use Rattle.mb_model.specs.owners.Log.{keys_made_by, RuledLog}
+use Rattle.mb_model.specs.owners.Lives.{MadeKey, alive_keys}
+use Rattle.mb_model.specs.owners.Regions.{empty_region, is_epoch, without_configuration_keys, region_after, with_key}
+use Rattle.mb_model.specs.machine.LayerEvents.{has_number, with_use}
+use Rattle.mb_model.specs.memories.Meaning.{region_after_fate}
+use Rattle.mb_model.specs.memories.Valid.{as_made}
+use Rattle.mb_model.specs.machine.Fates.{change_fate}
 use Rattle.mb_model_lemmas.proofs.AliveLemmas.{alive_increase, alive_below}
 
 -- ---- numbers

@@ -13,16 +13,17 @@ use Rattle.mb_model.specs.declared.region.Region.{Region}
 use Rattle.mb_model.specs.declared.region.RegionKey.{RegionKey}
 use Rattle.mb_model.specs.declared.state.State.{State}
 use Rattle.mb_model.specs.declared.stored.Fate.TheVariants.{AddKey}
-use Rattle.mb_model.specs.Layers.{is_upper}
-use Rattle.mb_model.specs.Log.{entries_of, keys_made_by, RuledLog}
-use Rattle.mb_model.specs.Lives.{Alive, MadeKey}
-use Rattle.mb_model.specs.Regions.{with_key}
-use Rattle.mb_model.specs.Signing.{public_of}
-use Rattle.mb_model.specs.OrderChecks.{view_of}
-use Rattle.mb_model.specs.OrderEffects.{next_key, key_made, cosigners_of, state_after_change, state_after_new_key}
-use Rattle.mb_model.specs.Meaning.{region_after_fate}
-use Rattle.mb_model.specs.Valid.{as_made, IsValidRegion}
-use Rattle.mb_model.specs.Fates.{change_fate, key_fate}
+use Rattle.mb_model.specs.owners.Layers.{is_upper}
+use Rattle.mb_model.specs.owners.Log.{entries_of, keys_made_by, RuledLog}
+use Rattle.mb_model.specs.owners.Lives.{Alive, MadeKey}
+use Rattle.mb_model.specs.owners.Regions.{with_key}
+use Rattle.mb_model.specs.signatures.Signing.{public_of}
+use Rattle.mb_model.specs.machine.OrderChecks.{view_of}
+use Rattle.mb_model.specs.machine.OrderEffects.{next_key, key_made, cosigners_of, state_after_change}
+use Rattle.mb_model.specs.machine.OrderEffects.{state_after_new_key}
+use Rattle.mb_model.specs.memories.Meaning.{region_after_fate}
+use Rattle.mb_model.specs.memories.Valid.{as_made, IsValidRegion}
+use Rattle.mb_model.specs.machine.Fates.{change_fate, key_fate}
 use Rattle.mb_model_lemmas.specs.RegionLaws.{HasValidRegions, AreFated}
 use Rattle.mb_model_lemmas.proofs.RegionLemmas.{at_upper}
 use Rattle.mb_model_lemmas.proofs.AliveLemmas.{alive_is_listed, listed_is_alive}

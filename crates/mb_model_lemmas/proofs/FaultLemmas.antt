@@ -9,14 +9,14 @@ use Rattle.mb_model.specs.declared.entry.SignedEntry.{SignedEntry}
 use Rattle.mb_model.specs.declared.layer.Layers.{Layers}
 use Rattle.mb_model.specs.declared.state.State.{State}
 use Rattle.mb_model.specs.declared.stored.Root.{Root}
-use Rattle.mb_model.specs.Log.{entries_of, layers_of}
-use Rattle.mb_model.specs.Memory.{AreSized, IsImage, IsBlank, area_of_slot}
-use Rattle.mb_model.specs.StoredLog.{log_completed_by}
-use Rattle.mb_model.specs.Flash.{HoldsPublic}
-use Rattle.mb_model.specs.Valid.{Valid}
-use Rattle.mb_model.specs.Meaning.{RootIn, Contents, FlashForm, HoldsContentsBy, HoldsContents, region_after_fate, state_of_contents, HasMeaningBy, is_dead, is_live, StandsForBy, StandsFor, IsWellFormedBy, IsWellFormed}
-use Rattle.mb_model.specs.Faults.{Fault, bad_length, bad_root, bad_public, bad_region_two, bad_region_three, bad_state, SomePublicBy, SomeRegion, AreSound, IsFaultyBy, HasFaultBy, HasFault}
-use Rattle.mb_model.specs.Clean.{root_of, IsCleanFor, Clean}
+use Rattle.mb_model.specs.owners.Log.{entries_of, layers_of}
+use Rattle.mb_model.specs.memories.Memory.{AreSized, IsImage, IsBlank, area_of_slot}
+use Rattle.mb_model.specs.memories.StoredLog.{log_completed_by}
+use Rattle.mb_model.specs.memories.Flash.{HoldsPublic}
+use Rattle.mb_model.specs.memories.Valid.{Valid}
+use Rattle.mb_model.specs.memories.Meaning.{RootIn, Contents, FlashForm, HoldsContentsBy, HoldsContents, region_after_fate, state_of_contents, HasMeaningBy, is_dead, is_live, StandsForBy, StandsFor, IsWellFormedBy, IsWellFormed}
+use Rattle.mb_model.specs.memories.Faults.{Fault, bad_length, bad_root, bad_public, bad_region_two, bad_region_three, bad_state, SomePublicBy, SomeRegion, AreSound, IsFaultyBy, HasFaultBy, HasFault}
+use Rattle.mb_model.specs.memories.Clean.{root_of, IsCleanFor, Clean}
 use Rattle.mb_model_lemmas.specs.FormLaws.{HoldsOnePublic}
 use Rattle.mb_model_lemmas.proofs.OneFlash.{one_list}
 use Rattle.mb_model_lemmas.proofs.MeaningLemmas.{one_root_in, one_contents_by, not_blank, one_meaning_by}

@@ -10,11 +10,11 @@ use Rattle.mb_model.specs.declared.entry.Entry.{Entry}
 use Rattle.mb_model.specs.declared.entry.SignedEntry.{SignedEntry}
 use Rattle.mb_model.specs.declared.stored.Slot.{Slot}
 use Rattle.mb_model.specs.declared.stored.Header.{Header}
-use Rattle.mb_model.specs.EntryFormat.{entry_format, signed_entry_format}
-use Rattle.mb_model.specs.Pieces.{part}
-use Rattle.mb_model.specs.HeaderFormat.{slot_format, unsigned_limit, unsigned_format, header_format, log_format}
-use Rattle.mb_model.specs.Sectors.{code_sector, log_sector, BeginsAs}
-use Rattle.mb_model.specs.Flash.{sector, code_slot, HoldsHeader, HoldsCode, HoldsEntry, HoldsLog, AreBytesOf, HoldsPublic}
+use Rattle.mb_model.specs.records.EntryFormat.{entry_format, signed_entry_format}
+use Rattle.mb_model.specs.outside.Pieces.{part}
+use Rattle.mb_model.specs.records.HeaderFormat.{slot_format, unsigned_limit, unsigned_format, header_format, log_format}
+use Rattle.mb_model.specs.memories.Sectors.{code_sector, log_sector, BeginsAs}
+use Rattle.mb_model.specs.memories.Flash.{sector, code_slot, HoldsHeader, HoldsCode, HoldsEntry, HoldsLog, AreBytesOf, HoldsPublic}
 use Rattle.mb_model_lemmas.specs.FormLaws.{HoldsFittingParts}
 use Rattle.mb_model_lemmas.specs.SegmentLaws.{IsSmallHeader, HeldSegmentsFit, SpellsLog}
 use Rattle.mb_model_lemmas.proofs.LogLemmas.{split_push}

@@ -4,8 +4,8 @@ use Rattle.std.specs.Prelude.{◌==◌, All, flat_map}
 use Rattle.std.proofs.lemmas.Bool.{eqb-true, eqb-false, cases_order}
 use Rattle.std.proofs.lemmas.List.{append-nil}
 use Rattle.std.proofs.lemmas.List.Elements.{All-nil, All-cons, All-head, All-tail}
-use Rattle.mb_model.specs.Texts.{line_with_lf}
-use Rattle.mb_model.specs.Lines.{IsLine, HasLines, IsBeginning, FailsAtLine, bad_line, ends_early}
+use Rattle.mb_model.specs.outside.Texts.{line_with_lf}
+use Rattle.mb_model.specs.chains.Lines.{IsLine, HasLines, IsBeginning, FailsAtLine, bad_line, ends_early}
 
 -- a list's first item and its rest are equal where the lists are
 pub cons_same : {X : Type 0} (x y : X) (xs ys : List X) → x ∷ xs ≡ y ∷ ys → (x ≡ y) × (xs ≡ ys)

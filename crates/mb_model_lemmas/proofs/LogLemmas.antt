@@ -15,8 +15,8 @@ use Rattle.mb_model.specs.declared.order.ChangeKind.{ChangeKind}
 use Rattle.mb_model.specs.declared.entry.Entry.{Entry}
 use Rattle.mb_model.specs.declared.entry.Entry.TheVariants.{Birth, Change, NewKey, Succession}
 use Rattle.mb_model.specs.declared.entry.SignedEntry.{SignedEntry}
-use Rattle.mb_model.specs.Layers.{unowned_layers}
-use Rattle.mb_model.specs.Log.{figures_of, entries_of, is_change, layers_in, device_in, keys_in, last_of, number_of, layers_of, device_of, uses_of_device_key, keys_made_by, is_version_two, has_version_two, Ruled, RuledLog}
+use Rattle.mb_model.specs.owners.Layers.{unowned_layers}
+use Rattle.mb_model.specs.owners.Log.{figures_of, entries_of, is_change, layers_in, device_in, keys_in, last_of, number_of, layers_of, device_of, uses_of_device_key, keys_made_by, is_version_two, has_version_two, Ruled, RuledLog}
 use Rattle.mb_model_lemmas.proofs.LineLemmas.{cons_same}
 
 pub number_of-push : (log : List Entry) (entry : Entry) → number_of (log ++ entry ∷ []) ≡ number_of log + (if is_change entry then 1 else 0)

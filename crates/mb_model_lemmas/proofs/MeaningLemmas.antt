@@ -16,14 +16,14 @@ use Rattle.mb_model.specs.declared.region.Region.{Region}
 use Rattle.mb_model.specs.declared.state.Codes.{Codes}
 use Rattle.mb_model.specs.declared.state.State.{State}
 use Rattle.mb_model.specs.declared.stored.Root.{Root}
-use Rattle.mb_model.specs.RootFormat.{root_format}
-use Rattle.mb_model.specs.RegionFormat.{region_format, SpellsRegion}
-use Rattle.mb_model.specs.Pieces.{part}
+use Rattle.mb_model.specs.records.RootFormat.{root_format}
+use Rattle.mb_model.specs.records.RegionFormat.{region_format, SpellsRegion}
+use Rattle.mb_model.specs.outside.Pieces.{part}
 use Rattle.mb_model.specs.declared.limits.TheConstants.{AREA_LENGTH}
-use Rattle.mb_model.specs.Memory.{IsBlank, slots, selector_of, life_byte, first_area, second_area, area_of_slot, HoldsInArea, HoldsRecord}
-use Rattle.mb_model.specs.OldFlash.{flash_area, BeginsArea, BeginsWithRecord}
-use Rattle.mb_model.specs.Flash.{HoldsPublic}
-use Rattle.mb_model.specs.Meaning.{HasRoot, RootIn, HoldsRegion, Contents, FlashForm, HoldsContentsBy, HoldsContents, state_of_contents, HasMeaningBy, is_dead, is_live, StandsForBy, StandsFor}
+use Rattle.mb_model.specs.memories.Memory.{IsBlank, slots, selector_of, life_byte, first_area, second_area, area_of_slot, HoldsInArea, HoldsRecord}
+use Rattle.mb_model.specs.memories.OldFlash.{flash_area, BeginsArea, BeginsWithRecord}
+use Rattle.mb_model.specs.memories.Flash.{HoldsPublic}
+use Rattle.mb_model.specs.memories.Meaning.{HasRoot, RootIn, HoldsRegion, Contents, FlashForm, HoldsContentsBy, HoldsContents, state_of_contents, HasMeaningBy, is_dead, is_live, StandsForBy, StandsFor}
 use Rattle.mb_model.proofs.RecordFormatLaws.{root_exact, region_exact}
 use Rattle.mb_model_lemmas.specs.FormLaws.{HoldsOnePublic}
 use Rattle.mb_model_lemmas.proofs.OneFlash.{one_list}

@@ -7,9 +7,9 @@ use Rattle.mb_model.specs.declared.entry.PublicEntry.{PublicEntry}
 use Rattle.mb_model.specs.declared.entry.SignedEntry.{SignedEntry}
 use Rattle.mb_model.specs.declared.state.Codes.{Codes}
 use Rattle.mb_model.specs.declared.stored.Public.{Public}
-use Rattle.mb_model.specs.PublicRecord.{code_format, codes_format, public_format}
-use Rattle.mb_model.specs.OldFlash.{flash_area, with_signature, without_signature, public_of_parts, HeldPublic}
-use Rattle.mb_model.specs.WrittenFlash.{CodesFitSlots}
+use Rattle.mb_model.specs.memories.PublicRecord.{code_format, codes_format, public_format}
+use Rattle.mb_model.specs.memories.OldFlash.{flash_area, with_signature, without_signature, public_of_parts, HeldPublic}
+use Rattle.mb_model.specs.memories.WrittenFlash.{CodesFitSlots}
 use Rattle.mb_model.proofs.RecordFormatLaws.{public_exact}
 use Rattle.mb_model_lemmas.specs.FormLaws.{HoldsOnePublic, HoldsFittingParts}
 use Rattle.mb_model_lemmas.proofs.MeaningLemmas.{one_begun, IsBytes-flash_area}

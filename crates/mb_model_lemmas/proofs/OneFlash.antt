@@ -13,10 +13,10 @@ use Rattle.mb_model.specs.declared.state.Codes.{Codes}
 use Rattle.mb_model.specs.declared.stored.Root.{Root}
 use Rattle.mb_model.specs.declared.stored.Slot.{Slot}
 use Rattle.mb_model.specs.declared.stored.Header.{Header}
-use Rattle.mb_model.specs.EntryFormat.{entry_format}
-use Rattle.mb_model.specs.HeaderFormat.{slot_format, entry_bytes_format, unsigned_format, header_word, header_format, log_format}
-use Rattle.mb_model.specs.Sectors.{header_sector, log_sector, BeginsAs}
-use Rattle.mb_model.specs.Flash.{sector, HoldsHeader, HoldsCode, HoldsEntry, HoldsLog, AreBytesOf, HoldsPublic}
+use Rattle.mb_model.specs.records.EntryFormat.{entry_format}
+use Rattle.mb_model.specs.records.HeaderFormat.{slot_format, entry_bytes_format, unsigned_format, header_word, header_format, log_format}
+use Rattle.mb_model.specs.memories.Sectors.{header_sector, log_sector, BeginsAs}
+use Rattle.mb_model.specs.memories.Flash.{sector, HoldsHeader, HoldsCode, HoldsEntry, HoldsLog, AreBytesOf, HoldsPublic}
 use Rattle.mb_model_lemmas.specs.FormLaws.{HoldsOnePublic}
 use Rattle.mb_model.proofs.EntryFormatLaws.{entry_exact}
 use Rattle.mb_model.proofs.HeaderFormatLaws.{header_exact, log_exact}

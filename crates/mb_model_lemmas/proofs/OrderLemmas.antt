@@ -10,18 +10,18 @@ use Rattle.mb_model.specs.declared.reply.Reply.{Reply}
 use Rattle.mb_model.specs.declared.reply.Reply.TheVariants as reply
 use Rattle.mb_model.specs.declared.state.State.{State}
 use Rattle.mb_model.specs.declared.state.View.{View}
-use Rattle.mb_model.specs.Rules.{IsFirstFailing}
-use Rattle.mb_model.specs.Log.{entries_of, number_of}
-use Rattle.mb_model.specs.OrderFormat.{order_format}
+use Rattle.mb_model.specs.owners.Rules.{IsFirstFailing}
+use Rattle.mb_model.specs.owners.Log.{entries_of, number_of}
+use Rattle.mb_model.specs.records.OrderFormat.{order_format}
 use Rattle.mb_model.specs.declared.reply.Refusal.{Refusal}
 use Rattle.mb_model.specs.declared.reply.Refusal.TheVariants.{PoweredOff, WrongPhase, Zeroised, WrongLayer}
 use Rattle.mb_model.specs.declared.reply.Refusal.TheVariants.{RegionFull, NoSuchKey, KeySpent, BadText, WrongTarget}
 use Rattle.mb_model.specs.declared.reply.Refusal.TheVariants.{WrongState, WrongSignature, WrongCountersignature}
 use Rattle.mb_model.specs.declared.reply.Refusal.TheVariants.{LogFull, KeysFull}
-use Rattle.mb_model.specs.Refusals.{refusal_reply}
-use Rattle.mb_model.specs.OrderChecks.{TargetHoldsIn, TargetsHold, MayBeGiven, IsSigned, IsCountersigned, LogHasRoom, RegionHasRoom, Passes, Fails, view_of}
-use Rattle.mb_model.specs.OrderEffects.{state_after_order}
-use Rattle.mb_model.specs.OrderStep.{OrderStep, spells_none, fails_check, is_obeyed}
+use Rattle.mb_model.specs.machine.Refusals.{refusal_reply}
+use Rattle.mb_model.specs.machine.OrderChecks.{TargetHoldsIn, TargetsHold, MayBeGiven, IsSigned, IsCountersigned, LogHasRoom, RegionHasRoom, Passes, Fails, view_of}
+use Rattle.mb_model.specs.machine.OrderEffects.{state_after_order}
+use Rattle.mb_model.specs.machine.OrderStep.{OrderStep, spells_none, fails_check, is_obeyed}
 use Rattle.mb_model.proofs.OrderFormatLaws.{order_exact}
 use Rattle.mb_model_lemmas.proofs.Splits.{not_all, first_fails_or_all, one_first, IsOne, one_more, Lacks, one_lacks, lacks_none}
 

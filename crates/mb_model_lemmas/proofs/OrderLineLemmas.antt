@@ -11,13 +11,13 @@ use Rattle.mb_format.proofs.Examples.{are_bytes}
 use Rattle.mb_format.proofs.Whole.{IsClearWhole-from_exact, IsExactWhole-from_exact}
 use Rattle.mb_model.specs.declared.order.Order.{Order}
 use Rattle.mb_model.specs.declared.entry.Statement.{Statement}
-use Rattle.mb_model.specs.Texts.{IsHex}
-use Rattle.mb_model.specs.Lines.{FailsAtLine, ends_early, hex_word}
-use Rattle.mb_model.specs.OrderLines.{IsOrderLine, IsStatementLine, order_line}
-use Rattle.mb_model.specs.LayerFormat.{trust_format}
-use Rattle.mb_model.specs.OrderFormat.{target_format, payload_format, body_format, sized_signature_format, countersignatures_format, order_format}
+use Rattle.mb_model.specs.outside.Texts.{IsHex}
+use Rattle.mb_model.specs.chains.Lines.{FailsAtLine, ends_early, hex_word}
+use Rattle.mb_model.specs.chains.OrderLines.{IsOrderLine, IsStatementLine, order_line}
+use Rattle.mb_model.specs.records.LayerFormat.{trust_format}
+use Rattle.mb_model.specs.records.OrderFormat.{target_format, payload_format, body_format, sized_signature_format, countersignatures_format, order_format}
 use Rattle.mb_model_lemmas.specs.SampleOrder.{surrender, surrender_line}
-use Rattle.mb_model.specs.ChainFormat.{statement_format}
+use Rattle.mb_model.specs.records.ChainFormat.{statement_format}
 use Rattle.mb_model.proofs.OrderFormatLaws.{order_exact}
 use Rattle.mb_model.proofs.EntryFormatLaws.{statement_exact}
 use Rattle.mb_model_lemmas.proofs.LineLemmas.{cons_same, cons_none, IsBeginning-all, bad_after}

@@ -4,8 +4,8 @@ use Rattle.mb_model.specs.declared.order.Act.{Act}
 use Rattle.mb_model.specs.declared.order.Act.TheVariants as act
 use Rattle.mb_model.specs.declared.order.Order.{Order}
 use Rattle.mb_model.specs.declared.state.State.{State}
-use Rattle.mb_model.specs.OrderChecks.{view_of}
-use Rattle.mb_model.specs.OrderEffects.{log_with, state_after_change, state_after_new_key, ready_for, state_after_act, own_entry, state_after_order, entry_of, fact_of}
+use Rattle.mb_model.specs.machine.OrderChecks.{view_of}
+use Rattle.mb_model.specs.machine.OrderEffects.{log_with, state_after_change, state_after_new_key, ready_for, state_after_act, own_entry, state_after_order, entry_of, fact_of}
 
 carried_appends : (ready : State) (order : Order) (a : Act) (draw : List ℕ) → (state_after_act ready order a draw).log ≡ log_with ready (entry_of (view_of ready) (fact_of ready.layers order a) draw)
 unfolding state_after_change state_after_new_key

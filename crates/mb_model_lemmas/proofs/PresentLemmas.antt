@@ -14,10 +14,11 @@ use Rattle.mb_model.specs.declared.order.ChangeKind.{ChangeKind}
 use Rattle.mb_model.specs.declared.entry.Entry.{Entry}
 use Rattle.mb_model.specs.declared.entry.Entry.TheVariants.{Birth, Change, NewKey, Succession}
 use Rattle.mb_model.specs.declared.state.Configuration.{Configuration}
-use Rattle.mb_model.specs.Layers.{layer_without_owner, layer_of, is_upper}
-use Rattle.mb_model.specs.Rules.{admits, layer_after, after}
-use Rattle.mb_model.specs.Log.{figures_of, layers_of, Ruled, RuledLog}
-use Rattle.mb_model.specs.Lives.{ends_keys, Alive, layers_upto, configuration, configurations_opened_by, lives_of}
+use Rattle.mb_model.specs.owners.Layers.{layer_without_owner, layer_of, is_upper}
+use Rattle.mb_model.specs.owners.Rules.{admits, layer_after, after}
+use Rattle.mb_model.specs.owners.Log.{figures_of, layers_of, Ruled, RuledLog}
+use Rattle.mb_model.specs.owners.Lives.{ends_keys, Alive, layers_upto, configuration, configurations_opened_by}
+use Rattle.mb_model.specs.owners.Lives.{lives_of}
 use Rattle.mb_model_lemmas.proofs.LogLemmas.{layers_of-push, split_push, by_entries, RuledLog-push}
 use Rattle.mb_model_lemmas.proofs.RegionLemmas.{at_upper}
 use Rattle.mb_model_lemmas.proofs.AliveLemmas.{lives_of_new_key, lives_of-push}

@@ -15,12 +15,12 @@ use Rattle.mb_model.specs.declared.stored.Outgoing.{Outgoing}
 use Rattle.mb_model.specs.declared.stored.Pending.{Pending}
 use Rattle.mb_model.specs.declared.stored.Public.{Public}
 use Rattle.mb_model.specs.declared.stored.Root.{Root}
-use Rattle.mb_model.specs.EntryFormat.{entry_format, signed_entry_format}
-use Rattle.mb_model.specs.OrderEffects.{entry_signed_by}
-use Rattle.mb_model.specs.RootFormat.{outgoing_format, pending_format, root_format}
-use Rattle.mb_model.specs.StoredLog.{entries_signed_for, how_many_unsigned, outgoing_of}
-use Rattle.mb_model.specs.PublicRecord.{public_entry_format, public_format}
-use Rattle.mb_model.specs.OldFlash.{with_signature, without_signature}
+use Rattle.mb_model.specs.records.EntryFormat.{entry_format, signed_entry_format}
+use Rattle.mb_model.specs.machine.OrderEffects.{entry_signed_by}
+use Rattle.mb_model.specs.records.RootFormat.{outgoing_format, pending_format, root_format}
+use Rattle.mb_model.specs.memories.StoredLog.{entries_signed_for, how_many_unsigned, outgoing_of}
+use Rattle.mb_model.specs.memories.PublicRecord.{public_entry_format, public_format}
+use Rattle.mb_model.specs.memories.OldFlash.{with_signature, without_signature}
 
 -- ---- the root
 

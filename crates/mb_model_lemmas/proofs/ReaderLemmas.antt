@@ -11,9 +11,9 @@ use Rattle.mb_model.specs.declared.key.PublicKey.{PublicKey}
 use Rattle.mb_model.specs.declared.order.KeyKind.{KeyKind}
 use Rattle.mb_model.specs.declared.entry.Entry.{Entry}
 use Rattle.mb_model.specs.declared.entry.Entry.TheVariants.{Birth, Change, NewKey, Succession}
-use Rattle.mb_model.specs.Log.{last_of, keys_made_by, RuledLog}
-use Rattle.mb_model.specs.Lives.{ends_keys, Alive, splits, configurations_opened_by, lives_from, lives_of, MadeKey, lasting_keys_of, alive_keys}
-use Rattle.mb_model.specs.Acceptance.{KeyEntry, key_in, key_of, is_alive}
+use Rattle.mb_model.specs.owners.Log.{last_of, keys_made_by, RuledLog}
+use Rattle.mb_model.specs.owners.Lives.{ends_keys, Alive, splits, configurations_opened_by, lives_from, lives_of, MadeKey, lasting_keys_of, alive_keys}
+use Rattle.mb_model.specs.chains.Acceptance.{KeyEntry, key_in, key_of, is_alive}
 use Rattle.mb_model_lemmas.specs.AliveLaws.{makes, IsUnmade}
 use Rattle.mb_model_lemmas.specs.ReaderLaws.{first_life}
 use Rattle.mb_model_lemmas.proofs.LogLemmas.{last_of-push, RuledLog-front, made-push}

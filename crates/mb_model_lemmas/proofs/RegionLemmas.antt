@@ -8,7 +8,7 @@ use Rattle.mb_model.specs.declared.entry.Entry.{Entry}
 use Rattle.mb_model.specs.declared.entry.Entry.TheVariants.{Change, NewKey}
 use Rattle.mb_model.specs.declared.region.Secret.{Secret}
 use Rattle.mb_model.specs.declared.region.RegionKey.{RegionKey}
-use Rattle.mb_model.specs.Log.{is_change, number_of, layers_of, RuledLog}
+use Rattle.mb_model.specs.owners.Log.{is_change, number_of, layers_of, RuledLog}
 use Rattle.mb_model_lemmas.proofs.LogLemmas.{split_push, number-le}
 use Rattle.mb_model.specs.declared.layer.Layer.{Layer}
 use Rattle.mb_model.specs.declared.layer.Layers.{Layers}
@@ -16,9 +16,9 @@ use Rattle.mb_model.specs.declared.layer.Pair.{Pair}
 use Rattle.mb_model.specs.declared.order.ChangeKind.{ChangeKind}
 use Rattle.mb_model.specs.declared.order.ChangeKind.TheVariants.{Establish, Surrender, Load, Emergency}
 use Rattle.mb_model.specs.declared.region.Region.{Region}
-use Rattle.mb_model.specs.Layers.{layer_of, is_upper}
-use Rattle.mb_model.specs.Rules.{CanPlace, is_own_load, admits, Admits, layer_after, after}
-use Rattle.mb_model.specs.Regions.{empty_region, is_epoch, without_configuration_keys, region_after, with_key, AdmittedSince, KeyAdmitted, RegionKeptRightly}
+use Rattle.mb_model.specs.owners.Layers.{layer_of, is_upper}
+use Rattle.mb_model.specs.owners.Rules.{CanPlace, is_own_load, admits, Admits, layer_after, after}
+use Rattle.mb_model.specs.owners.Regions.{empty_region, is_epoch, without_configuration_keys, region_after, with_key, AdmittedSince, KeyAdmitted, RegionKeptRightly}
 
 -- what holds of 2 and 3 holds of the number of each layer that has a region
 pub at_upper : (P : ℕ → Type 0) (L : ℕ) → IsTrue (is_upper L) → P 2 → P 3 → P L

@@ -12,12 +12,13 @@ use Rattle.mb_model.specs.declared.order.Act.{Act}
 use Rattle.mb_model.specs.declared.order.Act.TheVariants as act
 use Rattle.mb_model.specs.declared.order.ChangeKind.{ChangeKind}
 use Rattle.mb_model.specs.declared.order.ChangeKind.TheVariants.{Establish, Surrender, Load, Emergency}
-use Rattle.mb_model.specs.Layers.{layer_of, IsLayer, IsLayers, Runnable}
+use Rattle.mb_model.specs.owners.Layers.{layer_of, IsLayer, IsLayers, Runnable}
 use Rattle.mb_model.specs.declared.entry.Entry.{Entry}
 use Rattle.mb_model.specs.declared.entry.Entry.TheVariants.{Birth, Change, NewKey, Succession}
-use Rattle.mb_model.specs.Log.{figures_of, layers_of, AreFirst, MayHaveVersion, Ruled, RuledLog}
+use Rattle.mb_model.specs.owners.Log.{figures_of, layers_of, AreFirst, MayHaveVersion, Ruled, RuledLog}
 use Rattle.mb_model_lemmas.proofs.LogLemmas.{layers_of-push, by_entries}
-use Rattle.mb_model.specs.Rules.{kind_of, change_of, Condition, CanPlace, layer_from_order, admits, layer_after, after}
+use Rattle.mb_model.specs.owners.Rules.{kind_of, change_of, Condition, CanPlace, layer_from_order, admits, layer_after}
+use Rattle.mb_model.specs.owners.Rules.{after}
 
 -- what a change puts in place is a layer that a device can hold
 pub placed_is_layer : (layers : Layers) (kind : ChangeKind) (k : ℕ) (new : Layer)

@@ -6,7 +6,7 @@ use Rattle.std.proofs.lemmas.List.{length-replicate}
 use Rattle.std.proofs.lemmas.List.Elements.{All-nil, All-cons}
 use Rattle.mb_model.specs.declared.event.Event.{Event}
 use Rattle.mb_model.specs.declared.event.Event.TheVariants as event
-use Rattle.mb_model.specs.Script.{IsScriptEvent, SaysEvent, is_skipped, IsScript}
+use Rattle.mb_model.specs.chains.Script.{IsScriptEvent, SaysEvent, is_skipped, IsScript}
 
 says_script : (line : List ℕ) (e : Event) → SaysEvent line e → IsScriptEvent e
 says_script line event.Boot says = tt

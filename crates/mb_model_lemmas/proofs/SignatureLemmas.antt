@@ -10,12 +10,12 @@ use Rattle.sha2.specs.Sha256.{sha256}
 use Rattle.sha2.proofs.Facts256.{length-sha256}
 use Rattle.mb_model.specs.declared.key.KeySeed.{KeySeed}
 use Rattle.mb_model.specs.declared.key.Chains.TheVariants.{W4}
-use Rattle.mb_model.specs.Key.{IsSized}
-use Rattle.mb_model.specs.Winternitz.{coef, chain_step, value_after_count, value_after_steps, value_at, chain_ends, one_time_key, one_time_key_mark, digits_of, message_hash}
-use Rattle.mb_model.specs.Pieces.{part}
-use Rattle.mb_model.specs.Merkle.{leaf_node, inner_node, parent_node, climb, leaf_number, randomizer, root_from, hash_of, HasForm, Verifies}
-use Rattle.mb_model.specs.Signing.{private_value, randomizer_of, public_ends, one_time_public, node_above, levels_above, node_of, public_of, signed_values, signed_digits, sibling, path_from, signature_of}
-use Rattle.mb_model.specs.Born.{born_key, officer_key}
+use Rattle.mb_model.specs.signatures.Key.{IsSized}
+use Rattle.mb_model.specs.signatures.Winternitz.{coef, chain_step, value_after_count, value_after_steps, value_at, chain_ends, one_time_key, one_time_key_mark, digits_of, message_hash}
+use Rattle.mb_model.specs.outside.Pieces.{part}
+use Rattle.mb_model.specs.signatures.Merkle.{leaf_node, inner_node, parent_node, climb, leaf_number, randomizer, root_from, hash_of, HasForm, Verifies}
+use Rattle.mb_model.specs.signatures.Signing.{private_value, randomizer_of, public_ends, one_time_public, node_above, levels_above, node_of, public_of, signed_values, signed_digits, sibling, path_from, signature_of}
+use Rattle.mb_model.specs.owners.Born.{born_key, officer_key}
 use Rattle.mb_model_lemmas.specs.SigningLaws.{IsSizedSeed}
 
 -- what stands in the first of two texts, and the second of two

@@ -2,7 +2,7 @@
 use Rattle.std.proofs.Common.{◌≡◌, ℕ, ◌+◌, Option, None, Some, List, [], ◌∷◌, ◌++◌, inl, inr, length, map, refl, sym, ap, subst, ◌∙◌, arith}
 use Rattle.std.specs.Prelude.{◌⊎◌, All}
 use Rattle.std.proofs.lemmas.List.Elements.{All-nil, All-cons, All-head, All-tail}
-use Rattle.mb_model.specs.Rules.{IsFirstFailing}
+use Rattle.mb_model.specs.owners.Rules.{IsFirstFailing}
 use Rattle.mb_model_lemmas.proofs.LineLemmas.{cons_same}
 
 -- ---- values that may be missing

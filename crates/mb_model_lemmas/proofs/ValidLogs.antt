@@ -8,12 +8,12 @@ use Rattle.mb_model.specs.declared.key.PublicKey.{PublicKey}
 use Rattle.mb_model.specs.declared.entry.Entry.{Entry}
 use Rattle.mb_model.specs.declared.entry.SignedEntry.{SignedEntry}
 use Rattle.mb_model.specs.declared.state.State.{State}
-use Rattle.mb_model.specs.Merkle.{Verifies}
-use Rattle.mb_model.specs.Log.{figures_of, entries_of, layers_in, device_in, serial_in, last_of, layers_of, device_of, serial_of, uses_of_device_key, StandsAt, Ruled}
-use Rattle.mb_model.specs.Signing.{public_of, signature_of}
-use Rattle.mb_model.specs.SignedTexts.{entry_text, IsSignedBy}
-use Rattle.mb_model.specs.OrderEffects.{entry_signed_by, log_with}
-use Rattle.mb_model.specs.Valid.{Follows, EachFollows, AreNamed, IsValidState}
+use Rattle.mb_model.specs.signatures.Merkle.{Verifies}
+use Rattle.mb_model.specs.owners.Log.{figures_of, entries_of, layers_in, device_in, serial_in, last_of, layers_of, device_of, serial_of, uses_of_device_key, StandsAt, Ruled}
+use Rattle.mb_model.specs.signatures.Signing.{public_of, signature_of}
+use Rattle.mb_model.specs.machine.SignedTexts.{entry_text, IsSignedBy}
+use Rattle.mb_model.specs.machine.OrderEffects.{entry_signed_by, log_with}
+use Rattle.mb_model.specs.memories.Valid.{Follows, EachFollows, AreNamed, IsValidState}
 use Rattle.mb_model_lemmas.specs.RegionLaws.{HasValidRegions}
 use Rattle.mb_model_lemmas.proofs.ValidStates.{valid_is_ruled, entries_of-push}
 use Rattle.mb_model_lemmas.proofs.SignatureLemmas.{signature_verifies, signature_leaf_number}

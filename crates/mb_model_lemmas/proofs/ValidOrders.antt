@@ -18,15 +18,15 @@ use Rattle.mb_model.specs.declared.entry.Entry.{Entry}
 use Rattle.mb_model.specs.declared.entry.Entry.TheVariants.{Succession}
 use Rattle.mb_model.specs.declared.state.Codes.{Codes}
 use Rattle.mb_model.specs.declared.state.State.{State}
-use Rattle.mb_model.specs.Layers.{layer_of, is_layer_number}
-use Rattle.mb_model.specs.Rules.{kind_of, change_of, renews, Condition, CanPlace, layer_from_order, is_load, may_cosign, kept_regions, admits, after}
-use Rattle.mb_model.specs.Log.{figures_of, entries_of, layers_of, uses_of_device_key, has_version_two, Ruled}
-use Rattle.mb_model.specs.Signing.{public_of}
-use Rattle.mb_model.specs.Regions.{region_of}
-use Rattle.mb_model.specs.OrderChecks.{IsCountersigned, view_of}
-use Rattle.mb_model.specs.OrderEffects.{next_key, state_after_succession, device_after, uses_after, code_after, codes_after, cosigners_of, next_device_key, state_after_change, state_after_new_key, entry_of, change_fact}
+use Rattle.mb_model.specs.owners.Layers.{layer_of, is_layer_number}
+use Rattle.mb_model.specs.owners.Rules.{kind_of, change_of, renews, Condition, CanPlace, layer_from_order, is_load, may_cosign, kept_regions, admits, after}
+use Rattle.mb_model.specs.owners.Log.{figures_of, entries_of, layers_of, uses_of_device_key, has_version_two, Ruled}
+use Rattle.mb_model.specs.signatures.Signing.{public_of}
+use Rattle.mb_model.specs.owners.Regions.{region_of}
+use Rattle.mb_model.specs.machine.OrderChecks.{IsCountersigned, view_of}
+use Rattle.mb_model.specs.machine.OrderEffects.{next_key, state_after_succession, device_after, uses_after, code_after, codes_after, cosigners_of, next_device_key, state_after_change, state_after_new_key, entry_of, change_fact}
 use Rattle.mb_model.specs.declared.state.Fact.TheVariants as fact
-use Rattle.mb_model.specs.Valid.{IsNamed, AreNamed, IsValidState}
+use Rattle.mb_model.specs.memories.Valid.{IsNamed, AreNamed, IsValidState}
 use Rattle.mb_model_lemmas.specs.RegionLaws.{HasValidRegions}
 use Rattle.mb_model_lemmas.proofs.RuleLemmas.{placed_can, version_two_may_follow}
 use Rattle.mb_model_lemmas.proofs.ValidStates.{valid_is_ruled, succeeded_keeps, changed_keeps, keyed_keeps}

@@ -22,14 +22,14 @@ use Rattle.mb_model.specs.declared.entry.Entry.TheVariants.{Birth, Change, NewKe
 use Rattle.mb_model.specs.declared.region.Region.{Region}
 use Rattle.mb_model.specs.declared.region.RegionKey.{RegionKey}
 use Rattle.mb_model.specs.declared.region.Secret.{Secret}
-use Rattle.mb_model.specs.Layers.{layer_of, is_upper, is_in, Runnable}
-use Rattle.mb_model.specs.Rules.{Condition, CanPlace, admits, is_kept, kept_regions, after}
-use Rattle.mb_model.specs.Log.{is_change, number_of, layers_of, keys_made_by, RuledLog}
-use Rattle.mb_model.specs.Lives.{ends_keys, MadeKey, alive_keys}
-use Rattle.mb_model.specs.Regions.{empty_region, is_epoch, without_configuration_keys, region_after, with_key, AdmittedSince, KeyAdmitted, RegionKeptRightly}
-use Rattle.mb_model.specs.LayerEvents.{has_name, with_secret, has_number, with_use}
-use Rattle.mb_model.specs.Signing.{public_of}
-use Rattle.mb_model.specs.Valid.{as_made, IsValidRegion}
+use Rattle.mb_model.specs.owners.Layers.{layer_of, is_upper, is_in, Runnable}
+use Rattle.mb_model.specs.owners.Rules.{Condition, CanPlace, admits, is_kept, kept_regions, after}
+use Rattle.mb_model.specs.owners.Log.{is_change, number_of, layers_of, keys_made_by, RuledLog}
+use Rattle.mb_model.specs.owners.Lives.{ends_keys, MadeKey, alive_keys}
+use Rattle.mb_model.specs.owners.Regions.{empty_region, is_epoch, without_configuration_keys, region_after, with_key, AdmittedSince, KeyAdmitted, RegionKeptRightly}
+use Rattle.mb_model.specs.machine.LayerEvents.{has_name, with_secret, has_number, with_use}
+use Rattle.mb_model.specs.signatures.Signing.{public_of}
+use Rattle.mb_model.specs.memories.Valid.{as_made, IsValidRegion}
 use Rattle.mb_model_lemmas.specs.AliveLaws.{goes_on, made_by}
 use Rattle.mb_model_lemmas.proofs.LogLemmas.{number_of-push}
 use Rattle.mb_model_lemmas.proofs.RegionLemmas.{at_upper, unreliable_is_empty, kept_over_change, kept_over_new_key, kept_over_other, now_is_admitted}

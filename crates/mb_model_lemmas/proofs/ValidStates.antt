@@ -18,18 +18,18 @@ use Rattle.mb_model.specs.declared.entry.SignedEntry.{SignedEntry}
 use Rattle.mb_model.specs.declared.region.Region.{Region}
 use Rattle.mb_model.specs.declared.region.RegionKey.{RegionKey}
 use Rattle.mb_model.specs.declared.state.State.{State}
-use Rattle.mb_model.specs.Layers.{layer_of, is_upper, is_runnable, Runnable}
-use Rattle.mb_model.specs.Rules.{kind_of, change_of, renews, Condition, layer_from_order, kept_regions, after}
-use Rattle.mb_model.specs.Log.{figures_of, entries_of, layers_of, number_of, keys_made_by, Ruled, RuledLog}
-use Rattle.mb_model.specs.Regions.{region_after, with_key, KeptRightly}
-use Rattle.mb_model.specs.Regions.{region_of, with_region}
-use Rattle.mb_model.specs.OrderChecks.{view_of}
-use Rattle.mb_model.specs.OrderEffects.{entry_signed_by, log_with, next_key, cosigners_of, state_after_succession, state_after_change, state_after_new_key}
+use Rattle.mb_model.specs.owners.Layers.{layer_of, is_upper, is_runnable, Runnable}
+use Rattle.mb_model.specs.owners.Rules.{kind_of, change_of, renews, Condition, layer_from_order, kept_regions, after}
+use Rattle.mb_model.specs.owners.Log.{figures_of, entries_of, layers_of, number_of, keys_made_by, Ruled, RuledLog}
+use Rattle.mb_model.specs.owners.Regions.{region_after, with_key, KeptRightly}
+use Rattle.mb_model.specs.owners.Regions.{region_of, with_region}
+use Rattle.mb_model.specs.machine.OrderChecks.{view_of}
+use Rattle.mb_model.specs.machine.OrderEffects.{entry_signed_by, log_with, next_key, cosigners_of, state_after_succession, state_after_change, state_after_new_key}
 use Rattle.mb_model.specs.declared.reply.Refusal.TheVariants.{WrongLayer}
-use Rattle.mb_model.specs.Refusals.{refusal_reply}
-use Rattle.mb_model.specs.Signing.{public_of}
-use Rattle.mb_model.specs.LayerEvents.{Outcome, has_name, has_number, put_event, get_event, drop_event, sign_with, sign_event}
-use Rattle.mb_model.specs.Valid.{EachFollows, IsValidRegion, IsValidState, Valid}
+use Rattle.mb_model.specs.machine.Refusals.{refusal_reply}
+use Rattle.mb_model.specs.signatures.Signing.{public_of}
+use Rattle.mb_model.specs.machine.LayerEvents.{Outcome, has_name, has_number, put_event, get_event, drop_event, sign_with, sign_event}
+use Rattle.mb_model.specs.memories.Valid.{EachFollows, IsValidRegion, IsValidState, Valid}
 use Rattle.mb_model_lemmas.specs.RegionLaws.{KeepsStatesValid, HasValidRegions}
 use Rattle.mb_model_lemmas.proofs.Splits.{map_split}
 use Rattle.mb_model_lemmas.proofs.RuleLemmas.{placed_can}

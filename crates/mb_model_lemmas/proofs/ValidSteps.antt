@@ -18,23 +18,24 @@ use Rattle.mb_model.specs.declared.event.Answered.{Answered}
 use Rattle.mb_model.specs.declared.reply.Reply.{Reply}
 use Rattle.mb_model.specs.declared.reply.Reply.TheVariants as reply
 use Rattle.mb_model.specs.declared.state.State.{State}
-use Rattle.mb_model.specs.OrderFormat.{Climb, climb_after, countersignature_format, countersignatures_format, order_format}
-use Rattle.mb_model.specs.Layers.{is_runnable}
-use Rattle.mb_model.specs.Rules.{kind_of, change_of, renews, Condition}
-use Rattle.mb_model.specs.Log.{entries_of, uses_of_device_key}
-use Rattle.mb_model.specs.Signing.{public_of}
+use Rattle.mb_model.specs.records.OrderFormat.{Climb, climb_after, countersignature_format, countersignatures_format, order_format}
+use Rattle.mb_model.specs.owners.Layers.{is_runnable}
+use Rattle.mb_model.specs.owners.Rules.{kind_of, change_of, renews, Condition}
+use Rattle.mb_model.specs.owners.Log.{entries_of, uses_of_device_key}
+use Rattle.mb_model.specs.signatures.Signing.{public_of}
 use Rattle.mb_model.specs.declared.reply.Refusal.{Refusal}
 use Rattle.mb_model.specs.declared.reply.Refusal.TheVariants.{WrongPhase, WrongLayer}
-use Rattle.mb_model.specs.Refusals.{refusal_reply}
-use Rattle.mb_model.specs.Regions.{empty_region}
+use Rattle.mb_model.specs.machine.Refusals.{refusal_reply}
+use Rattle.mb_model.specs.owners.Regions.{empty_region}
 use Rattle.mb_model.specs.declared.region.Region.{Region}
-use Rattle.mb_model.specs.Regions.{region_of}
-use Rattle.mb_model.specs.OrderChecks.{IsCountersigned, needs_succession, RegionHasRoom, region_keys, Passes, view_of}
-use Rattle.mb_model.specs.OrderEffects.{next_key, state_after_succession, state_after_act, state_after_order}
-use Rattle.mb_model.specs.OrderStep.{OrderStep, spells_none, fails_check, is_obeyed}
-use Rattle.mb_model.specs.LayerEvents.{Outcome, put_event, get_event, drop_event, sign_event}
-use Rattle.mb_model.specs.Machine.{Phase, off, dead, ratchet, World, Told, boot_event, running_state, running_state_in, status_event, go_event, region_event, CommandStep, Machine, Step, machine_step, lacks_memory, loses_power, Run}
-use Rattle.mb_model.specs.Valid.{IsValidState, Valid}
+use Rattle.mb_model.specs.owners.Regions.{region_of}
+use Rattle.mb_model.specs.machine.OrderChecks.{IsCountersigned, needs_succession, RegionHasRoom, region_keys, Passes}
+use Rattle.mb_model.specs.machine.OrderChecks.{view_of}
+use Rattle.mb_model.specs.machine.OrderEffects.{next_key, state_after_succession, state_after_act, state_after_order}
+use Rattle.mb_model.specs.machine.OrderStep.{OrderStep, spells_none, fails_check, is_obeyed}
+use Rattle.mb_model.specs.machine.LayerEvents.{Outcome, put_event, get_event, drop_event, sign_event}
+use Rattle.mb_model.specs.machine.Machine.{Phase, off, dead, ratchet, World, Told, boot_event, running_state, running_state_in, status_event, go_event, region_event, CommandStep, Machine, Step, machine_step, lacks_memory, loses_power, Run}
+use Rattle.mb_model.specs.memories.Valid.{IsValidState, Valid}
 use Rattle.mb_model_lemmas.proofs.LogLemmas.{used-push}
 use Rattle.mb_model_lemmas.specs.RegionLaws.{KeepsStatesValid}
 use Rattle.mb_model_lemmas.proofs.ValidStates.{put_keeps, get_keeps, drop_keeps, sign_keeps}

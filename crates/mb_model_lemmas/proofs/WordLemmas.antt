@@ -7,10 +7,10 @@ use Rattle.std.proofs.lemmas.List.Elements.{All-nil, All-cons, All-append, All-w
 use Rattle.hex.specs.Hex.{encode_lower, decode_of}
 use Rattle.hex.proofs.HexLemmas.{decode_of-ok, decode_of-same, decode_of-encode_lower, length-encode_with}
 use Rattle.mb_format.specs.Format.{IsBytes}
-use Rattle.mb_model.specs.Texts.{IsHex}
-use Rattle.mb_model.specs.Layers.{is_upper}
-use Rattle.mb_model.specs.Lines.{number_limit, hex_word}
-use Rattle.mb_model.specs.Script.{IsName}
+use Rattle.mb_model.specs.outside.Texts.{IsHex}
+use Rattle.mb_model.specs.owners.Layers.{is_upper}
+use Rattle.mb_model.specs.chains.Lines.{number_limit, hex_word}
+use Rattle.mb_model.specs.chains.Script.{IsName}
 use Rattle.mb_model_lemmas.proofs.LineLemmas.{Without, isnt, first_same}
 
 -- ---- numbers

@@ -7,16 +7,16 @@ use Rattle.std.proofs.lemmas.List.{take_at, length-replicate}
 use Rattle.std.proofs.lemmas.List.Elements.{All-replicate}
 use Rattle.std.proofs.lemmas.List.Folds.{concat-append}
 use Rattle.mb_model.specs.declared.state.State.{State}
-use Rattle.mb_model.specs.Pieces.{part}
-use Rattle.mb_model.specs.RootFormat.{root_format}
-use Rattle.mb_model.specs.RegionFormat.{written_region}
-use Rattle.mb_model.specs.Board.{erased_bytes, zeros}
-use Rattle.mb_model.specs.Flash.{HoldsPublic}
-use Rattle.mb_model.specs.Memory.{AreSized, IsBlank, slots, life_byte, selector_of, spare_bytes, first_area, second_area, area_of_slot, inactive_area_of_slot, HoldsInArea}
-use Rattle.mb_model.specs.Meaning.{is_dead}
-use Rattle.mb_model.specs.WrittenFlash.{written_flash}
-use Rattle.mb_model.specs.Clean.{root_of, IsCleanFor}
-use Rattle.mb_model.specs.WrittenImage.{area_with, written_bbram, written_image, FitsImage}
+use Rattle.mb_model.specs.outside.Pieces.{part}
+use Rattle.mb_model.specs.records.RootFormat.{root_format}
+use Rattle.mb_model.specs.records.RegionFormat.{written_region}
+use Rattle.mb_model.specs.outside.Board.{erased_bytes, zeros}
+use Rattle.mb_model.specs.memories.Flash.{HoldsPublic}
+use Rattle.mb_model.specs.memories.Memory.{AreSized, IsBlank, slots, life_byte, selector_of, spare_bytes, first_area, second_area, area_of_slot, inactive_area_of_slot, HoldsInArea}
+use Rattle.mb_model.specs.memories.Meaning.{is_dead}
+use Rattle.mb_model.specs.memories.WrittenFlash.{written_flash}
+use Rattle.mb_model.specs.memories.Clean.{root_of, IsCleanFor}
+use Rattle.mb_model.specs.memories.WrittenImage.{area_with, written_bbram, written_image, FitsImage}
 use Rattle.mb_model.proofs.FormatBounds.{root_short}
 use Rattle.mb_model.proofs.RegionWriting.{written_spells, written_short}
 use Rattle.mb_model.proofs.Places.{length-erased}

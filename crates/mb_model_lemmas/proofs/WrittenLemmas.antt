@@ -10,14 +10,14 @@ use Rattle.mb_model.specs.declared.entry.Entry.{Entry}
 use Rattle.mb_model.specs.declared.entry.SignedEntry.{SignedEntry}
 use Rattle.mb_model.specs.declared.state.Codes.{Codes}
 use Rattle.mb_model.specs.declared.stored.Root.{Root}
-use Rattle.mb_model.specs.Board.{erased_bytes}
-use Rattle.mb_model.specs.EntryFormat.{entry_format, signed_entry_format}
-use Rattle.mb_model.specs.HeaderFormat.{code_length_format, slot_format, entry_bytes_format, unsigned_format, header_format, log_format}
-use Rattle.mb_model.specs.Pieces.{part}
-use Rattle.mb_model.specs.Sectors.{code_sector, log_sector}
-use Rattle.mb_model.specs.Flash.{sector, code_slot, HoldsHeader, HoldsCode, HoldsLog, HoldsPublic}
-use Rattle.mb_model.specs.StoredLog.{AreCounted}
-use Rattle.mb_model.specs.WrittenFlash.{in_sectors, first_slot, slots_with, entry_in_log, sectors_of, first_header, written_flash, CodesFitSlots, LogFitsSectors}
+use Rattle.mb_model.specs.outside.Board.{erased_bytes}
+use Rattle.mb_model.specs.records.EntryFormat.{entry_format, signed_entry_format}
+use Rattle.mb_model.specs.records.HeaderFormat.{code_length_format, slot_format, entry_bytes_format, unsigned_format, header_format, log_format}
+use Rattle.mb_model.specs.outside.Pieces.{part}
+use Rattle.mb_model.specs.memories.Sectors.{code_sector, log_sector}
+use Rattle.mb_model.specs.memories.Flash.{sector, code_slot, HoldsHeader, HoldsCode, HoldsLog, HoldsPublic}
+use Rattle.mb_model.specs.memories.StoredLog.{AreCounted}
+use Rattle.mb_model.specs.memories.WrittenFlash.{in_sectors, first_slot, slots_with, entry_in_log, sectors_of, first_header, written_flash, CodesFitSlots, LogFitsSectors}
 use Rattle.mb_model.proofs.FormatBounds.{entry_short, header_short, log_short}
 use Rattle.mb_model.proofs.Places.{length-erased}
 use Rattle.mb_model_lemmas.specs.SegmentLaws.{EntriesFitTheirSectors, WrittenFlashIsWhole, WrittenFlashHolds}

@@ -8,10 +8,10 @@ use Rattle.mb_model.specs.declared.order.KeyKind.{KeyKind}
 use Rattle.mb_model.specs.declared.entry.Entry.{Entry}
 use Rattle.mb_model.specs.declared.entry.Entry.TheVariants.{Birth, Change, NewKey, Succession}
 use Rattle.mb_model.specs.declared.state.Configuration.{Configuration}
-use Rattle.mb_model.specs.Layers.{is_upper}
-use Rattle.mb_model.specs.Log.{layers_of, keys_made_by, RuledLog}
-use Rattle.mb_model.specs.Lives.{ends_keys, Alive, configuration, configurations_opened_by, lives_of, MadeKey}
-use Rattle.mb_model.specs.Lives.{alive_keys}
+use Rattle.mb_model.specs.owners.Layers.{is_upper}
+use Rattle.mb_model.specs.owners.Log.{layers_of, keys_made_by, RuledLog}
+use Rattle.mb_model.specs.owners.Lives.{ends_keys, Alive, configuration, configurations_opened_by, lives_of, MadeKey}
+use Rattle.mb_model.specs.owners.Lives.{alive_keys}
 
 -- the entry does not end the key, which is one of layer L
 abbrev pub goes_on : ℕ → Entry → MadeKey → Bool

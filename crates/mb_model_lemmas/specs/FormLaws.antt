@@ -6,9 +6,9 @@ use Rattle.mb_model.specs.declared.entry.Entry.{Entry}
 use Rattle.mb_model.specs.declared.entry.SignedEntry.{SignedEntry}
 use Rattle.mb_model.specs.declared.state.Codes.{Codes}
 use Rattle.mb_model.specs.declared.stored.Root.{Root}
-use Rattle.mb_model.specs.EntryFormat.{entry_format, signed_entry_format}
-use Rattle.mb_model.specs.Meaning.{FlashForm}
-use Rattle.mb_model.specs.WrittenFlash.{CodesFitSlots}
+use Rattle.mb_model.specs.records.EntryFormat.{entry_format, signed_entry_format}
+use Rattle.mb_model.specs.memories.Meaning.{FlashForm}
+use Rattle.mb_model.specs.memories.WrittenFlash.{CodesFitSlots}
 
 -- for a root, a flash of bytes holds one list of codes and one list of entries, signed and unsigned, by this form
 abbrev pub HoldsOnePublic : FlashForm → Type 0

@@ -2,12 +2,12 @@
 -- it?
 use Rattle.std.specs.Prelude.{◌≡◌, IfSome, Option}
 use Rattle.mb_model.specs.declared.state.State.{State}
-use Rattle.mb_model.specs.Memory.{AreSized}
-use Rattle.mb_model.specs.WrittenFlash.{written_flash}
-use Rattle.mb_model.specs.Clean.{IsCleanFor}
-use Rattle.mb_model.specs.Valid.{Valid}
-use Rattle.mb_model.specs.Meaning.{IsWellFormed}
-use Rattle.mb_model.specs.WrittenImage.{written_bbram, written_image, FitsImage}
+use Rattle.mb_model.specs.memories.Memory.{AreSized}
+use Rattle.mb_model.specs.memories.WrittenFlash.{written_flash}
+use Rattle.mb_model.specs.memories.Clean.{IsCleanFor}
+use Rattle.mb_model.specs.memories.Valid.{Valid}
+use Rattle.mb_model.specs.memories.Meaning.{IsWellFormed}
+use Rattle.mb_model.specs.memories.WrittenImage.{written_bbram, written_image, FitsImage}
 
 -- for a state that fits an image, both memories have their lengths
 abbrev pub WrittenMemoriesAreSized : Type 0

@@ -4,9 +4,9 @@ use Rattle.std.specs.Prelude.{◌≡◌, ℕ, ◌==◌, true, not, ◌&&◌, Lis
 use Rattle.mb_model.specs.declared.entry.Entry.{Entry}
 use Rattle.mb_model.specs.declared.entry.Entry.TheVariants.{Birth, Change, NewKey, Succession}
 use Rattle.mb_model.specs.declared.state.Configuration.{Configuration}
-use Rattle.mb_model.specs.Log.{layers_of, RuledLog}
-use Rattle.mb_model.specs.Lives.{ends_keys, Alive, configuration, configurations_opened_by, lives_of}
-use Rattle.mb_model.specs.Acceptance.{KeyEntry, key_in, key_of, is_alive}
+use Rattle.mb_model.specs.owners.Log.{layers_of, RuledLog}
+use Rattle.mb_model.specs.owners.Lives.{ends_keys, Alive, configuration, configurations_opened_by, lives_of}
+use Rattle.mb_model.specs.chains.Acceptance.{KeyEntry, key_in, key_of, is_alive}
 
 -- the first configuration of the key with this number, if an entry after a log makes it
 abbrev pub first_life : ℕ → List Entry → Entry → List Configuration

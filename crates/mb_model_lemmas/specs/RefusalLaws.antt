@@ -9,9 +9,9 @@ use Rattle.mb_model.specs.declared.reply.Reply.TheVariants as reply
 use Rattle.mb_model.specs.declared.state.State.{State}
 use Rattle.mb_model.specs.declared.state.View.{View}
 use Rattle.mb_model.specs.declared.reply.Refusal.{Refusal}
-use Rattle.mb_model.specs.OrderChecks.{Fails, Passes}
-use Rattle.mb_model.specs.OrderStep.{OrderStep}
-use Rattle.mb_model.specs.Machine.{Phase, off, dead, ratchet, World, Machine, Step}
+use Rattle.mb_model.specs.machine.OrderChecks.{Fails, Passes}
+use Rattle.mb_model.specs.machine.OrderStep.{OrderStep}
+use Rattle.mb_model.specs.machine.Machine.{Phase, off, dead, ratchet, World, Machine, Step}
 
 -- the phase is the same, except that a dead device that is booted is then on
 abbrev pub PhaseStays : World → Event → World → Type 0

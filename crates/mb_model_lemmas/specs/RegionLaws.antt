@@ -19,21 +19,22 @@ use Rattle.mb_model.specs.declared.region.Secret.{Secret}
 use Rattle.mb_model.specs.declared.state.State.{State}
 use Rattle.mb_model.specs.declared.stored.Fate.{Fate}
 use Rattle.mb_model.specs.declared.stored.Fate.TheVariants.{Keep, AddKey}
-use Rattle.mb_model.specs.Layers.{layer_of, is_upper, Runnable}
-use Rattle.mb_model.specs.Rules.{kind_of, change_of, Condition, CanPlace, kept_regions, after}
-use Rattle.mb_model.specs.Log.{entries_of, is_change, number_of, layers_of, keys_made_by, RuledLog}
-use Rattle.mb_model.specs.Lives.{Alive, alive_keys}
-use Rattle.mb_model.specs.Regions.{region_after, with_key}
-use Rattle.mb_model.specs.Signing.{public_of}
-use Rattle.mb_model.specs.Regions.{region_of, with_region}
-use Rattle.mb_model.specs.OrderChecks.{view_of}
-use Rattle.mb_model.specs.OrderEffects.{key_made, cosigners_of, state_after_succession, state_after_change}
-use Rattle.mb_model.specs.OrderEffects.{state_after_new_key}
-use Rattle.mb_model.specs.LayerEvents.{Outcome, has_name, with_secret, has_number, with_use, put_event, get_event}
-use Rattle.mb_model.specs.LayerEvents.{drop_event, sign_event, on_region}
-use Rattle.mb_model.specs.Fates.{change_fate, key_fate}
-use Rattle.mb_model.specs.Meaning.{region_after_fate}
-use Rattle.mb_model.specs.Valid.{as_made, IsValidRegion, IsValidState}
+use Rattle.mb_model.specs.owners.Layers.{layer_of, is_upper, Runnable}
+use Rattle.mb_model.specs.owners.Rules.{kind_of, change_of, Condition, CanPlace, kept_regions, after}
+use Rattle.mb_model.specs.owners.Log.{entries_of, is_change, number_of, layers_of, keys_made_by, RuledLog}
+use Rattle.mb_model.specs.owners.Lives.{Alive, alive_keys}
+use Rattle.mb_model.specs.owners.Regions.{region_after, with_key}
+use Rattle.mb_model.specs.signatures.Signing.{public_of}
+use Rattle.mb_model.specs.owners.Regions.{region_of, with_region}
+use Rattle.mb_model.specs.machine.OrderChecks.{view_of}
+use Rattle.mb_model.specs.machine.OrderEffects.{key_made, cosigners_of, state_after_succession, state_after_change}
+use Rattle.mb_model.specs.machine.OrderEffects.{state_after_new_key}
+use Rattle.mb_model.specs.machine.LayerEvents.{Outcome, has_name, with_secret, has_number, with_use, put_event}
+use Rattle.mb_model.specs.machine.LayerEvents.{get_event}
+use Rattle.mb_model.specs.machine.LayerEvents.{drop_event, sign_event, on_region}
+use Rattle.mb_model.specs.machine.Fates.{change_fate, key_fate}
+use Rattle.mb_model.specs.memories.Meaning.{region_after_fate}
+use Rattle.mb_model.specs.memories.Valid.{as_made, IsValidRegion, IsValidState}
 use Rattle.mb_model_lemmas.specs.AliveLaws.{made_by}
 
 -- ---- entries of the log

@@ -9,11 +9,11 @@ use Rattle.mb_model.specs.declared.state.Codes.{Codes}
 use Rattle.mb_model.specs.declared.stored.Root.{Root}
 use Rattle.mb_model.specs.declared.stored.Slot.{Slot}
 use Rattle.mb_model.specs.declared.stored.Header.{Header}
-use Rattle.mb_model.specs.EntryFormat.{entry_format, signed_entry_format}
-use Rattle.mb_model.specs.HeaderFormat.{log_format}
-use Rattle.mb_model.specs.Sectors.{log_sector}
-use Rattle.mb_model.specs.Flash.{sector, HoldsHeader, HoldsCode, HoldsEntry, HoldsLog, AreBytesOf, HoldsPublic}
-use Rattle.mb_model.specs.WrittenFlash.{entry_in_log, written_flash, CodesFitSlots, LogFitsSectors}
+use Rattle.mb_model.specs.records.EntryFormat.{entry_format, signed_entry_format}
+use Rattle.mb_model.specs.records.HeaderFormat.{log_format}
+use Rattle.mb_model.specs.memories.Sectors.{log_sector}
+use Rattle.mb_model.specs.memories.Flash.{sector, HoldsHeader, HoldsCode, HoldsEntry, HoldsLog, AreBytesOf, HoldsPublic}
+use Rattle.mb_model.specs.memories.WrittenFlash.{entry_in_log, written_flash, CodesFitSlots, LogFitsSectors}
 use Rattle.mb_model_lemmas.specs.FormLaws.{HoldsOnePublic}
 
 -- ---- one value

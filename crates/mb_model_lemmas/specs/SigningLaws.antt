@@ -1,8 +1,8 @@
 -- Laws of signing by a key of types 5 and 3, each proved on a public function. Does what is signed verify?
 use Rattle.std.specs.Prelude.{◌≡◌, ◌<◌, ◌≤◌, ℕ, ◌+◌, ◌-◌, ◌*◌, ◌^◌, List, length}
 use Rattle.mb_model.specs.declared.key.KeySeed.{KeySeed}
-use Rattle.mb_model.specs.Merkle.{leaf_node, inner_node, leaf_number, Verifies}
-use Rattle.mb_model.specs.Signing.{one_time_public, node_of, public_of, signature_of}
+use Rattle.mb_model.specs.signatures.Merkle.{leaf_node, inner_node, leaf_number, Verifies}
+use Rattle.mb_model.specs.signatures.Signing.{one_time_public, node_of, public_of, signature_of}
 
 -- the signature of a text at each of the 32 indices verifies under the public key of the same seed
 abbrev pub SignaturesVerify : Type 0

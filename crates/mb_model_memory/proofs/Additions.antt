@@ -10,11 +10,11 @@ use Rattle.mb_model.specs.declared.state.State.{State}
 use Rattle.mb_model.specs.declared.state.View.{View}
 use Rattle.mb_model.specs.declared.stored.Fate.{Fate}
 use Rattle.mb_model.specs.declared.stored.Outgoing.{Outgoing}
-use Rattle.mb_model.specs.Rules.{kind_of, change_of, renews}
-use Rattle.mb_model.specs.Log.{entries_of, uses_of_device_key}
-use Rattle.mb_model.specs.OrderChecks.{change_by, view_of, needs_succession}
-use Rattle.mb_model.specs.OrderEffects.{fact_of, names_next, entry_of, succession_entry, ready_for}
-use Rattle.mb_model.specs.Work.{outgoing_by, key_by, region_fate, bodies_by, bodies_for, fate_for}
+use Rattle.mb_model.specs.owners.Rules.{kind_of, change_of, renews}
+use Rattle.mb_model.specs.owners.Log.{entries_of, uses_of_device_key}
+use Rattle.mb_model.specs.machine.OrderChecks.{change_by, view_of, needs_succession}
+use Rattle.mb_model.specs.machine.OrderEffects.{fact_of, names_next, entry_of, succession_entry, ready_for}
+use Rattle.mb_model.specs.machine.Work.{outgoing_by, key_by, region_fate, bodies_by, bodies_for, fate_for}
 use Rattle.mb_model_lemmas.proofs.AdditionLemmas.{view_ready, ready_layers, entries_are}
 use Rattle.mb_model_memory.specs.Commits.{new_entries}
 

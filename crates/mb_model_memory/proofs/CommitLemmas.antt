@@ -16,21 +16,21 @@ use Rattle.mb_model.specs.declared.state.Codes.{Codes}
 use Rattle.mb_model.specs.declared.state.State.{State}
 use Rattle.mb_model.specs.declared.stored.Fate.{Fate}
 use Rattle.mb_model.specs.declared.stored.Root.{Root}
-use Rattle.mb_model.specs.Layers.{is_upper, is_runnable}
-use Rattle.mb_model.specs.Rules.{kind_of, change_of, renews, Condition}
-use Rattle.mb_model.specs.Log.{entries_of, layers_of, uses_of_device_key}
-use Rattle.mb_model.specs.OrderFormat.{order_format}
-use Rattle.mb_model.specs.OrderChecks.{change_by, needs_succession, Passes, view_of}
-use Rattle.mb_model.specs.OrderEffects.{entry_signed_by, log_with, state_after_succession, device_after, uses_after, key_made, state_after_change, state_after_new_key, ready_for, state_after_act, state_after_order, succession_entry, entry_of, fact_of}
-use Rattle.mb_model.specs.Work.{fate_for, pending_for}
+use Rattle.mb_model.specs.owners.Layers.{is_upper, is_runnable}
+use Rattle.mb_model.specs.owners.Rules.{kind_of, change_of, renews, Condition}
+use Rattle.mb_model.specs.owners.Log.{entries_of, layers_of, uses_of_device_key}
+use Rattle.mb_model.specs.records.OrderFormat.{order_format}
+use Rattle.mb_model.specs.machine.OrderChecks.{change_by, needs_succession, Passes, view_of}
+use Rattle.mb_model.specs.machine.OrderEffects.{entry_signed_by, log_with, state_after_succession, device_after, uses_after, key_made, state_after_change, state_after_new_key, ready_for, state_after_act, state_after_order, succession_entry, entry_of, fact_of}
+use Rattle.mb_model.specs.machine.Work.{fate_for, pending_for}
 use Rattle.mb_model_lemmas.proofs.AdditionLemmas.{device_is}
 use Rattle.mb_model_memory.specs.Commits.{new_entries}
 use Rattle.mb_model_memory.proofs.Additions.{outgoing_key, outgoing_with, gives_way, own_fate, outgoing_is, fate_is, new_entries_are}
-use Rattle.mb_model.specs.Memory.{AreSized}
-use Rattle.mb_model.specs.StoredLog.{AreCounted, HasIndex, entries_signed_for, log_completed_by}
-use Rattle.mb_model.specs.Flash.{HoldsPublic}
-use Rattle.mb_model.specs.Meaning.{Contents, FlashForm, HoldsContentsBy, HoldsContents, region_after_fate, fate_of_two, fate_of_three, state_of_contents, HasMeaningBy, is_dead, is_live, StandsForBy, StandsFor}
-use Rattle.mb_model.specs.Valid.{IsValidState}
+use Rattle.mb_model.specs.memories.Memory.{AreSized}
+use Rattle.mb_model.specs.memories.StoredLog.{AreCounted, HasIndex, entries_signed_for, log_completed_by}
+use Rattle.mb_model.specs.memories.Flash.{HoldsPublic}
+use Rattle.mb_model.specs.memories.Meaning.{Contents, FlashForm, HoldsContentsBy, HoldsContents, region_after_fate, fate_of_two, fate_of_three, state_of_contents, HasMeaningBy, is_dead, is_live, StandsForBy, StandsFor}
+use Rattle.mb_model.specs.memories.Valid.{IsValidState}
 use Rattle.mb_model_lemmas.specs.RegionLaws.{AreFated}
 use Rattle.mb_model_lemmas.proofs.FateLemmas.{fated_twice}
 use Rattle.mb_model_lemmas.proofs.FatedStates.{changed_is_fated, keyed_is_fated}

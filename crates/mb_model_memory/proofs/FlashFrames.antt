@@ -9,14 +9,14 @@ use Rattle.mb_model.specs.declared.state.Codes.{Codes}
 use Rattle.mb_model.specs.declared.stored.Root.{Root}
 use Rattle.mb_model.specs.declared.stored.Slot.{Slot}
 use Rattle.mb_model.specs.declared.stored.Header.{Header}
-use Rattle.mb_model.specs.HeaderFormat.{header_format}
-use Rattle.mb_model.specs.Pieces.{part}
-use Rattle.mb_model.specs.Sectors.{header_sector, code_sector, log_sector, BeginsAs}
-use Rattle.mb_model.specs.Flash.{sector, code_slot, HoldsHeader, HoldsCode, HoldsEntry, HoldsLog, HoldsPublic}
+use Rattle.mb_model.specs.records.HeaderFormat.{header_format}
+use Rattle.mb_model.specs.outside.Pieces.{part}
+use Rattle.mb_model.specs.memories.Sectors.{header_sector, code_sector, log_sector, BeginsAs}
+use Rattle.mb_model.specs.memories.Flash.{sector, code_slot, HoldsHeader, HoldsCode, HoldsEntry, HoldsLog, HoldsPublic}
 use Rattle.mb_model.proofs.Places.{length-part}
 use Rattle.mb_model_lemmas.specs.SegmentLaws.{IsSmallHeader}
 use Rattle.mb_model_lemmas.proofs.HeldSegments.{small_held}
-use Rattle.mb_model.specs.Spared.{IsUnused}
+use Rattle.mb_model.specs.memories.Spared.{IsUnused}
 use Rattle.mb_model_memory.specs.FlashInForce.{slot_in, AgreeForArea, DiffersOnlyIn}
 use Rattle.mb_model_memory.specs.FlashLaws.{AgreeingFlashesHoldTheSame, AgreementKeepsTheLog, FlashesAgreeWithThemselves, AgreementGoesOn, AgreementGoesBack, UncountedSectorsAreFree, OtherHeadersAreFree, UnnamedSlotsAreFree}
 

@@ -7,11 +7,11 @@ use Rattle.mb_model.specs.declared.entry.Entry.{Entry}
 use Rattle.mb_model.specs.declared.order.Act.{Act}
 use Rattle.mb_model.specs.declared.order.Act.TheVariants as act
 use Rattle.mb_model.specs.declared.stored.Slot.{Slot}
-use Rattle.mb_model.specs.EntryFormat.{entry_format}
-use Rattle.mb_model.specs.HeaderFormat.{code_length_format, slot_format, entry_bytes_format, unsigned_limit, unsigned_format, header_format}
-use Rattle.mb_model.specs.OrderFormat.{differs_in, act_by}
-use Rattle.mb_model.specs.Rules.{kind_of}
-use Rattle.mb_model.specs.Layers.{are_equal}
+use Rattle.mb_model.specs.records.EntryFormat.{entry_format}
+use Rattle.mb_model.specs.records.HeaderFormat.{code_length_format, slot_format, entry_bytes_format, unsigned_limit, unsigned_format, header_format}
+use Rattle.mb_model.specs.records.OrderFormat.{differs_in, act_by}
+use Rattle.mb_model.specs.owners.Rules.{kind_of}
+use Rattle.mb_model.specs.owners.Layers.{are_equal}
 use Rattle.mb_model.proofs.FormatBounds.{entry_short}
 use Rattle.mb_model_lemmas.proofs.WrittenLemmas.{entry_some, none_unsigned}
 use Rattle.mb_model_memory.specs.NextHeaders.{code_brought, slot_after}

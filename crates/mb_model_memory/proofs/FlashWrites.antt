@@ -11,11 +11,11 @@ use Rattle.mb_model.specs.declared.state.Codes.{Codes}
 use Rattle.mb_model.specs.declared.stored.Root.{Root}
 use Rattle.mb_model.specs.declared.stored.Slot.{Slot}
 use Rattle.mb_model.specs.declared.stored.Header.{Header}
-use Rattle.mb_model.specs.HeaderFormat.{header_format}
-use Rattle.mb_model.specs.OrderEffects.{code_after}
-use Rattle.mb_model.specs.Sectors.{header_sector, log_sector, BeginsAs}
-use Rattle.mb_model.specs.Flash.{sector, code_slot, HoldsHeader, HoldsCode, HoldsLog, HoldsPublic}
-use Rattle.mb_model.specs.StoredLog.{AreCounted}
+use Rattle.mb_model.specs.records.HeaderFormat.{header_format}
+use Rattle.mb_model.specs.machine.OrderEffects.{code_after}
+use Rattle.mb_model.specs.memories.Sectors.{header_sector, log_sector, BeginsAs}
+use Rattle.mb_model.specs.memories.Flash.{sector, code_slot, HoldsHeader, HoldsCode, HoldsLog, HoldsPublic}
+use Rattle.mb_model.specs.memories.StoredLog.{AreCounted}
 use Rattle.mb_model_lemmas.specs.SegmentLaws.{IsOnlyHeader}
 use Rattle.mb_model_lemmas.proofs.HeldSegments.{begins_with, holds_entry, log_push}
 use Rattle.mb_model_memory.specs.FlashInForce.{slot_in, AgreeForArea, IsUncounted, IsFreeSlot, BeginsWithBytes, IsSectorWritten}

@@ -6,10 +6,10 @@ use Rattle.mb_model.specs.declared.region.Region.{Region}
 use Rattle.mb_model.specs.declared.state.Codes.{Codes}
 use Rattle.mb_model.specs.declared.state.State.{State}
 use Rattle.mb_model.specs.declared.stored.Root.{Root}
-use Rattle.mb_model.specs.RootFormat.{root_format}
-use Rattle.mb_model.specs.Memory.{AreSized, IsBlank, life_byte, spare_bytes, area_of_slot, HoldsRecord}
-use Rattle.mb_model.specs.Flash.{HoldsPublic}
-use Rattle.mb_model.specs.Meaning.{RootIn, HoldsRegion, Contents, HoldsContents, state_of_contents, HasMeaning, is_dead, is_live, StandsFor}
+use Rattle.mb_model.specs.records.RootFormat.{root_format}
+use Rattle.mb_model.specs.memories.Memory.{AreSized, IsBlank, life_byte, spare_bytes, area_of_slot, HoldsRecord}
+use Rattle.mb_model.specs.memories.Flash.{HoldsPublic}
+use Rattle.mb_model.specs.memories.Meaning.{RootIn, HoldsRegion, Contents, HoldsContents, state_of_contents, HasMeaning, is_dead, is_live, StandsFor}
 use Rattle.mb_model_memory.specs.FlashInForce.{AgreeForArea}
 use Rattle.mb_model_memory.specs.InForce.{AgreeInForce, AgreeBesides}
 use Rattle.mb_model_memory.proofs.FlashFrames.{segments_stay, agree_turned}

@@ -1,6 +1,6 @@
 -- What keeps the meaning of a memory.
 use Rattle.std.proofs.Common.{sym}
-use Rattle.mb_model.specs.Board.{Memory, IsLoaded}
+use Rattle.mb_model.specs.outside.Board.{Memory, IsLoaded}
 use Rattle.mb_model_memory.specs.Holding.{KeepsContents, KeepsMeaning}
 use Rattle.mb_model_memory.proofs.CommitLemmas.{live_contents, stands_for_meant}
 

@@ -7,14 +7,15 @@ use Rattle.mb_model.specs.declared.region.Region.{Region}
 use Rattle.mb_model.specs.declared.state.State.{State}
 use Rattle.mb_model.specs.declared.stored.Pending.{Pending}
 use Rattle.mb_model.specs.declared.stored.Root.{Root}
-use Rattle.mb_model.specs.Log.{entries_of, layers_of}
-use Rattle.mb_model.specs.RootFormat.{root_format}
-use Rattle.mb_model.specs.OrderEffects.{state_after_order}
-use Rattle.mb_model.specs.Flash.{HoldsPublic}
-use Rattle.mb_model.specs.Memory.{AreSized, area_of_slot, HoldsRecord}
-use Rattle.mb_model.specs.StoredLog.{how_many_unsigned, AreCounted, entries_signed_for, outgoing_of, log_completed_by}
-use Rattle.mb_model.specs.Meaning.{RootIn, Contents, HoldsContents, region_after_fate, fate_of_two, fate_of_three, state_of_contents, StandsFor}
-use Rattle.mb_model.specs.Clean.{root_of, IsCleanFor}
+use Rattle.mb_model.specs.owners.Log.{entries_of, layers_of}
+use Rattle.mb_model.specs.records.RootFormat.{root_format}
+use Rattle.mb_model.specs.machine.OrderEffects.{state_after_order}
+use Rattle.mb_model.specs.memories.Flash.{HoldsPublic}
+use Rattle.mb_model.specs.memories.Memory.{AreSized, area_of_slot, HoldsRecord}
+use Rattle.mb_model.specs.memories.StoredLog.{how_many_unsigned, AreCounted, entries_signed_for, outgoing_of}
+use Rattle.mb_model.specs.memories.StoredLog.{log_completed_by}
+use Rattle.mb_model.specs.memories.Meaning.{RootIn, Contents, HoldsContents, region_after_fate, fate_of_two, fate_of_three, state_of_contents, StandsFor}
+use Rattle.mb_model.specs.memories.Clean.{root_of, IsCleanFor}
 use Rattle.mb_model_lemmas.proofs.FateLemmas.{kept_as_before}
 use Rattle.mb_model_lemmas.proofs.MeaningLemmas.{one_root_in, contents_of}
 use Rattle.mb_model_memory.specs.Commits.{new_entries}

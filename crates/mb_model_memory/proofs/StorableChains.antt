@@ -5,13 +5,13 @@ use Rattle.mb_format.proofs.Compositions.{all_items}
 use Rattle.mb_model.specs.declared.entry.SignedEntry.{SignedEntry}
 use Rattle.mb_model.specs.declared.region.RegionKey.{RegionKey}
 use Rattle.mb_model.specs.declared.state.State.{State}
-use Rattle.mb_model.specs.Attach.{bare_chain}
-use Rattle.mb_model.specs.ChainFormat.{statement_format, chain_format}
-use Rattle.mb_model.specs.EntryFormat.{signed_entry_format}
-use Rattle.mb_model.specs.LayerEvents.{statement_of}
-use Rattle.mb_model.specs.Log.{entries_of, last_of, number_of, serial_of}
-use Rattle.mb_model.specs.SignedTexts.{statement_text}
-use Rattle.mb_model.specs.Valid.{IsValidState}
+use Rattle.mb_model.specs.chains.Attach.{bare_chain}
+use Rattle.mb_model.specs.records.ChainFormat.{statement_format, chain_format}
+use Rattle.mb_model.specs.records.EntryFormat.{signed_entry_format}
+use Rattle.mb_model.specs.machine.LayerEvents.{statement_of}
+use Rattle.mb_model.specs.owners.Log.{entries_of, last_of, number_of, serial_of}
+use Rattle.mb_model.specs.machine.SignedTexts.{statement_text}
+use Rattle.mb_model.specs.memories.Valid.{IsValidState}
 use Rattle.mb_model_lemmas.proofs.AttachLemmas.{statement_allowed}
 use Rattle.mb_model_lemmas.proofs.SignatureLemmas.{length-signature_of}
 use Rattle.mb_model_memory.specs.Storable.{IsStorableState}

@@ -25,20 +25,20 @@ use Rattle.mb_model.specs.declared.region.RegionKey.{RegionKey}
 use Rattle.mb_model.specs.declared.region.Secret.{Secret}
 use Rattle.mb_model.specs.declared.state.Codes.{Codes}
 use Rattle.mb_model.specs.declared.stored.Fate.TheVariants.{Keep}
-use Rattle.mb_model.specs.Layers.{are_equal, layer_without_owner, layer_of}
-use Rattle.mb_model.specs.Rules.{kind_of, change_of, is_load, layer_from_order, loaded_layer, admits, after}
-use Rattle.mb_model.specs.Born.{born_key}
-use Rattle.mb_model.specs.Signing.{public_of}
-use Rattle.mb_model.specs.SignedTexts.{entry_text}
-use Rattle.mb_model.specs.KeyFormat.{public_key_format, key_seed_format}
-use Rattle.mb_model.specs.LayerFormat.{trust_format, one_trust, two_trusts, trust_by, has_of, code_name_format, layer_format, layers_format}
-use Rattle.mb_model.specs.EntryFormat.{key_kind_format, pair_format, birth_format, change_format, new_key_format, succession_format, entry_format, signed_entry_format}
-use Rattle.mb_model.specs.RootFormat.{region_key_format, fate_format}
-use Rattle.mb_model.specs.RegionFormat.{is_name, secret_format}
-use Rattle.mb_model.specs.OrderFormat.{differs_in, payload_format, act_by}
-use Rattle.mb_model.specs.PublicRecord.{code_format, codes_format}
-use Rattle.mb_model.specs.WrittenFlash.{CodesFitSlots}
-use Rattle.mb_model.specs.OrderEffects.{entry_signed_by, code_after, codes_after}
+use Rattle.mb_model.specs.owners.Layers.{are_equal, layer_without_owner, layer_of}
+use Rattle.mb_model.specs.owners.Rules.{kind_of, change_of, is_load, layer_from_order, loaded_layer, admits, after}
+use Rattle.mb_model.specs.owners.Born.{born_key}
+use Rattle.mb_model.specs.signatures.Signing.{public_of}
+use Rattle.mb_model.specs.machine.SignedTexts.{entry_text}
+use Rattle.mb_model.specs.records.KeyFormat.{public_key_format, key_seed_format}
+use Rattle.mb_model.specs.records.LayerFormat.{trust_format, one_trust, two_trusts, trust_by, has_of, code_name_format, layer_format, layers_format}
+use Rattle.mb_model.specs.records.EntryFormat.{key_kind_format, pair_format, birth_format, change_format, new_key_format, succession_format, entry_format, signed_entry_format}
+use Rattle.mb_model.specs.records.RootFormat.{region_key_format, fate_format}
+use Rattle.mb_model.specs.records.RegionFormat.{is_name, secret_format}
+use Rattle.mb_model.specs.records.OrderFormat.{differs_in, payload_format, act_by}
+use Rattle.mb_model.specs.memories.PublicRecord.{code_format, codes_format}
+use Rattle.mb_model.specs.memories.WrittenFlash.{CodesFitSlots}
+use Rattle.mb_model.specs.machine.OrderEffects.{entry_signed_by, code_after, codes_after}
 use Rattle.mb_model_lemmas.proofs.SignatureLemmas.{length-signature_of, public_sized, born_key-sized}
 use Rattle.mb_model_lemmas.proofs.RuleLemmas.{layer_with}
 

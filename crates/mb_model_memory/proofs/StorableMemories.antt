@@ -21,22 +21,22 @@ use Rattle.mb_model.specs.declared.stored.Fate.TheVariants.{Keep, Empty, DropCon
 use Rattle.mb_model.specs.declared.stored.Outgoing.{Outgoing}
 use Rattle.mb_model.specs.declared.stored.Pending.{Pending}
 use Rattle.mb_model.specs.declared.stored.Root.{Root}
-use Rattle.mb_model.specs.Layers.{unowned_layers}
-use Rattle.mb_model.specs.Log.{entries_of, layers_in, last_of, layers_of}
-use Rattle.mb_model.specs.Regions.{is_epoch}
-use Rattle.mb_model.specs.LayerEvents.{has_number}
-use Rattle.mb_model.specs.KeyFormat.{public_key_format, key_seed_format}
-use Rattle.mb_model.specs.LayerFormat.{layers_format}
-use Rattle.mb_model.specs.EntryFormat.{birth_format, change_format, entry_format, signed_entry_format}
-use Rattle.mb_model.specs.RootFormat.{region_key_format, fate_format, pending_format, root_format}
-use Rattle.mb_model.specs.RegionFormat.{secret_format, secrets_format, keys_format, region_by, region_format, SpellsRegion}
-use Rattle.mb_model.specs.OrderEffects.{entry_signed_by}
-use Rattle.mb_model.specs.StoredLog.{entries_signed_for, outgoing_of, log_completed_by}
-use Rattle.mb_model.specs.Flash.{HoldsPublic}
-use Rattle.mb_model.specs.OldFlash.{HeldPublic}
-use Rattle.mb_model.specs.Meaning.{Contents, FlashForm, HoldsContentsBy, region_after_fate, fate_of_two, fate_of_three, state_of_contents, StandsForBy}
-use Rattle.mb_model.specs.Valid.{IsValidState}
-use Rattle.mb_model.specs.Factory.{layers_at_birth, serial_from, birth_entry, state_at_birth}
+use Rattle.mb_model.specs.owners.Layers.{unowned_layers}
+use Rattle.mb_model.specs.owners.Log.{entries_of, layers_in, last_of, layers_of}
+use Rattle.mb_model.specs.owners.Regions.{is_epoch}
+use Rattle.mb_model.specs.machine.LayerEvents.{has_number}
+use Rattle.mb_model.specs.records.KeyFormat.{public_key_format, key_seed_format}
+use Rattle.mb_model.specs.records.LayerFormat.{layers_format}
+use Rattle.mb_model.specs.records.EntryFormat.{birth_format, change_format, entry_format, signed_entry_format}
+use Rattle.mb_model.specs.records.RootFormat.{region_key_format, fate_format, pending_format, root_format}
+use Rattle.mb_model.specs.records.RegionFormat.{secret_format, secrets_format, keys_format, region_by, region_format, SpellsRegion}
+use Rattle.mb_model.specs.machine.OrderEffects.{entry_signed_by}
+use Rattle.mb_model.specs.memories.StoredLog.{entries_signed_for, outgoing_of, log_completed_by}
+use Rattle.mb_model.specs.memories.Flash.{HoldsPublic}
+use Rattle.mb_model.specs.memories.OldFlash.{HeldPublic}
+use Rattle.mb_model.specs.memories.Meaning.{Contents, FlashForm, HoldsContentsBy, region_after_fate, fate_of_two, fate_of_three, state_of_contents, StandsForBy}
+use Rattle.mb_model.specs.memories.Valid.{IsValidState}
+use Rattle.mb_model.specs.memories.Factory.{layers_at_birth, serial_from, birth_entry, state_at_birth}
 use Rattle.mb_model.proofs.Places.{length-part}
 use Rattle.mb_model.proofs.RecordFormatLaws.{few_secrets}
 use Rattle.mb_model_lemmas.proofs.PublicLemmas.{root_pending, entry_from_signed, length-signed_for}

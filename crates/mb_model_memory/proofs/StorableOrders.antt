@@ -19,19 +19,19 @@ use Rattle.mb_model.specs.declared.entry.Entry.{Entry}
 use Rattle.mb_model.specs.declared.region.Region.{Region}
 use Rattle.mb_model.specs.declared.region.RegionKey.{RegionKey}
 use Rattle.mb_model.specs.declared.state.State.{State}
-use Rattle.mb_model.specs.Layers.{layer_of}
-use Rattle.mb_model.specs.Rules.{kind_of, change_of, least_layer, MayBeFor, is_load, renews, Condition, layer_from_order, after, admits, kept_regions}
-use Rattle.mb_model.specs.Log.{entries_of, number_of, uses_of_device_key, keys_made_by}
-use Rattle.mb_model.specs.Regions.{empty_region, is_epoch, without_configuration_keys, region_after, with_key}
-use Rattle.mb_model.specs.KeyFormat.{public_key_format, key_seed_format}
-use Rattle.mb_model.specs.LayerFormat.{layer_format, layers_format}
-use Rattle.mb_model.specs.EntryFormat.{entry_format, signed_entry_format}
-use Rattle.mb_model.specs.RootFormat.{region_key_format}
-use Rattle.mb_model.specs.OrderFormat.{differs_in, act_by, body_format, order_format}
+use Rattle.mb_model.specs.owners.Layers.{layer_of}
+use Rattle.mb_model.specs.owners.Rules.{kind_of, change_of, least_layer, MayBeFor, is_load, renews, Condition, layer_from_order, after, admits, kept_regions}
+use Rattle.mb_model.specs.owners.Log.{entries_of, number_of, uses_of_device_key, keys_made_by}
+use Rattle.mb_model.specs.owners.Regions.{empty_region, is_epoch, without_configuration_keys, region_after, with_key}
+use Rattle.mb_model.specs.records.KeyFormat.{public_key_format, key_seed_format}
+use Rattle.mb_model.specs.records.LayerFormat.{layer_format, layers_format}
+use Rattle.mb_model.specs.records.EntryFormat.{entry_format, signed_entry_format}
+use Rattle.mb_model.specs.records.RootFormat.{region_key_format}
+use Rattle.mb_model.specs.records.OrderFormat.{differs_in, act_by, body_format, order_format}
 use Rattle.mb_model_lemmas.proofs.ValidSteps.{region_keys_are}
-use Rattle.mb_model.specs.Regions.{region_of, with_region}
-use Rattle.mb_model.specs.OrderChecks.{change_by, needs_succession, RegionHasRoom, Passes, view_of}
-use Rattle.mb_model.specs.OrderEffects.{entry_signed_by, log_with, state_after_succession, device_after, cosigners_of, next_device_key, state_after_change, key_made, state_after_new_key, ready_for, state_after_act, state_after_order, succession_entry, entry_of, change_fact}
+use Rattle.mb_model.specs.owners.Regions.{region_of, with_region}
+use Rattle.mb_model.specs.machine.OrderChecks.{change_by, needs_succession, RegionHasRoom, Passes, view_of}
+use Rattle.mb_model.specs.machine.OrderEffects.{entry_signed_by, log_with, state_after_succession, device_after, cosigners_of, next_device_key, state_after_change, key_made, state_after_new_key, ready_for, state_after_act, state_after_order, succession_entry, entry_of, change_fact}
 use Rattle.mb_model.specs.declared.state.Fact.TheVariants as fact
 use Rattle.mb_model_lemmas.proofs.LogLemmas.{number_of-le-length, made-le-length, length-entries_of}
 use Rattle.mb_model_memory.specs.Storable.{IsStorableRegion, IsStorableState}

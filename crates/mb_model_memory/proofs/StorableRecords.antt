@@ -25,26 +25,27 @@ use Rattle.mb_model.specs.declared.stored.Fate.{Fate}
 use Rattle.mb_model.specs.declared.stored.Fate.TheVariants.{Keep, Empty, DropConfiguration, AddKey}
 use Rattle.mb_model.specs.declared.stored.Public.{Public}
 use Rattle.mb_model.specs.declared.stored.Root.{Root}
-use Rattle.mb_model.specs.Rules.{admits}
-use Rattle.mb_model.specs.Log.{entries_of, uses_of_device_key, keys_made_by}
-use Rattle.mb_model.specs.Signing.{public_of}
-use Rattle.mb_model.specs.KeyFormat.{key_seed_format}
-use Rattle.mb_model.specs.EntryFormat.{entry_format, signed_entry_format}
-use Rattle.mb_model.specs.RootFormat.{region_key_format, outgoing_format, fate_format, pending_format, root_format}
-use Rattle.mb_model.specs.RegionFormat.{secret_format, secrets_format, keys_format, region_by, region_format, CanBeWritten}
-use Rattle.mb_model.specs.OrderFormat.{order_format}
-use Rattle.mb_model.specs.PublicRecord.{code_format, codes_format, public_entry_format, public_format}
-use Rattle.mb_model.specs.WrittenFlash.{CodesFitSlots}
-use Rattle.mb_model.specs.WrittenImage.{FitsImage}
-use Rattle.mb_model.specs.OldFlash.{with_signature, without_signature, public_of_parts}
-use Rattle.mb_model.specs.OrderChecks.{needs_succession, Passes, view_of}
-use Rattle.mb_model.specs.OrderEffects.{entry_signed_by, log_with, cosigners_of, key_made, ready_for, state_after_order, succession_entry, entry_of, fact_of}
-use Rattle.mb_model.specs.Work.{pending_for}
+use Rattle.mb_model.specs.owners.Rules.{admits}
+use Rattle.mb_model.specs.owners.Log.{entries_of, uses_of_device_key, keys_made_by}
+use Rattle.mb_model.specs.signatures.Signing.{public_of}
+use Rattle.mb_model.specs.records.KeyFormat.{key_seed_format}
+use Rattle.mb_model.specs.records.EntryFormat.{entry_format, signed_entry_format}
+use Rattle.mb_model.specs.records.RootFormat.{region_key_format, outgoing_format, fate_format, pending_format}
+use Rattle.mb_model.specs.records.RootFormat.{root_format}
+use Rattle.mb_model.specs.records.RegionFormat.{secret_format, secrets_format, keys_format, region_by, region_format, CanBeWritten}
+use Rattle.mb_model.specs.records.OrderFormat.{order_format}
+use Rattle.mb_model.specs.memories.PublicRecord.{code_format, codes_format, public_entry_format, public_format}
+use Rattle.mb_model.specs.memories.WrittenFlash.{CodesFitSlots}
+use Rattle.mb_model.specs.memories.WrittenImage.{FitsImage}
+use Rattle.mb_model.specs.memories.OldFlash.{with_signature, without_signature, public_of_parts}
+use Rattle.mb_model.specs.machine.OrderChecks.{needs_succession, Passes, view_of}
+use Rattle.mb_model.specs.machine.OrderEffects.{entry_signed_by, log_with, cosigners_of, key_made, ready_for, state_after_order, succession_entry, entry_of, fact_of}
+use Rattle.mb_model.specs.machine.Work.{pending_for}
 use Rattle.mb_model_memory.specs.Commits.{new_entries}
 use Rattle.mb_model_memory.proofs.Additions.{own_fate, gives_way, outgoing_with, outgoing_is, fate_is, new_entries_are}
-use Rattle.mb_model.specs.Fates.{change_fate}
-use Rattle.mb_model.specs.Clean.{root_of}
-use Rattle.mb_model.specs.Valid.{IsValidState}
+use Rattle.mb_model.specs.machine.Fates.{change_fate}
+use Rattle.mb_model.specs.memories.Clean.{root_of}
+use Rattle.mb_model.specs.memories.Valid.{IsValidState}
 use Rattle.mb_model.proofs.FormatBounds.{root_short, public_short}
 use Rattle.mb_model_lemmas.proofs.LogLemmas.{used-bound}
 use Rattle.mb_model_lemmas.proofs.Splits.{All-split}

@@ -15,19 +15,19 @@ use Rattle.mb_model.specs.declared.region.Region.{Region}
 use Rattle.mb_model.specs.declared.region.RegionKey.{RegionKey}
 use Rattle.mb_model.specs.declared.region.Secret.{Secret}
 use Rattle.mb_model.specs.declared.state.State.{State}
-use Rattle.mb_model.specs.Layers.{is_upper, is_runnable}
-use Rattle.mb_model.specs.Log.{entries_of, number_of}
+use Rattle.mb_model.specs.owners.Layers.{is_upper, is_runnable}
+use Rattle.mb_model.specs.owners.Log.{entries_of, number_of}
 use Rattle.mb_model.specs.declared.reply.Refusal.{Refusal}
 use Rattle.mb_model.specs.declared.reply.Refusal.TheVariants.{WrongPhase, WrongLayer}
-use Rattle.mb_model.specs.Refusals.{refusal_reply}
-use Rattle.mb_model.specs.RootFormat.{region_key_format}
-use Rattle.mb_model.specs.RegionFormat.{is_name_byte, is_name, secret_format}
-use Rattle.mb_model.specs.Regions.{region_of}
-use Rattle.mb_model.specs.OrderStep.{OrderStep, spells_none, fails_check, is_obeyed}
-use Rattle.mb_model.specs.LayerEvents.{Outcome, has_name, with_secret, has_number, with_use, put_event, get_event, drop_event, sign_with, sign_event, on_region}
-use Rattle.mb_model.specs.Machine.{Phase, off, dead, ratchet, World, Told, boot_event, running_state, running_state_in, status_event, go_event, region_event, CommandStep, Machine, Step, machine_step, lacks_memory, loses_power, Run}
-use Rattle.mb_model.specs.Script.{IsName, FitsMessage, IsScriptEvent}
-use Rattle.mb_model.specs.Valid.{IsValidState, Valid}
+use Rattle.mb_model.specs.machine.Refusals.{refusal_reply}
+use Rattle.mb_model.specs.records.RootFormat.{region_key_format}
+use Rattle.mb_model.specs.records.RegionFormat.{is_name_byte, is_name, secret_format}
+use Rattle.mb_model.specs.owners.Regions.{region_of}
+use Rattle.mb_model.specs.machine.OrderStep.{OrderStep, spells_none, fails_check, is_obeyed}
+use Rattle.mb_model.specs.machine.LayerEvents.{Outcome, has_name, with_secret, has_number, with_use, put_event, get_event, drop_event, sign_with, sign_event, on_region}
+use Rattle.mb_model.specs.machine.Machine.{Phase, off, dead, ratchet, World, Told, boot_event, running_state, running_state_in, status_event, go_event, region_event, CommandStep, Machine, Step, machine_step, lacks_memory, loses_power, Run}
+use Rattle.mb_model.specs.chains.Script.{IsName, FitsMessage, IsScriptEvent}
+use Rattle.mb_model.specs.memories.Valid.{IsValidState, Valid}
 use Rattle.mb_model_lemmas.proofs.FateLemmas.{keys_increase, pairs_head, pairs_tail}
 use Rattle.mb_model_lemmas.proofs.ValidStates.{valid_is_ruled, region_is_valid}
 use Rattle.mb_model_lemmas.proofs.ValidSteps.{step_valid}

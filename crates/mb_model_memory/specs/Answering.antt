@@ -4,9 +4,9 @@ use Rattle.std.specs.Prelude.{◌≡◌, ◌⊎◌, false, Result, Ok, Err, IsTr
 use Rattle.mb_model.specs.declared.reply.Reply.{Reply}
 use Rattle.mb_model.specs.declared.reply.Reply.TheVariants as reply
 use Rattle.mb_model.specs.declared.state.State.{State}
-use Rattle.mb_model.specs.Board.{Memory, Meter}
-use Rattle.mb_model.specs.LayerEvents.{Outcome}
-use Rattle.mb_model.specs.Machine.{may_be_cut}
+use Rattle.mb_model.specs.outside.Board.{Memory, Meter}
+use Rattle.mb_model.specs.machine.LayerEvents.{Outcome}
+use Rattle.mb_model.specs.machine.Machine.{may_be_cut}
 use Rattle.mb_model_memory.specs.Holding.{Means, IsReady}
 
 -- The answer to an event with this outcome, and the memory before and after it.

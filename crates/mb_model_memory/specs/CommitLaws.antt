@@ -9,18 +9,18 @@ use Rattle.mb_model.specs.declared.region.Region.{Region}
 use Rattle.mb_model.specs.declared.state.Codes.{Codes}
 use Rattle.mb_model.specs.declared.state.State.{State}
 use Rattle.mb_model.specs.declared.stored.Root.{Root}
-use Rattle.mb_model.specs.Log.{entries_of, layers_of}
-use Rattle.mb_model.specs.OrderFormat.{order_format}
-use Rattle.mb_model.specs.RootFormat.{root_format}
-use Rattle.mb_model.specs.OrderChecks.{Passes, view_of}
-use Rattle.mb_model.specs.OrderEffects.{state_after_order}
+use Rattle.mb_model.specs.owners.Log.{entries_of, layers_of}
+use Rattle.mb_model.specs.records.OrderFormat.{order_format}
+use Rattle.mb_model.specs.records.RootFormat.{root_format}
+use Rattle.mb_model.specs.machine.OrderChecks.{Passes, view_of}
+use Rattle.mb_model.specs.machine.OrderEffects.{state_after_order}
 use Rattle.mb_model_memory.specs.Commits.{new_entries}
-use Rattle.mb_model.specs.Valid.{IsValidState}
-use Rattle.mb_model.specs.Memory.{AreSized, area_of_slot, HoldsRecord}
-use Rattle.mb_model.specs.StoredLog.{AreCounted, HasIndex}
-use Rattle.mb_model.specs.Flash.{HoldsPublic}
-use Rattle.mb_model.specs.Meaning.{HoldsRegion, Contents, HoldsContents, state_of_contents, StandsFor}
-use Rattle.mb_model.specs.Clean.{root_of, IsCleanFor}
+use Rattle.mb_model.specs.memories.Valid.{IsValidState}
+use Rattle.mb_model.specs.memories.Memory.{AreSized, area_of_slot, HoldsRecord}
+use Rattle.mb_model.specs.memories.StoredLog.{AreCounted, HasIndex}
+use Rattle.mb_model.specs.memories.Flash.{HoldsPublic}
+use Rattle.mb_model.specs.memories.Meaning.{HoldsRegion, Contents, HoldsContents, state_of_contents, StandsFor}
+use Rattle.mb_model.specs.memories.Clean.{root_of, IsCleanFor}
 use Rattle.mb_model_memory.specs.Commits.{root_for, committed, two_done, three_done, both_done, IsUnderWay}
 use Rattle.mb_model_memory.specs.Commits.{at_rest}
 use Rattle.mb_model_memory.specs.FlashInForce.{AgreeForArea}

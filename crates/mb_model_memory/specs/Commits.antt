@@ -4,11 +4,11 @@ use Rattle.std.specs.Prelude.{◌≡◌, ℕ, List, [], Some}
 use Rattle.mb_model.specs.declared.order.Order.{Order}
 use Rattle.mb_model.specs.declared.state.State.{State}
 use Rattle.mb_model.specs.declared.stored.Root.{Root}
-use Rattle.mb_model.specs.OrderEffects.{state_after_order}
+use Rattle.mb_model.specs.machine.OrderEffects.{state_after_order}
 use Rattle.mb_model.specs.declared.entry.Entry.{Entry}
-use Rattle.mb_model.specs.Work.{bodies_for, pending_for}
-use Rattle.mb_model.specs.Meaning.{Contents, region_after_fate, fate_of_two, fate_of_three}
-use Rattle.mb_model.specs.Clean.{root_of}
+use Rattle.mb_model.specs.machine.Work.{bodies_for, pending_for}
+use Rattle.mb_model.specs.memories.Meaning.{Contents, region_after_fate, fate_of_two, fate_of_three}
+use Rattle.mb_model.specs.memories.Clean.{root_of}
 
 -- the root that commits: device key and uses as the order leaves them, and the pending work, with the public record in
 -- this area of the flash

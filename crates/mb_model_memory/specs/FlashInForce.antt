@@ -5,9 +5,9 @@ use Rattle.std.specs.Prelude.{List, length, take, slice_index}
 use Rattle.mb_model.specs.declared.limits.TheConstants.{SECTOR_LENGTH}
 use Rattle.mb_model.specs.declared.stored.Slot.{Slot}
 use Rattle.mb_model.specs.declared.stored.Header.{Header}
-use Rattle.mb_model.specs.Sectors.{header_sector, log_sector}
-use Rattle.mb_model.specs.Flash.{sector, code_slot, HoldsHeader}
-use Rattle.mb_model.specs.Spared.{AgreeInUnused}
+use Rattle.mb_model.specs.memories.Sectors.{header_sector, log_sector}
+use Rattle.mb_model.specs.memories.Flash.{sector, code_slot, HoldsHeader}
+use Rattle.mb_model.specs.memories.Spared.{AgreeInUnused}
 
 -- the slot that a header names for a layer from 1 to 3
 abbrev pub slot_in : Header → ℕ → Slot

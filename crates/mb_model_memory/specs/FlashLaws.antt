@@ -10,17 +10,17 @@ use Rattle.mb_model.specs.declared.order.Order.{Order}
 use Rattle.mb_model.specs.declared.state.Codes.{Codes}
 use Rattle.mb_model.specs.declared.stored.Root.{Root}
 use Rattle.mb_model.specs.declared.stored.Header.{Header}
-use Rattle.mb_model.specs.Board.{Memory}
-use Rattle.mb_model.specs.EntryFormat.{entry_format}
-use Rattle.mb_model.specs.HeaderFormat.{first_text, second_text, unsigned_format, header_format}
-use Rattle.mb_model.specs.Meaning.{RootIn}
-use Rattle.mb_model.specs.OrderEffects.{codes_after}
-use Rattle.mb_model.specs.OrderFormat.{order_format}
-use Rattle.mb_model.specs.Sectors.{header_sector, code_sector, log_sector}
-use Rattle.mb_model.specs.Flash.{HoldsHeader, HoldsLog, AreBytesOf, HoldsPublic}
-use Rattle.mb_model.specs.StoredLog.{AreCounted}
+use Rattle.mb_model.specs.outside.Board.{Memory}
+use Rattle.mb_model.specs.records.EntryFormat.{entry_format}
+use Rattle.mb_model.specs.records.HeaderFormat.{first_text, second_text, unsigned_format, header_format}
+use Rattle.mb_model.specs.memories.Meaning.{RootIn}
+use Rattle.mb_model.specs.machine.OrderEffects.{codes_after}
+use Rattle.mb_model.specs.records.OrderFormat.{order_format}
+use Rattle.mb_model.specs.memories.Sectors.{header_sector, code_sector, log_sector}
+use Rattle.mb_model.specs.memories.Flash.{HoldsHeader, HoldsLog, AreBytesOf, HoldsPublic}
+use Rattle.mb_model.specs.memories.StoredLog.{AreCounted}
 use Rattle.mb_model_lemmas.specs.SegmentLaws.{IsOnlyHeader, SpellsLog}
-use Rattle.mb_model.specs.Spared.{KeepsSignedLog}
+use Rattle.mb_model.specs.memories.Spared.{KeepsSignedLog}
 use Rattle.mb_model_memory.specs.FlashInForce.{slot_in, AgreeForArea, IsUncounted, IsFreeSlot}
 use Rattle.mb_model_memory.specs.FlashInForce.{DiffersOnlyIn, IsSectorWritten}
 use Rattle.mb_model_memory.specs.NextHeaders.{code_brought, HasNewCode, IsCodeWritten}

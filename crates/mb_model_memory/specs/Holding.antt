@@ -4,10 +4,10 @@ use Rattle.mb_model.specs.declared.region.Region.{Region}
 use Rattle.mb_model.specs.declared.state.State.{State}
 use Rattle.mb_model.specs.declared.stored.Fate.{Fate}
 use Rattle.mb_model.specs.declared.stored.Pending.{Pending}
-use Rattle.mb_model.specs.Board.{Memory}
-use Rattle.mb_model.specs.Meaning.{Contents, HoldsContents, StandsFor, fate_of_two, fate_of_three}
-use Rattle.mb_model.specs.Clean.{IsCleanFor}
-use Rattle.mb_model.specs.Valid.{IsValidState}
+use Rattle.mb_model.specs.outside.Board.{Memory}
+use Rattle.mb_model.specs.memories.Meaning.{Contents, HoldsContents, StandsFor, fate_of_two, fate_of_three}
+use Rattle.mb_model.specs.memories.Clean.{IsCleanFor}
+use Rattle.mb_model.specs.memories.Valid.{IsValidState}
 
 -- the memory holds these contents
 abbrev pub Holds : Memory → Contents → Type 0

@@ -1,8 +1,8 @@
 -- Which bytes of two memories count. What may be written elsewhere without changing the state?
 use Rattle.std.specs.Prelude.{◌≡◌, ◌≢◌, ℕ, ◌≤◌, List}
 use Rattle.mb_model.specs.declared.stored.Root.{Root}
-use Rattle.mb_model.specs.Memory.{life_byte, spare_bytes, area_of_slot}
-use Rattle.mb_model.specs.Meaning.{RootIn}
+use Rattle.mb_model.specs.memories.Memory.{life_byte, spare_bytes, area_of_slot}
+use Rattle.mb_model.specs.memories.Meaning.{RootIn}
 use Rattle.mb_model_memory.specs.FlashInForce.{AgreeForArea}
 
 -- Two memories have the same bytes wherever these are in force: the life byte, the bytes between the selectors and the

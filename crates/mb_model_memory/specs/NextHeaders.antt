@@ -6,9 +6,9 @@ use Rattle.mb_model.specs.declared.order.Act.{Act}
 use Rattle.mb_model.specs.declared.order.Act.TheVariants as act
 use Rattle.mb_model.specs.declared.stored.Slot.{Slot}
 use Rattle.mb_model.specs.declared.stored.Header.{Header}
-use Rattle.mb_model.specs.EntryFormat.{entry_format}
-use Rattle.mb_model.specs.Sectors.{code_sector}
-use Rattle.mb_model.specs.Flash.{code_slot}
+use Rattle.mb_model.specs.records.EntryFormat.{entry_format}
+use Rattle.mb_model.specs.memories.Sectors.{code_sector}
+use Rattle.mb_model.specs.memories.Flash.{code_slot}
 use Rattle.mb_model_memory.specs.FlashInForce.{DiffersOnlyIn, BeginsWithBytes}
 
 -- ---- code

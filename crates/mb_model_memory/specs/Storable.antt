@@ -3,12 +3,12 @@ use Rattle.std.specs.Prelude.{◌≡◌, ◌≤◌, length, All, Option, None, S
 use Rattle.mb_model.specs.declared.limits.TheConstants.{SECRET_LIMIT, KEY_LIMIT, ENTRY_LIMIT}
 use Rattle.mb_model.specs.declared.region.Region.{Region}
 use Rattle.mb_model.specs.declared.state.State.{State}
-use Rattle.mb_model.specs.KeyFormat.{key_seed_format}
-use Rattle.mb_model.specs.LayerFormat.{layers_format}
-use Rattle.mb_model.specs.EntryFormat.{signed_entry_format}
-use Rattle.mb_model.specs.RootFormat.{region_key_format}
-use Rattle.mb_model.specs.RegionFormat.{secret_format}
-use Rattle.mb_model.specs.PublicRecord.{codes_format}
+use Rattle.mb_model.specs.records.KeyFormat.{key_seed_format}
+use Rattle.mb_model.specs.records.LayerFormat.{layers_format}
+use Rattle.mb_model.specs.records.EntryFormat.{signed_entry_format}
+use Rattle.mb_model.specs.records.RootFormat.{region_key_format}
+use Rattle.mb_model.specs.records.RegionFormat.{secret_format}
+use Rattle.mb_model.specs.memories.PublicRecord.{codes_format}
 
 -- each secret and each key has a spelling, and there are no more than a record holds
 pub record IsStorableRegion (region : Region) : Type 0 where

@@ -10,23 +10,23 @@ use Rattle.mb_model.specs.declared.region.Region.{Region}
 use Rattle.mb_model.specs.declared.state.State.{State}
 use Rattle.mb_model.specs.declared.stored.Public.{Public}
 use Rattle.mb_model.specs.declared.stored.Root.{Root}
-use Rattle.mb_model.specs.KeyFormat.{public_key_format}
-use Rattle.mb_model.specs.OrderFormat.{order_format}
-use Rattle.mb_model.specs.RootFormat.{root_format}
-use Rattle.mb_model.specs.RegionFormat.{CanBeWritten}
-use Rattle.mb_model.specs.WrittenImage.{FitsImage}
-use Rattle.mb_model.specs.PublicRecord.{public_format}
-use Rattle.mb_model.specs.OldFlash.{public_of_parts, HeldPublic}
-use Rattle.mb_model.specs.OrderChecks.{Passes, view_of}
-use Rattle.mb_model.specs.OrderEffects.{state_after_order}
+use Rattle.mb_model.specs.records.KeyFormat.{public_key_format}
+use Rattle.mb_model.specs.records.OrderFormat.{order_format}
+use Rattle.mb_model.specs.records.RootFormat.{root_format}
+use Rattle.mb_model.specs.records.RegionFormat.{CanBeWritten}
+use Rattle.mb_model.specs.memories.WrittenImage.{FitsImage}
+use Rattle.mb_model.specs.memories.PublicRecord.{public_format}
+use Rattle.mb_model.specs.memories.OldFlash.{public_of_parts, HeldPublic}
+use Rattle.mb_model.specs.machine.OrderChecks.{Passes, view_of}
+use Rattle.mb_model.specs.machine.OrderEffects.{state_after_order}
 use Rattle.mb_model_memory.specs.Commits.{new_entries}
-use Rattle.mb_model.specs.Machine.{World, Step, Run}
-use Rattle.mb_model.specs.Valid.{IsValidState, Valid}
-use Rattle.mb_model.specs.Flash.{HoldsPublic}
-use Rattle.mb_model.specs.Meaning.{FlashForm, StandsForBy}
-use Rattle.mb_model.specs.Clean.{root_of}
-use Rattle.mb_model.specs.Factory.{state_at_birth}
-use Rattle.mb_model.specs.Script.{IsScriptEvent}
+use Rattle.mb_model.specs.machine.Machine.{World, Step, Run}
+use Rattle.mb_model.specs.memories.Valid.{IsValidState, Valid}
+use Rattle.mb_model.specs.memories.Flash.{HoldsPublic}
+use Rattle.mb_model.specs.memories.Meaning.{FlashForm, StandsForBy}
+use Rattle.mb_model.specs.memories.Clean.{root_of}
+use Rattle.mb_model.specs.memories.Factory.{state_at_birth}
+use Rattle.mb_model.specs.chains.Script.{IsScriptEvent}
 use Rattle.mb_model_memory.specs.Commits.{root_for}
 use Rattle.mb_model_memory.specs.Storable.{IsStorableRegion, IsStorableState, Storable}
 

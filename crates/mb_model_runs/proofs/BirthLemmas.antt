@@ -10,13 +10,13 @@ use Rattle.mb_model.specs.declared.entry.Entry.{Entry}
 use Rattle.mb_model.specs.declared.entry.Entry.TheVariants.{NewKey}
 use Rattle.mb_model.specs.declared.entry.SignedEntry.{SignedEntry}
 use Rattle.mb_model.specs.declared.state.State.{State}
-use Rattle.mb_model.specs.Log.{figures_of, entries_of, keys_made_by, RuledLog}
-use Rattle.mb_model.specs.ChainFormat.{chain_format}
-use Rattle.mb_model.specs.SignedTexts.{entry_text, IsSignedBy}
-use Rattle.mb_model.specs.Valid.{EachFollows, IsValidState}
-use Rattle.mb_model.specs.Attach.{bare_chain}
-use Rattle.mb_model.specs.Acceptance.{IsGood, AreGood, IsBornOf, KeyEntry, key_in, key_of, report_of, Accepts}
-use Rattle.mb_model.specs.DeviceChains.{IsChainOf}
+use Rattle.mb_model.specs.owners.Log.{figures_of, entries_of, keys_made_by, RuledLog}
+use Rattle.mb_model.specs.records.ChainFormat.{chain_format}
+use Rattle.mb_model.specs.machine.SignedTexts.{entry_text, IsSignedBy}
+use Rattle.mb_model.specs.memories.Valid.{EachFollows, IsValidState}
+use Rattle.mb_model.specs.chains.Attach.{bare_chain}
+use Rattle.mb_model.specs.chains.Acceptance.{IsGood, AreGood, IsBornOf, KeyEntry, key_in, key_of, report_of, Accepts}
+use Rattle.mb_model.specs.chains.DeviceChains.{IsChainOf}
 use Rattle.mb_model_lemmas.specs.AliveLaws.{makes, IsUnmade}
 use Rattle.mb_model_lemmas.proofs.LogLemmas.{made-push, last_of-split}
 use Rattle.mb_model_lemmas.proofs.AliveLemmas.{later_is_unmade}

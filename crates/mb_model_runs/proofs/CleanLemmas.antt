@@ -5,9 +5,9 @@ use Rattle.std.proofs.lemmas.List.Elements.{All-head, All-tail}
 use Rattle.mb_model.specs.declared.event.Answered.{Answered}
 use Rattle.mb_model.specs.declared.event.Event.TheVariants.{Tamper}
 use Rattle.mb_model.specs.declared.reply.Reply.TheVariants.{Booted, Stopped}
-use Rattle.mb_model.specs.Acknowledged.{HoldsNoOther, power_is_on, device_was_tampered, nothing_was_left, AreWiping, MayAnswer}
-use Rattle.mb_model.specs.Board.{Held}
-use Rattle.mb_model.specs.Machine.{may_be_cut}
+use Rattle.mb_model.specs.memories.Acknowledged.{HoldsNoOther, power_is_on, device_was_tampered, nothing_was_left, AreWiping, MayAnswer}
+use Rattle.mb_model.specs.outside.Board.{Held}
+use Rattle.mb_model.specs.machine.Machine.{may_be_cut}
 use Rattle.mb_model_lemmas.proofs.RefusalLemmas.{written_is_on}
 use Rattle.mb_model_runs.specs.RunLaws.{MayAnswerAll}
 

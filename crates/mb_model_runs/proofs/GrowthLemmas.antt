@@ -9,13 +9,13 @@ use Rattle.mb_model.specs.declared.entry.SignedEntry.{SignedEntry}
 use Rattle.mb_model.specs.declared.event.Answered.{Answered}
 use Rattle.mb_model.specs.declared.order.Order.{Order}
 use Rattle.mb_model.specs.declared.state.State.{State}
-use Rattle.mb_model.specs.Log.{entries_of, uses_of_device_key}
-use Rattle.mb_model.specs.Signing.{public_of}
-use Rattle.mb_model.specs.OrderChecks.{needs_succession, view_of}
-use Rattle.mb_model.specs.OrderEffects.{entry_signed_by, log_with, next_key, state_after_succession, ready_for, state_after_order, entry_of, fact_of}
-use Rattle.mb_model.specs.Machine.{World, Run}
+use Rattle.mb_model.specs.owners.Log.{entries_of, uses_of_device_key}
+use Rattle.mb_model.specs.signatures.Signing.{public_of}
+use Rattle.mb_model.specs.machine.OrderChecks.{needs_succession, view_of}
+use Rattle.mb_model.specs.machine.OrderEffects.{entry_signed_by, log_with, next_key, state_after_succession, ready_for, state_after_order, entry_of, fact_of}
+use Rattle.mb_model.specs.machine.Machine.{World, Run}
 use Rattle.mb_model_lemmas.proofs.OwnEntries.{appends_own}
-use Rattle.mb_model.specs.Runs.{BeginsWith, LogGoesOn, worlds_of}
+use Rattle.mb_model.specs.machine.Runs.{BeginsWith, LogGoesOn, worlds_of}
 use Rattle.mb_model_runs.proofs.KeptByRuns.{IsKept, run_kept, runs_lead_there}
 
 pub begins_same : (log : List SignedEntry) → BeginsWith log log

@@ -8,14 +8,14 @@ use Rattle.mb_model.specs.declared.key.PublicKey.{PublicKey}
 use Rattle.mb_model.specs.declared.entry.Entry.{Entry}
 use Rattle.mb_model.specs.declared.entry.SignedEntry.{SignedEntry}
 use Rattle.mb_model.specs.declared.state.State.{State}
-use Rattle.mb_model.specs.Merkle.{leaf_number}
-use Rattle.mb_model.specs.Log.{entries_of, device_in, last_of, device_of, uses_of_device_key}
-use Rattle.mb_model.specs.SignedTexts.{entry_text, IsSignedBy}
-use Rattle.mb_model.specs.Valid.{IsValidState}
+use Rattle.mb_model.specs.signatures.Merkle.{leaf_number}
+use Rattle.mb_model.specs.owners.Log.{entries_of, device_in, last_of, device_of, uses_of_device_key}
+use Rattle.mb_model.specs.machine.SignedTexts.{entry_text, IsSignedBy}
+use Rattle.mb_model.specs.memories.Valid.{IsValidState}
 use Rattle.mb_model_lemmas.proofs.LogLemmas.{used-split}
 use Rattle.mb_model_lemmas.proofs.ReaderLemmas.{none_of_two}
 use Rattle.mb_model_lemmas.proofs.PresentLemmas.{not_first}
-use Rattle.mb_model.specs.Runs.{NamesDevice, HasInCharge, SignsEntriesOnce}
+use Rattle.mb_model.specs.machine.Runs.{NamesDevice, HasInCharge, SignsEntriesOnce}
 
 -- the entry of a signed one
 abbrev entry_in : SignedEntry → Entry

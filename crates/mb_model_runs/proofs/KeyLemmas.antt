@@ -11,13 +11,13 @@ use Rattle.mb_model.specs.declared.entry.Entry.TheVariants.{NewKey}
 use Rattle.mb_model.specs.declared.region.Region.{Region}
 use Rattle.mb_model.specs.declared.region.RegionKey.{RegionKey}
 use Rattle.mb_model.specs.declared.state.State.{State}
-use Rattle.mb_model.specs.Layers.{is_upper}
-use Rattle.mb_model.specs.Log.{entries_of, keys_in, keys_made_by, RuledLog}
-use Rattle.mb_model.specs.Lives.{Alive}
-use Rattle.mb_model.specs.Regions.{empty_region}
-use Rattle.mb_model.specs.Signing.{public_of}
-use Rattle.mb_model.specs.Regions.{region_of}
-use Rattle.mb_model.specs.Valid.{IsValidState}
+use Rattle.mb_model.specs.owners.Layers.{is_upper}
+use Rattle.mb_model.specs.owners.Log.{entries_of, keys_in, keys_made_by, RuledLog}
+use Rattle.mb_model.specs.owners.Lives.{Alive}
+use Rattle.mb_model.specs.owners.Regions.{empty_region}
+use Rattle.mb_model.specs.signatures.Signing.{public_of}
+use Rattle.mb_model.specs.owners.Regions.{region_of}
+use Rattle.mb_model.specs.memories.Valid.{IsValidState}
 use Rattle.mb_model_lemmas.proofs.Splits.{two_splits}
 use Rattle.mb_model_lemmas.proofs.FateLemmas.{keys_increase}
 use Rattle.mb_model_lemmas.proofs.FatedStates.{region_key_lives}

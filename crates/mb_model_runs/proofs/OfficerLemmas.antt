@@ -8,23 +8,23 @@ use Rattle.mb_model.specs.declared.order.Countersignature.{Countersignature}
 use Rattle.mb_model.specs.declared.order.Order.{Order}
 use Rattle.mb_model.specs.declared.state.State.{State}
 use Rattle.mb_model.specs.declared.tools.Keyfile.{Keyfile}
-use Rattle.mb_model.specs.Merkle.{Verifies}
-use Rattle.mb_model.specs.Layers.{layer_of}
-use Rattle.mb_model.specs.Rules.{authority}
-use Rattle.mb_model.specs.OrderFormat.{order_format, order_body}
-use Rattle.mb_model.specs.OrderChecks.{change_by, IsSigned, IsCountersigned, view_of}
-use Rattle.mb_model.specs.OrderEffects.{state_after_order}
-use Rattle.mb_model.specs.OrderStep.{OrderStep, is_obeyed}
-use Rattle.mb_model.specs.Log.{entries_of, number_of}
+use Rattle.mb_model.specs.signatures.Merkle.{Verifies}
+use Rattle.mb_model.specs.owners.Layers.{layer_of}
+use Rattle.mb_model.specs.owners.Rules.{authority}
+use Rattle.mb_model.specs.records.OrderFormat.{order_format, order_body}
+use Rattle.mb_model.specs.machine.OrderChecks.{change_by, IsSigned, IsCountersigned, view_of}
+use Rattle.mb_model.specs.machine.OrderEffects.{state_after_order}
+use Rattle.mb_model.specs.machine.OrderStep.{OrderStep, is_obeyed}
+use Rattle.mb_model.specs.owners.Log.{entries_of, number_of}
 use Rattle.mb_model.specs.declared.reply.Refusal.{Refusal}
-use Rattle.mb_model.specs.Machine.{Phase, ratchet, World, running_state, running_state_in, CommandStep, Machine}
+use Rattle.mb_model.specs.machine.Machine.{Phase, ratchet, World, running_state, running_state_in, CommandStep, Machine}
 use Rattle.mb_model.specs.declared.event.Event.TheVariants as event
 use Rattle.mb_model.specs.declared.reply.Reply.{Reply}
 use Rattle.mb_model.specs.declared.reply.Reply.TheVariants as reply
 use Rattle.mb_format.specs.Format.{Spells}
-use Rattle.mb_model.specs.SignedTexts.{order_text, countersigned_text, IsSignedBy}
-use Rattle.mb_model.specs.SignedOrders.{signed_order, countersignature_of, countersigned_order}
-use Rattle.mb_model.specs.Signing.{public_of, signature_of}
+use Rattle.mb_model.specs.machine.SignedTexts.{order_text, countersigned_text, IsSignedBy}
+use Rattle.mb_model.specs.machine.SignedOrders.{signed_order, countersignature_of, countersigned_order}
+use Rattle.mb_model.specs.signatures.Signing.{public_of, signature_of}
 use Rattle.mb_model_lemmas.proofs.SignatureLemmas.{signature_verifies}
 use Rattle.mb_model_runs.specs.OfficerLaws.{HasCharge, OwnsLayer, IsRightlySigned, IsRightlyCountersigned, PassesTheRest}
 

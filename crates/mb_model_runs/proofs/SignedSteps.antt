@@ -7,15 +7,15 @@ use Rattle.mb_model.specs.declared.region.RegionKey.{RegionKey}
 use Rattle.mb_model.specs.declared.reply.Reply.{Reply}
 use Rattle.mb_model.specs.declared.reply.Reply.TheVariants as reply
 use Rattle.mb_model.specs.declared.state.State.{State}
-use Rattle.mb_model.specs.Layers.{is_runnable}
+use Rattle.mb_model.specs.owners.Layers.{is_runnable}
 use Rattle.mb_model.specs.declared.reply.Refusal.{Refusal}
 use Rattle.mb_model.specs.declared.reply.Refusal.TheVariants.{WrongLayer, KeySpent}
-use Rattle.mb_model.specs.Refusals.{refusal_reply}
-use Rattle.mb_model.specs.Regions.{region_of}
-use Rattle.mb_model.specs.LayerEvents.{Outcome, on_region, has_number, put_event, get_event, drop_event, statement_of, sign_with, sign_event}
-use Rattle.mb_model.specs.Listing.{is_signed}
-use Rattle.mb_model.specs.ChainFormat.{statement_format}
-use Rattle.mb_model.specs.Machine.{World, Told, running_state_in, region_event, Machine, Step, machine_step, lacks_memory, loses_power}
+use Rattle.mb_model.specs.machine.Refusals.{refusal_reply}
+use Rattle.mb_model.specs.owners.Regions.{region_of}
+use Rattle.mb_model.specs.machine.LayerEvents.{Outcome, on_region, has_number, put_event, get_event, drop_event, statement_of, sign_with, sign_event}
+use Rattle.mb_model.specs.chains.Listing.{is_signed}
+use Rattle.mb_model.specs.records.ChainFormat.{statement_format}
+use Rattle.mb_model.specs.machine.Machine.{World, Told, running_state_in, region_event, Machine, Step, machine_step, lacks_memory, loses_power}
 use Rattle.mb_model_lemmas.proofs.RefusalLemmas.{awake_state}
 use Rattle.mb_model_lemmas.proofs.ReplyTests.{HasValue, boot_has, status_has, go_has, region_has, put_has, get_has, drop_has, command_has}
 use Rattle.mb_model_memory.proofs.StorableSteps.{found_number}

@@ -6,14 +6,14 @@ use Rattle.mb_model.specs.declared.layer.Layers.{Layers}
 use Rattle.mb_model.specs.declared.entry.Entry.{Entry}
 use Rattle.mb_model.specs.declared.event.Answered.{Answered}
 use Rattle.mb_model.specs.declared.state.State.{State}
-use Rattle.mb_model.specs.Layers.{is_upper}
-use Rattle.mb_model.specs.Log.{entries_of}
-use Rattle.mb_model.specs.Lives.{configuration}
-use Rattle.mb_model.specs.Signing.{public_of}
-use Rattle.mb_model.specs.Regions.{region_of}
-use Rattle.mb_model.specs.Machine.{World, Run}
-use Rattle.mb_model.specs.Valid.{IsValidRegion, Valid, IsValidState}
-use Rattle.mb_model.specs.Runs.{worlds_of, HoldsLivingKeys, IsSoundWorld, IsSoundRun}
+use Rattle.mb_model.specs.owners.Layers.{is_upper}
+use Rattle.mb_model.specs.owners.Log.{entries_of}
+use Rattle.mb_model.specs.owners.Lives.{configuration}
+use Rattle.mb_model.specs.signatures.Signing.{public_of}
+use Rattle.mb_model.specs.owners.Regions.{region_of}
+use Rattle.mb_model.specs.machine.Machine.{World, Run}
+use Rattle.mb_model.specs.memories.Valid.{IsValidRegion, Valid, IsValidState}
+use Rattle.mb_model.specs.machine.Runs.{worlds_of, HoldsLivingKeys, IsSoundWorld, IsSoundRun}
 use Rattle.mb_model_lemmas.proofs.PresentLemmas.{alive_lives_now}
 use Rattle.mb_model_lemmas.proofs.FatedStates.{region_key_lives, living_key_stands}
 use Rattle.mb_model_lemmas.proofs.ValidStates.{valid_is_ruled, region_is_valid}

@@ -19,23 +19,23 @@ use Rattle.mb_model.specs.declared.region.RegionKey.{RegionKey}
 use Rattle.mb_model.specs.declared.region.Secret.{Secret}
 use Rattle.mb_model.specs.declared.reply.Reply.{Reply}
 use Rattle.mb_model.specs.declared.state.State.{State}
-use Rattle.mb_model.specs.Rules.{admits}
-use Rattle.mb_model.specs.Log.{entries_of, keys_made_by}
-use Rattle.mb_model.specs.Regions.{empty_region, is_epoch, without_configuration_keys, region_after, with_key}
-use Rattle.mb_model.specs.Signing.{public_of}
-use Rattle.mb_model.specs.Regions.{region_of}
-use Rattle.mb_model.specs.OrderChecks.{needs_succession, view_of}
-use Rattle.mb_model.specs.OrderEffects.{log_with, next_key, cosigners_of, state_after_succession, key_made, state_after_change, state_after_new_key, state_after_act, state_after_order, entry_of, change_fact}
+use Rattle.mb_model.specs.owners.Rules.{admits}
+use Rattle.mb_model.specs.owners.Log.{entries_of, keys_made_by}
+use Rattle.mb_model.specs.owners.Regions.{empty_region, is_epoch, without_configuration_keys, region_after, with_key}
+use Rattle.mb_model.specs.signatures.Signing.{public_of}
+use Rattle.mb_model.specs.owners.Regions.{region_of}
+use Rattle.mb_model.specs.machine.OrderChecks.{needs_succession, view_of}
+use Rattle.mb_model.specs.machine.OrderEffects.{log_with, next_key, cosigners_of, state_after_succession, key_made, state_after_change, state_after_new_key, state_after_act, state_after_order, entry_of, change_fact}
 use Rattle.mb_model.specs.declared.state.Fact.TheVariants as fact
-use Rattle.mb_model.specs.LayerEvents.{has_number, with_use}
-use Rattle.mb_model.specs.Machine.{World, Step, Run}
-use Rattle.mb_model.specs.Valid.{IsValidState, Valid}
+use Rattle.mb_model.specs.machine.LayerEvents.{has_number, with_use}
+use Rattle.mb_model.specs.machine.Machine.{World, Step, Run}
+use Rattle.mb_model.specs.memories.Valid.{IsValidState, Valid}
 use Rattle.mb_model_lemmas.proofs.LogLemmas.{made-push}
 use Rattle.mb_model_lemmas.proofs.RegionLemmas.{at_upper}
 use Rattle.mb_model_lemmas.proofs.ValidLogs.{entries_of-signed}
 use Rattle.mb_model_lemmas.proofs.ValidSteps.{step_valid}
 use Rattle.mb_model_lemmas.proofs.ValidRegions.{used_if}
-use Rattle.mb_model.specs.Runs.{IsSignedAt}
+use Rattle.mb_model.specs.machine.Runs.{IsSignedAt}
 use Rattle.mb_model_runs.proofs.KeptByRuns.{with_secrets, with_one_use, IsKept, step_kept}
 use Rattle.mb_model_runs.proofs.KeyLemmas.{one_in, upper_of, key_born, one_region, numbers_increase}
 use Rattle.mb_model_runs.proofs.SignedSteps.{SignsIn, StepSigns, step_signs}

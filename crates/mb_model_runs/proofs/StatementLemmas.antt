@@ -22,27 +22,27 @@ use Rattle.mb_model.specs.declared.region.RegionKey.{RegionKey}
 use Rattle.mb_model.specs.declared.reply.Reply.{Reply}
 use Rattle.mb_model.specs.declared.reply.Reply.TheVariants as reply
 use Rattle.mb_model.specs.declared.state.State.{State}
-use Rattle.mb_model.specs.Merkle.{Verifies}
-use Rattle.mb_model.specs.Log.{figures_of, entries_of, is_change, serial_in, last_of, number_of, serial_of, Ruled, RuledLog}
-use Rattle.mb_model.specs.Lives.{ends_keys, Alive}
-use Rattle.mb_model.specs.Signing.{public_of, signature_of}
-use Rattle.mb_model.specs.ChainFormat.{statement_format, chain_format}
-use Rattle.mb_model.specs.Script.{IsScriptEvent}
+use Rattle.mb_model.specs.signatures.Merkle.{Verifies}
+use Rattle.mb_model.specs.owners.Log.{figures_of, entries_of, is_change, serial_in, last_of, number_of, serial_of, Ruled, RuledLog}
+use Rattle.mb_model.specs.owners.Lives.{ends_keys, Alive}
+use Rattle.mb_model.specs.signatures.Signing.{public_of, signature_of}
+use Rattle.mb_model.specs.records.ChainFormat.{statement_format, chain_format}
+use Rattle.mb_model.specs.chains.Script.{IsScriptEvent}
 use Rattle.mb_model.proofs.EntryFormatLaws.{statement_exact, chain_exact}
-use Rattle.mb_model.specs.SignedTexts.{statement_text}
-use Rattle.mb_model.specs.Regions.{region_of}
-use Rattle.mb_model.specs.LayerEvents.{statement_of}
-use Rattle.mb_model.specs.Machine.{World, Step, Run}
-use Rattle.mb_model.specs.Valid.{IsValidState, Valid}
-use Rattle.mb_model.specs.Acceptance.{AreGood, IsBornOf, KeyEntry, key_of, IsStated, IfStatement, IsCurrent, report_of, Accepts}
+use Rattle.mb_model.specs.machine.SignedTexts.{statement_text}
+use Rattle.mb_model.specs.owners.Regions.{region_of}
+use Rattle.mb_model.specs.machine.LayerEvents.{statement_of}
+use Rattle.mb_model.specs.machine.Machine.{World, Step, Run}
+use Rattle.mb_model.specs.memories.Valid.{IsValidState, Valid}
+use Rattle.mb_model.specs.chains.Acceptance.{AreGood, IsBornOf, KeyEntry, key_of, IsStated, IfStatement, IsCurrent, report_of, Accepts}
 use Rattle.mb_model_lemmas.proofs.LogLemmas.{last_of-more, RuledLog-front, number_of-append, number-le}
 use Rattle.mb_model_lemmas.proofs.ValidStates.{valid_is_ruled}
 use Rattle.mb_model_lemmas.proofs.ValidSteps.{step_valid, run_valid}
 use Rattle.mb_model_lemmas.proofs.ReaderLemmas.{living_is_flagged, not_true}
 use Rattle.mb_model_lemmas.proofs.SignatureLemmas.{signature_verifies}
 use Rattle.mb_model_lemmas.proofs.Splits.{All-from_splits}
-use Rattle.mb_model.specs.Runs.{BeginsWith, worlds_of, StaysAccepted, IsAcceptedIn, StatementsStayAccepted}
-use Rattle.mb_model.specs.Attach.{is_change_above, bare_chain, cut_at, stated_chain}
+use Rattle.mb_model.specs.machine.Runs.{BeginsWith, worlds_of, StaysAccepted, IsAcceptedIn, StatementsStayAccepted}
+use Rattle.mb_model.specs.chains.Attach.{is_change_above, bare_chain, cut_at, stated_chain}
 use Rattle.mb_model_lemmas.proofs.AttachLemmas.{stated_allowed}
 use Rattle.mb_model_memory.specs.Storable.{IsStorableState, Storable}
 use Rattle.mb_model_memory.proofs.StorableChains.{bare_allowed, statement_of-allowed}

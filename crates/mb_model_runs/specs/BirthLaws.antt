@@ -6,12 +6,12 @@ use Rattle.mb_model.specs.declared.order.KeyKind.{KeyKind}
 use Rattle.mb_model.specs.declared.entry.Entry.{Entry}
 use Rattle.mb_model.specs.declared.entry.Entry.TheVariants.{NewKey}
 use Rattle.mb_model.specs.declared.state.State.{State}
-use Rattle.mb_model.specs.Log.{entries_of}
-use Rattle.mb_model.specs.ChainFormat.{chain_format}
-use Rattle.mb_model.specs.Valid.{IsValidState}
-use Rattle.mb_model.specs.Attach.{bare_chain}
-use Rattle.mb_model.specs.Acceptance.{IsBornOf, AreGood, report_of, Accepts}
-use Rattle.mb_model.specs.DeviceChains.{IsChainOf}
+use Rattle.mb_model.specs.owners.Log.{entries_of}
+use Rattle.mb_model.specs.records.ChainFormat.{chain_format}
+use Rattle.mb_model.specs.memories.Valid.{IsValidState}
+use Rattle.mb_model.specs.chains.Attach.{bare_chain}
+use Rattle.mb_model.specs.chains.Acceptance.{IsBornOf, AreGood, report_of, Accepts}
+use Rattle.mb_model.specs.chains.DeviceChains.{IsChainOf}
 
 -- If the maker signed the birth, each entry of a valid state's log follows from those before it, as a verifier checks.
 abbrev pub LogsAreGood : Type 0

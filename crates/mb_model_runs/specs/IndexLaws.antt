@@ -2,9 +2,9 @@
 use Rattle.std.specs.Prelude.{◌≡◌, ◌≢◌, List, [], ◌∷◌, ◌++◌, length}
 use Rattle.mb_model.specs.declared.entry.SignedEntry.{SignedEntry}
 use Rattle.mb_model.specs.declared.state.State.{State}
-use Rattle.mb_model.specs.Merkle.{leaf_number}
-use Rattle.mb_model.specs.Valid.{IsValidState}
-use Rattle.mb_model.specs.Runs.{HasInCharge, SignsEntriesOnce}
+use Rattle.mb_model.specs.signatures.Merkle.{leaf_number}
+use Rattle.mb_model.specs.memories.Valid.{IsValidState}
+use Rattle.mb_model.specs.machine.Runs.{HasInCharge, SignsEntriesOnce}
 
 -- each entry but the birth has a device key in charge, which an entry before it names
 abbrev pub EachHasInCharge : Type 0

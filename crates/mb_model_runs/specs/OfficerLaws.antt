@@ -9,17 +9,17 @@ use Rattle.mb_model.specs.declared.reply.Reply.{Reply}
 use Rattle.mb_model.specs.declared.reply.Reply.TheVariants as reply
 use Rattle.mb_model.specs.declared.state.State.{State}
 use Rattle.mb_model.specs.declared.tools.Keyfile.{Keyfile}
-use Rattle.mb_model.specs.Layers.{layer_of}
-use Rattle.mb_model.specs.Rules.{authority}
-use Rattle.mb_model.specs.Log.{entries_of, number_of}
-use Rattle.mb_model.specs.OrderFormat.{order_format, order_body}
-use Rattle.mb_model.specs.OrderChecks.{view_of, change_by, TargetsHold, MayBeGiven, IsSigned, IsCountersigned}
-use Rattle.mb_model.specs.OrderChecks.{LogHasRoom, RegionHasRoom}
-use Rattle.mb_model.specs.OrderEffects.{state_after_order}
-use Rattle.mb_model.specs.Machine.{ratchet, World, Machine}
-use Rattle.mb_model.specs.SignedTexts.{order_text, countersigned_text}
-use Rattle.mb_model.specs.SignedOrders.{signed_order, countersigned_order}
-use Rattle.mb_model.specs.Signing.{public_of, signature_of}
+use Rattle.mb_model.specs.owners.Layers.{layer_of}
+use Rattle.mb_model.specs.owners.Rules.{authority}
+use Rattle.mb_model.specs.owners.Log.{entries_of, number_of}
+use Rattle.mb_model.specs.records.OrderFormat.{order_format, order_body}
+use Rattle.mb_model.specs.machine.OrderChecks.{view_of, change_by, TargetsHold, MayBeGiven, IsSigned, IsCountersigned}
+use Rattle.mb_model.specs.machine.OrderChecks.{LogHasRoom, RegionHasRoom}
+use Rattle.mb_model.specs.machine.OrderEffects.{state_after_order}
+use Rattle.mb_model.specs.machine.Machine.{ratchet, World, Machine}
+use Rattle.mb_model.specs.machine.SignedTexts.{order_text, countersigned_text}
+use Rattle.mb_model.specs.machine.SignedOrders.{signed_order, countersigned_order}
+use Rattle.mb_model.specs.signatures.Signing.{public_of, signature_of}
 
 -- the owner in charge of the order has this key
 abbrev pub HasCharge : State → Order → KeySeed → Type 0

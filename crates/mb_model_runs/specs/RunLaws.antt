@@ -1,12 +1,12 @@
 -- Laws of runs. Does a device ever take back what its log says, or a key sign twice with one index?
 use Rattle.std.specs.Prelude.{◌≡◌, List, [], ◌∷◌, All, AllPairs}
 use Rattle.mb_model.specs.declared.event.Answered.{Answered}
-use Rattle.mb_model.specs.Acknowledged.{HoldsNoOther, AreWiping, MayAnswer}
-use Rattle.mb_model.specs.Board.{Held}
-use Rattle.mb_model.specs.Machine.{World, Run}
-use Rattle.mb_model.specs.Script.{IsScriptEvent}
-use Rattle.mb_model.specs.Valid.{Valid}
-use Rattle.mb_model.specs.Runs.{worlds_of, LogGoesOn, StatementsStayAccepted, IsSoundRun}
+use Rattle.mb_model.specs.memories.Acknowledged.{HoldsNoOther, AreWiping, MayAnswer}
+use Rattle.mb_model.specs.outside.Board.{Held}
+use Rattle.mb_model.specs.machine.Machine.{World, Run}
+use Rattle.mb_model.specs.chains.Script.{IsScriptEvent}
+use Rattle.mb_model.specs.memories.Valid.{Valid}
+use Rattle.mb_model.specs.machine.Runs.{worlds_of, LogGoesOn, StatementsStayAccepted, IsSoundRun}
 use Rattle.mb_model_memory.specs.Storable.{Storable}
 
 -- The log of each world of a run is a prefix of that of each later live one.

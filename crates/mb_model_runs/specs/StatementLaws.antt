@@ -10,17 +10,17 @@ use Rattle.mb_model.specs.declared.entry.Statement.{Statement}
 use Rattle.mb_model.specs.declared.region.RegionKey.{RegionKey}
 use Rattle.mb_model.specs.declared.reply.Reply.TheVariants as reply
 use Rattle.mb_model.specs.declared.state.State.{State}
-use Rattle.mb_model.specs.Log.{entries_of}
-use Rattle.mb_model.specs.Script.{IsScriptEvent}
-use Rattle.mb_model.specs.Signing.{public_of}
-use Rattle.mb_model.specs.ChainFormat.{statement_format, chain_format}
-use Rattle.mb_model.specs.Regions.{region_of}
-use Rattle.mb_model.specs.LayerEvents.{statement_of}
-use Rattle.mb_model.specs.Machine.{World, Step, Run}
-use Rattle.mb_model.specs.Valid.{Valid}
-use Rattle.mb_model.specs.Attach.{cut_at, stated_chain}
-use Rattle.mb_model.specs.Acceptance.{IsBornOf, KeyEntry, key_of, IsStated, report_of, Accepts}
-use Rattle.mb_model.specs.Runs.{worlds_of, StaysAccepted, IsAcceptedIn}
+use Rattle.mb_model.specs.owners.Log.{entries_of}
+use Rattle.mb_model.specs.chains.Script.{IsScriptEvent}
+use Rattle.mb_model.specs.signatures.Signing.{public_of}
+use Rattle.mb_model.specs.records.ChainFormat.{statement_format, chain_format}
+use Rattle.mb_model.specs.owners.Regions.{region_of}
+use Rattle.mb_model.specs.machine.LayerEvents.{statement_of}
+use Rattle.mb_model.specs.machine.Machine.{World, Step, Run}
+use Rattle.mb_model.specs.memories.Valid.{Valid}
+use Rattle.mb_model.specs.chains.Attach.{cut_at, stated_chain}
+use Rattle.mb_model.specs.chains.Acceptance.{IsBornOf, KeyEntry, key_of, IsStated, report_of, Accepts}
+use Rattle.mb_model.specs.machine.Runs.{worlds_of, StaysAccepted, IsAcceptedIn}
 use Rattle.mb_model_memory.specs.Storable.{Storable}
 
 -- ---- statements

@@ -8,15 +8,15 @@ use Rattle.mb_model.specs.declared.entry.Entry.{Entry}
 use Rattle.mb_model.specs.declared.entry.Entry.TheVariants.{Birth}
 use Rattle.mb_model.specs.declared.entry.SignedEntry.{SignedEntry}
 use Rattle.mb_model.specs.declared.state.State.{State}
-use Rattle.mb_model.specs.Key.{IsSized}
-use Rattle.mb_model.specs.KeyFormat.{public_key_format}
-use Rattle.mb_model.specs.EntryFormat.{entry_format, signed_entry_format}
-use Rattle.mb_model.specs.Regions.{empty_region}
-use Rattle.mb_model.specs.Signing.{public_of, signature_of}
-use Rattle.mb_model.specs.SignedTexts.{entry_text}
-use Rattle.mb_model.specs.OrderEffects.{entry_signed_by}
-use Rattle.mb_model.specs.WrittenImage.{written_image, FitsImage}
-use Rattle.mb_model.specs.Factory.{serial_from, first_key, layers_at_birth, birth_entry, codes_at_birth, state_at_birth, IsFactoryImage}
+use Rattle.mb_model.specs.signatures.Key.{IsSized}
+use Rattle.mb_model.specs.records.KeyFormat.{public_key_format}
+use Rattle.mb_model.specs.records.EntryFormat.{entry_format, signed_entry_format}
+use Rattle.mb_model.specs.owners.Regions.{empty_region}
+use Rattle.mb_model.specs.signatures.Signing.{public_of, signature_of}
+use Rattle.mb_model.specs.machine.SignedTexts.{entry_text}
+use Rattle.mb_model.specs.machine.OrderEffects.{entry_signed_by}
+use Rattle.mb_model.specs.memories.WrittenImage.{written_image, FitsImage}
+use Rattle.mb_model.specs.memories.Factory.{serial_from, first_key, layers_at_birth, birth_entry, codes_at_birth, state_at_birth, IsFactoryImage}
 use Rattle.mb_model_lemmas.proofs.FactoryLemmas.{birth_is_valid}
 use Rattle.mb_model_lemmas.proofs.PublicLemmas.{entry_from_signed}
 use Rattle.mb_model_memory.proofs.StorableMemories.{birth_storable}

@@ -8,17 +8,18 @@ use Rattle.mb_model.specs.declared.key.PublicKey.{PublicKey}
 use Rattle.mb_model.specs.declared.key.Tree.TheVariants.{H5}
 use Rattle.mb_model.specs.declared.key.Chains.TheVariants.{W4}
 use Rattle.mb_model.specs.declared.layer.Trusts.{Trusts}
-use Rattle.mb_model.specs.Layers.{equal_trusts}
+use Rattle.mb_model.specs.owners.Layers.{equal_trusts}
 use Rattle.mb_model.specs.declared.key.Trust.TheVariants.{Always}
 use Rattle.mb_model.specs.declared.order.Act.{Act}
 use Rattle.mb_model.specs.declared.order.Act.TheVariants as act
 use Rattle.mb_model.specs.declared.order.Target.{Target}
 use Rattle.mb_model.specs.declared.order.Order.{Order}
-use Rattle.mb_model.specs.Key.{key_bytes}
-use Rattle.mb_model.specs.Lines.{HasLines, spaced_words, IsBeginning, bad_line, ends_early, ReadsLines, TextFailsAtLine}
-use Rattle.mb_model.specs.Drafts.{SaysTarget, SayAct, IsDraft}
+use Rattle.mb_model.specs.signatures.Key.{key_bytes}
+use Rattle.mb_model.specs.chains.Lines.{HasLines, spaced_words, IsBeginning, bad_line, ends_early, ReadsLines}
+use Rattle.mb_model.specs.chains.Lines.{TextFailsAtLine}
+use Rattle.mb_model.specs.chains.Drafts.{SaysTarget, SayAct, IsDraft}
 use Rattle.hex.specs.Hex.{decode_pairs}
-use Rattle.mb_model.specs.Texts.{IsHex}
+use Rattle.mb_model.specs.outside.Texts.{IsHex}
 use Rattle.mb_model_lemmas.proofs.LineLemmas.{cons_none, HasLines-nil, HasLines-always}
 use Rattle.mb_model.specs.declared.order.KeyKind.{KeyKind}
 use Rattle.mb_officer.specs.declared.draft.Loading.{Loading}

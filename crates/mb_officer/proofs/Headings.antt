@@ -12,10 +12,10 @@ use Rattle.mb_model.specs.declared.order.Act.{Act}
 use Rattle.mb_model.specs.declared.order.Act.TheVariants as act
 use Rattle.mb_model.specs.declared.order.Target.{Target}
 use Rattle.mb_model.specs.declared.order.Order.{Order}
-use Rattle.mb_model.specs.Layers.{is_layer_number}
-use Rattle.mb_model.specs.Rules.{kind_of, MayBeFor}
-use Rattle.mb_model.specs.Lines.{spaced_words}
-use Rattle.mb_model.specs.Drafts.{kind_word, SaysTarget, order_words, IsDraft}
+use Rattle.mb_model.specs.owners.Layers.{is_layer_number}
+use Rattle.mb_model.specs.owners.Rules.{kind_of, MayBeFor}
+use Rattle.mb_model.specs.chains.Lines.{spaced_words}
+use Rattle.mb_model.specs.chains.Drafts.{kind_word, SaysTarget, order_words, IsDraft}
 use Rattle.mb_model_lemmas.proofs.LineLemmas.{cons_same}
 use Rattle.mb_model_lemmas.proofs.DraftLemmas.{letters_at, kind_word-same}
 use Rattle.mb_officer.specs.declared.draft.Loading.TheVariants as loading

@@ -11,11 +11,11 @@ use Rattle.mb_model.specs.declared.order.Act.{Act}
 use Rattle.mb_model.specs.declared.order.Act.TheVariants as act
 use Rattle.mb_model.specs.declared.order.Target.{Target}
 use Rattle.mb_model.specs.declared.order.Order.{Order}
-use Rattle.mb_model.specs.Key.{key_bytes, IsSized}
-use Rattle.mb_model.specs.Rules.{MayBeFor}
-use Rattle.mb_model.specs.Lines.{spaced_words, number_limit}
-use Rattle.mb_model.specs.Script.{EndsInHex}
-use Rattle.mb_model.specs.Drafts.{SaysTarget, SaysTrusts, AreLoadLines, SayAct}
+use Rattle.mb_model.specs.signatures.Key.{key_bytes, IsSized}
+use Rattle.mb_model.specs.owners.Rules.{MayBeFor}
+use Rattle.mb_model.specs.chains.Lines.{spaced_words, number_limit}
+use Rattle.mb_model.specs.chains.Script.{EndsInHex}
+use Rattle.mb_model.specs.chains.Drafts.{SaysTarget, SaysTrusts, AreLoadLines, SayAct}
 use Rattle.mb_model_lemmas.proofs.LineLemmas.{cons_same, cons_none}
 use Rattle.std.proofs.lemmas.Fmt.{decimal_injective}
 use Rattle.mb_model.proofs.KeyLemmas.{key_bytes-same}

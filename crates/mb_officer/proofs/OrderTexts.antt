@@ -8,11 +8,11 @@ use Rattle.mb_format.specs.Format.{Spells}
 use Rattle.mb_format.specs.Combinators.{number_bytes, between, counted}
 use Rattle.mb_format.proofs.Fields.{wide8}
 use Rattle.mb_model.specs.declared.order.Order.{Order}
-use Rattle.mb_model.specs.Texts.{IsHex}
-use Rattle.mb_model.specs.Lines.{hex_word}
-use Rattle.mb_model.specs.Rules.{kind_of}
-use Rattle.mb_model.specs.OrderFormat.{form_byte, form_of, differs_in, target_format, act_by, body_of, body_format, order_body, sized_signature_format, countersignatures_format, order_format}
-use Rattle.mb_model.specs.OrderLines.{IsOrderLine}
+use Rattle.mb_model.specs.outside.Texts.{IsHex}
+use Rattle.mb_model.specs.chains.Lines.{hex_word}
+use Rattle.mb_model.specs.owners.Rules.{kind_of}
+use Rattle.mb_model.specs.records.OrderFormat.{form_byte, form_of, differs_in, target_format, act_by, body_of, body_format, order_body, sized_signature_format, countersignatures_format, order_format}
+use Rattle.mb_model.specs.chains.OrderLines.{IsOrderLine}
 use Rattle.mb_model_lemmas.proofs.LineLemmas.{cons_same}
 use Rattle.mb_model_lemmas.proofs.WordLemmas.{IsHex-same, hex_word-some}
 use Rattle.mb_model_lemmas.specs.SampleOrder.{surrender, surrender_line}

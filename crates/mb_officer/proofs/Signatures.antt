@@ -9,12 +9,13 @@ use Rattle.mb_model.specs.declared.order.Act.TheVariants as act
 use Rattle.mb_model.specs.declared.order.Countersignature.{Countersignature}
 use Rattle.mb_model.specs.declared.order.Order.{Order}
 use Rattle.mb_model.specs.declared.tools.Keyfile.{Keyfile}
-use Rattle.mb_model.specs.Layers.{is_upper}
-use Rattle.mb_model.specs.OrderFormat.{order_body, body_format, countersignature_limit, sized_signature_format, climb_after, countersignature_format, countersignatures_format, order_format}
-use Rattle.mb_model.specs.Rules.{kind_of, change_of, least_layer, is_load}
-use Rattle.mb_model.specs.SignedTexts.{order_text, countersigned_text}
-use Rattle.mb_model.specs.Signing.{signature_of}
-use Rattle.mb_model.specs.SignedOrders.{signed_order, with_countersignature, countersigned_order, IsCountersignable}
+use Rattle.mb_model.specs.owners.Layers.{is_upper}
+use Rattle.mb_model.specs.records.OrderFormat.{order_body, body_format, countersignature_limit, sized_signature_format, climb_after, countersignature_format, countersignatures_format, order_format}
+use Rattle.mb_model.specs.owners.Rules.{kind_of, change_of, least_layer, is_load}
+use Rattle.mb_model.specs.machine.SignedTexts.{order_text, countersigned_text}
+use Rattle.mb_model.specs.signatures.Signing.{signature_of}
+use Rattle.mb_model.specs.machine.SignedOrders.{signed_order, with_countersignature, countersigned_order}
+use Rattle.mb_model.specs.machine.SignedOrders.{IsCountersignable}
 use Rattle.mb_model_lemmas.proofs.WordLemmas.{upper_cases}
 
 pub signed_is : (k : Keyfile) (order : Order) (signature body : List ℕ) → signature ≡ signature_of k.seed k.next ((1 ∷ []) ++ body) → body ≡ order_body order

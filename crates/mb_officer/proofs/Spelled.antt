@@ -9,15 +9,15 @@ use Rattle.mb_model.specs.declared.order.Target.{Target}
 use Rattle.mb_model.specs.declared.order.Target.TheVariants as target
 use Rattle.mb_model.specs.declared.order.Countersignature.{Countersignature}
 use Rattle.mb_model.specs.declared.order.Order.{Order}
-use Rattle.mb_model.specs.Layers.{is_layer_number}
-use Rattle.mb_model.specs.Drafts.{SaysTarget, SayAct, IsDraft}
-use Rattle.mb_model.specs.Rules.{kind_of}
-use Rattle.mb_model.specs.Lines.{ReadsLines}
-use Rattle.mb_model.specs.KeyFormat.{public_key_format}
+use Rattle.mb_model.specs.owners.Layers.{is_layer_number}
+use Rattle.mb_model.specs.chains.Drafts.{SaysTarget, SayAct, IsDraft}
+use Rattle.mb_model.specs.owners.Rules.{kind_of}
+use Rattle.mb_model.specs.chains.Lines.{ReadsLines}
+use Rattle.mb_model.specs.records.KeyFormat.{public_key_format}
 use Rattle.mb_model.proofs.OrderFormatLaws.{form_listed, given_allowed}
-use Rattle.mb_model.specs.LayerFormat.{trust_format}
-use Rattle.mb_model.specs.EntryFormat.{key_kind_format}
-use Rattle.mb_model.specs.OrderFormat.{target_format, differs_in, payload_format, act_by, Body, body_of, body_format, sized_signature_format, countersignatures_format, order_format}
+use Rattle.mb_model.specs.records.LayerFormat.{trust_format}
+use Rattle.mb_model.specs.records.EntryFormat.{key_kind_format}
+use Rattle.mb_model.specs.records.OrderFormat.{target_format, differs_in, payload_format, act_by, Body, body_of, body_format, sized_signature_format, countersignatures_format, order_format}
 
 numbered_within : (n : ℕ) → IsTrue (is_layer_number n) → (1 ≤ n) × (n ≤ 3)
 numbered_within n is = (grind (arith, is), grind (arith, is))

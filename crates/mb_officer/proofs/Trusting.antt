@@ -5,7 +5,7 @@ use Rattle.std.proofs.lemmas.List.{append_cancel_left}
 use Rattle.mb_model.specs.declared.key.Trust.{Trust}
 use Rattle.mb_model.specs.declared.key.Trust.TheVariants.{Always, Never, Countersigned}
 use Rattle.mb_model.specs.declared.layer.Trusts.{Trusts}
-use Rattle.mb_model.specs.Drafts.{trust_word, trust_line, trusts_line}
+use Rattle.mb_model.specs.chains.Drafts.{trust_word, trust_line, trusts_line}
 use Rattle.mb_words.specs.Words.{FindsSome}
 use Rattle.mb_officer.specs.Drafting.{SaysSecond}
 

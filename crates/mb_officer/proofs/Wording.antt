@@ -7,10 +7,10 @@ use Rattle.std.proofs.lemmas.List.{append_cancel_left}
 use Rattle.mb_model.specs.declared.order.Target.{Target}
 use Rattle.mb_model.specs.declared.order.Target.TheVariants as target
 use Rattle.mb_model.specs.declared.order.OrderKind.TheVariants.{Surrender}
-use Rattle.mb_model.specs.Layers.{is_layer_number}
-use Rattle.mb_model.specs.Rules.{MayBeFor}
-use Rattle.mb_model.specs.Texts.{IsHex}
-use Rattle.mb_model.specs.Drafts.{SaysTarget}
+use Rattle.mb_model.specs.owners.Layers.{is_layer_number}
+use Rattle.mb_model.specs.owners.Rules.{MayBeFor}
+use Rattle.mb_model.specs.outside.Texts.{IsHex}
+use Rattle.mb_model.specs.chains.Drafts.{SaysTarget}
 use Rattle.mb_model_lemmas.proofs.WordLemmas.{number_front}
 use Rattle.mb_model_lemmas.proofs.DraftLemmas.{says_letters, numbered_fits}
 

@@ -12,11 +12,11 @@ use Rattle.mb_model.specs.declared.order.Act.{Act}
 use Rattle.mb_model.specs.declared.order.Act.TheVariants as act
 use Rattle.mb_model.specs.declared.order.Target.{Target}
 use Rattle.mb_model.specs.declared.order.Order.{Order}
-use Rattle.mb_model.specs.Key.{key_bytes, IsSized}
-use Rattle.mb_model.specs.Rules.{MayBeFor}
-use Rattle.mb_model.specs.Lines.{spaced_words, number_limit, ReadsLines, TextFailsAtLine}
-use Rattle.mb_model.specs.Script.{EndsInHex}
-use Rattle.mb_model.specs.Drafts.{kind_word, trust_word, SaysTarget, SaysTrusts, SayAct, IsDraft}
+use Rattle.mb_model.specs.signatures.Key.{key_bytes, IsSized}
+use Rattle.mb_model.specs.owners.Rules.{MayBeFor}
+use Rattle.mb_model.specs.chains.Lines.{spaced_words, number_limit, ReadsLines, TextFailsAtLine}
+use Rattle.mb_model.specs.chains.Script.{EndsInHex}
+use Rattle.mb_model.specs.chains.Drafts.{kind_word, trust_word, SaysTarget, SaysTrusts, SayAct, IsDraft}
 use Rattle.mb_words.specs.declared.said.NotSaid.{NotSaid}
 use Rattle.mb_words.specs.declared.said.NotSaid.TheVariants as why
 use Rattle.mb_officer.specs.declared.draft.DraftEnd.{DraftEnd}

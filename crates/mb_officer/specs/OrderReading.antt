@@ -1,8 +1,8 @@
 -- How the line of an order is read. Is what is read exactly what stands there?
 use Rattle.std.specs.Prelude.{ℕ, List, Result, Ok, Err}
 use Rattle.mb_model.specs.declared.order.Order.{Order}
-use Rattle.mb_model.specs.Lines.{ReadsLines, TextFailsAtLine}
-use Rattle.mb_model.specs.OrderLines.{IsOrderLine}
+use Rattle.mb_model.specs.chains.Lines.{ReadsLines, TextFailsAtLine}
+use Rattle.mb_model.specs.chains.OrderLines.{IsOrderLine}
 use Rattle.mb_officer.specs.declared.order_line.OrderLineEnd.{OrderLineEnd}
 use Rattle.mb_officer.specs.declared.order_line.OrderLineEnd.TheVariants as end
 

@@ -4,9 +4,9 @@ ghost use Rattle.std.specs.Prelude.{◌≡◌, ◌≤◌, ◌++◌, [], List, le
 ghost use Rattle.std.specs.Fmt.{decimal};
 ghost use Rattle.mb_model.specs.declared.limits.TheConstants.{FILE_LIMIT};
 ghost use Rattle.mb_model.specs.declared.order.OrderKind.TheVariants.{Surrender};
-ghost use Rattle.mb_model.specs.Rules.{MayBeFor};
-ghost use Rattle.mb_model.specs.Drafts.{kind_word};
-ghost use Rattle.mb_model.specs.OrderFormat.{order_format};
+ghost use Rattle.mb_model.specs.owners.Rules.{MayBeFor};
+ghost use Rattle.mb_model.specs.chains.Drafts.{kind_word};
+ghost use Rattle.mb_model.specs.records.OrderFormat.{order_format};
 ghost use Rattle.mb_words.specs.Words.{FindsSome};
 ghost use Rattle.mb_officer.specs.Drafting.{IsHeading, load_act, drafted, IsSoundDraft, SaysRest, TellsNext, AddsTarget, IsFirst, ReadsDraft};
 

@@ -4,7 +4,7 @@ ghost use Rattle.std.specs.Prelude.{◌≡◌, ◌≤◌, length};
 ghost use Rattle.std.specs.Int.{w32};
 ghost use Rattle.mb_model.specs.declared.limits.TheConstants.{FILE_LIMIT, KEY_USES};
 ghost use Rattle.mb_format.specs.Combinators.{between};
-ghost use Rattle.mb_model.specs.KeyFormat.{keyfile_format};
+ghost use Rattle.mb_model.specs.records.KeyFormat.{keyfile_format};
 ghost use Rattle.mb_bytes.specs.Reads.{Reads, ReadsWhole, bad_at};
 
 use mb_bytes::{Cursor, Field, key_seed_at, put_at, read_whole, word_at};
@@ -27,9 +27,9 @@ fn next_at(cursor: &mut Cursor) -> Result<NextIndex, BadRecord>
 /// A key file.
 struct KeyfileField;
 
-#[tactic(auto, unfolding(mb_model::specs::KeyFormat::keyfile_format))]
+#[tactic(auto, unfolding(mb_model::specs::records::KeyFormat::keyfile_format))]
 impl Field for KeyfileField {
-    ghost use Rattle.mb_model.specs.KeyFormat.{keyfile_format};
+    ghost use Rattle.mb_model.specs.records.KeyFormat.{keyfile_format};
     ghost use Rattle.mb_model.proofs.KeyFormatLaws.{keyfile_exact};
 
     type Value = Keyfile;
@@ -62,7 +62,7 @@ pub fn read_keyfile(bytes: &[u8]) -> Result<Keyfile, BadRecord>
 }
 
 /// The bytes of a key file: its word, the identifier, the secret and the next index.
-#[tactic(auto, unfolding(mb_model::specs::KeyFormat::key_seed_format, mb_model::specs::KeyFormat::keyfile_format, mb_format::specs::Combinators::number_bytes))]
+#[tactic(auto, unfolding(mb_model::specs::records::KeyFormat::key_seed_format, mb_model::specs::records::KeyFormat::keyfile_format, mb_format::specs::Combinators::number_bytes))]
 pub fn write_keyfile(k: &Keyfile) -> [u8; 56]
     ensures { result ≡ keyfile_format.spelling k.now }
 {

@@ -2,9 +2,9 @@
 
 ghost use Rattle.std.specs.Prelude.{◌≡◌, ◌∷◌, [], IfOk};
 ghost use Rattle.mb_format.specs.Format.{Spells};
-ghost use Rattle.mb_model.specs.Texts.{line_with_lf};
-ghost use Rattle.mb_model.specs.OrderFormat.{order_format};
-ghost use Rattle.mb_model.specs.OrderLines.{IsOrderLine, order_line};
+ghost use Rattle.mb_model.specs.outside.Texts.{line_with_lf};
+ghost use Rattle.mb_model.specs.records.OrderFormat.{order_format};
+ghost use Rattle.mb_model.specs.chains.OrderLines.{IsOrderLine, order_line};
 ghost use Rattle.mb_words.specs.Words.{Finds};
 ghost use Rattle.mb_officer.specs.OrderReading.{ReadsOrderLine};
 

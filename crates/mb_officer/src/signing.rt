@@ -2,11 +2,11 @@
 
 ghost use Rattle.std.specs.Prelude.{◌≡◌, ◌≢◌, ◌↔◌, ◌+◌, ◌<◌, ◌≤◌, ◌++◌, ◌∷◌, [], List, length, All, IfOk, OnOk, OnErr, IsErrOf, IsTrue};
 ghost use Rattle.mb_model.specs.declared.limits.TheConstants.{KEY_USES, LAST_INDEX, SIGNATURE_LENGTH};
-ghost use Rattle.mb_model.specs.Layers.{is_upper};
-ghost use Rattle.mb_model.specs.OrderFormat.{order_format};
-ghost use Rattle.mb_model.specs.Signing.{signature_of};
-ghost use Rattle.mb_model.specs.SignedOrders.{keyfile_after_use, signed_order, countersigned_order, with_countersignature, IsCountersignable};
-ghost use Rattle.mb_model.specs.Rules.{kind_of, change_of, is_load};
+ghost use Rattle.mb_model.specs.owners.Layers.{is_upper};
+ghost use Rattle.mb_model.specs.records.OrderFormat.{order_format};
+ghost use Rattle.mb_model.specs.signatures.Signing.{signature_of};
+ghost use Rattle.mb_model.specs.machine.SignedOrders.{keyfile_after_use, signed_order, countersigned_order, with_countersignature, IsCountersignable};
+ghost use Rattle.mb_model.specs.owners.Rules.{kind_of, change_of, is_load};
 ghost use Rattle.mb_lms.specs.declared.hash_count.TheConstants.{SIGNING_HASHES};
 
 use mb_command::signed_part;

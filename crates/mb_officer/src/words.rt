@@ -3,11 +3,11 @@
 ghost use Rattle.std.specs.Prelude.{◌≡◌, ◌≤◌, ◌++◌, ◌∷◌, [], ℕ, List, length, codes, MatchOption, IsTrue};
 ghost use Rattle.std.specs.Fmt.{decimal};
 ghost use Rattle.mb_model.specs.declared.limits.TheConstants.{CODE_LIMIT};
-ghost use Rattle.mb_model.specs.Key.{key_bytes, IsSized};
-ghost use Rattle.mb_model.specs.Layers.{is_layer_number};
-ghost use Rattle.mb_model.specs.Lines.{number_limit, spaced_words};
-ghost use Rattle.mb_model.specs.Script.{EndsInHex};
-ghost use Rattle.mb_model.specs.Drafts.{SaysTarget, trust_word, trust_line, trusts_line, SaysTrusts};
+ghost use Rattle.mb_model.specs.signatures.Key.{key_bytes, IsSized};
+ghost use Rattle.mb_model.specs.owners.Layers.{is_layer_number};
+ghost use Rattle.mb_model.specs.chains.Lines.{number_limit, spaced_words};
+ghost use Rattle.mb_model.specs.chains.Script.{EndsInHex};
+ghost use Rattle.mb_model.specs.chains.Drafts.{SaysTarget, trust_word, trust_line, trusts_line, SaysTrusts};
 ghost use Rattle.mb_words.specs.Words.{Finds, FindsSome};
 ghost use Rattle.mb_officer.specs.Drafting.{SaysSecond};
 

@@ -4,15 +4,15 @@ use Rattle.mb_model.specs.declared.layer.Layers.{Layers}
 use Rattle.mb_model.specs.declared.order.Countersignature.{Countersignature}
 use Rattle.mb_model.specs.declared.order.Order.{Order}
 use Rattle.mb_model.specs.declared.state.View.{View}
-use Rattle.mb_model.specs.Layers.{layer_of}
-use Rattle.mb_model.specs.Rules.{authority}
-use Rattle.mb_model.specs.SignedTexts.{order_text, countersigned_text, IsSignedBy}
+use Rattle.mb_model.specs.owners.Layers.{layer_of}
+use Rattle.mb_model.specs.owners.Rules.{authority}
+use Rattle.mb_model.specs.machine.SignedTexts.{order_text, countersigned_text, IsSignedBy}
 use Rattle.mb_model.specs.declared.reply.Refusal.{Refusal}
 use Rattle.mb_model.specs.declared.reply.Refusal.TheVariants.{WrongTarget, WrongState, WrongSignature}
 use Rattle.mb_model.specs.declared.reply.Refusal.TheVariants.{WrongCountersignature, LogFull, KeysFull}
-use Rattle.mb_model.specs.OrderChecks.{change_by, Passes, Fails}
-use Rattle.mb_model.specs.OrderEffects.{fact_of, layers_after}
-use Rattle.mb_model.specs.Work.{bodies_by, region_fate}
+use Rattle.mb_model.specs.machine.OrderChecks.{change_by, Passes, Fails}
+use Rattle.mb_model.specs.machine.OrderEffects.{fact_of, layers_after}
+use Rattle.mb_model.specs.machine.Work.{bodies_by, region_fate}
 use Rattle.mb_orders.specs.declared.end.JudgeEnd.{JudgeEnd}
 use Rattle.mb_orders.specs.declared.end.JudgeEnd.TheVariants as end
 use Rattle.mb_orders.specs.declared.plan.Plan.{Plan}

@@ -1,6 +1,6 @@
 //! The checks of an order, in the order in which they are tried.
 
-ghost use Rattle.mb_model.specs.OrderFormat.{order_format};
+ghost use Rattle.mb_model.specs.records.OrderFormat.{order_format};
 ghost use Rattle.mb_orders.specs.Judging.{ChecksBy};
 
 use crate::end::JudgeEnd;

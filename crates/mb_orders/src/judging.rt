@@ -1,8 +1,8 @@
 //! Orders judged.
 
 ghost use Rattle.std.specs.Prelude.{◌≡◌, ◌+◌, ◌≤◌, IfOk, IsSome, OnErr, ◌*◌};
-ghost use Rattle.mb_model.specs.Log.{keys_made_by};
-ghost use Rattle.mb_model.specs.OrderFormat.{order_format};
+ghost use Rattle.mb_model.specs.owners.Log.{keys_made_by};
+ghost use Rattle.mb_model.specs.records.OrderFormat.{order_format};
 ghost use Rattle.mb_log.specs.Additions.{IsInRange};
 ghost use Rattle.mb_orders.specs.Judging.{Judges};
 ghost use Rattle.mb_signer.specs.Benches.{HasTree};

@@ -2,11 +2,11 @@
 
 ghost use Rattle.std.specs.Prelude.{◌≡◌, ◌+◌, ◌≤◌, ◌==◌, IfOk, IsSome, OnErr, ◌*◌};
 ghost use Rattle.std.specs.List.{list_any};
-ghost use Rattle.mb_model.specs.Log.{keys_made_by};
-ghost use Rattle.mb_model.specs.OrderChecks.{LogHasRoom};
-ghost use Rattle.mb_model.specs.OrderEffects.{cosigners_of, change_fact, fact_of, layers_after};
-ghost use Rattle.mb_model.specs.Fates.{change_fate};
-ghost use Rattle.mb_model.specs.Work.{region_fate};
+ghost use Rattle.mb_model.specs.owners.Log.{keys_made_by};
+ghost use Rattle.mb_model.specs.machine.OrderChecks.{LogHasRoom};
+ghost use Rattle.mb_model.specs.machine.OrderEffects.{cosigners_of, change_fact, fact_of, layers_after};
+ghost use Rattle.mb_model.specs.machine.Fates.{change_fate};
+ghost use Rattle.mb_model.specs.machine.Work.{region_fate};
 ghost use Rattle.mb_log.specs.Additions.{IsInRange};
 ghost use Rattle.mb_orders.specs.Judging.{plan_by};
 ghost use Rattle.mb_signer.specs.Benches.{HasTree};

@@ -1,7 +1,7 @@
 //! Whether the log and a region have room for what an order adds.
 
 ghost use Rattle.std.specs.Prelude.{◌≡◌, ◌↔◌, IsTrue};
-ghost use Rattle.mb_model.specs.OrderChecks.{region_keys, LogHasRoom, RegionHasRoom};
+ghost use Rattle.mb_model.specs.machine.OrderChecks.{region_keys, LogHasRoom, RegionHasRoom};
 
 use mb_authority::{change_by, renews};
 use mb_log::needed;

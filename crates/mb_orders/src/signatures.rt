@@ -2,8 +2,8 @@
 
 ghost use Rattle.std.specs.Prelude.{◌≡◌, ◌↔◌, ◌++◌, ℕ, All, IsTrue, MatchOption};
 ghost use Rattle.mb_model.specs.declared.order.Countersignature.{Countersignature};
-ghost use Rattle.mb_model.specs.Rules.{IsFirstFailing};
-ghost use Rattle.mb_model.specs.SignedTexts.{IsSignedBy};
+ghost use Rattle.mb_model.specs.owners.Rules.{IsFirstFailing};
+ghost use Rattle.mb_model.specs.machine.SignedTexts.{IsSignedBy};
 ghost use Rattle.mb_orders.specs.Judging.{IsSignedOver, IsCountersignedOver};
 
 use mb_authority::{authority, layer_of};
@@ -22,7 +22,7 @@ fn is_signed_by(key: Option<PublicKey>, head: &[u8], body: &[u8], signature: &[u
 }
 
 /// Whether the owner in charge signed the order. `body` is the order's body.
-#[tactic(auto, unfolding(mb_model::specs::SignedTexts::order_text))]
+#[tactic(auto, unfolding(mb_model::specs::machine::SignedTexts::order_text))]
 pub fn is_signed(layers: &Layers, order: &Order, body: &[u8]) -> bool
     ensures { IsTrue result ↔ IsSignedOver layers.now order.now body.now }
 {
@@ -31,7 +31,7 @@ pub fn is_signed(layers: &Layers, order: &Order, body: &[u8]) -> bool
 }
 
 /// Whether the owner of the countersignature's layer gave it. `body` is the order's body.
-#[tactic(auto, unfolding(mb_model::specs::SignedTexts::countersigned_text))]
+#[tactic(auto, unfolding(mb_model::specs::machine::SignedTexts::countersigned_text))]
 fn is_countersigned(layers: &Layers, by: &Countersignature, body: &[u8]) -> bool
     ensures { IsTrue result ↔ IsCountersignedOver layers.now body.now by.now }
 {

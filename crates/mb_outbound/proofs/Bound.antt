@@ -5,10 +5,10 @@ use Rattle.mb_format.specs.Format.{IsBytes}
 use Rattle.mb_model.specs.declared.region.Region.{Region}
 use Rattle.mb_model.specs.declared.region.RegionKey.{RegionKey}
 use Rattle.mb_model.specs.declared.state.State.{State}
-use Rattle.mb_model.specs.Board.{Memory, IsLoaded}
-use Rattle.mb_model.specs.Memory.{area_of_slot}
-use Rattle.mb_model.specs.RegionFormat.{SpellsRegion, CanBeWritten}
-use Rattle.mb_model.specs.Meaning.{HoldsRegion}
+use Rattle.mb_model.specs.outside.Board.{Memory, IsLoaded}
+use Rattle.mb_model.specs.memories.Memory.{area_of_slot}
+use Rattle.mb_model.specs.records.RegionFormat.{SpellsRegion, CanBeWritten}
+use Rattle.mb_model.specs.memories.Meaning.{HoldsRegion}
 use Rattle.mb_layout_edits.specs.declared.usage.NotUsed.{NotUsed}
 use Rattle.mb_layout_edits.specs.declared.usage.NotUsed.TheVariants.{NoKey, Spent}
 use Rattle.mb_layout_edits.specs.Edits.{region_with_use, UseOf}

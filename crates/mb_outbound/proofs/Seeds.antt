@@ -5,8 +5,8 @@ use Rattle.mb_model.specs.declared.key.KeySeed.{KeySeed}
 use Rattle.mb_model.specs.declared.region.Region.{Region}
 use Rattle.mb_model.specs.declared.region.RegionKey.{RegionKey}
 use Rattle.mb_model.specs.declared.state.State.{State}
-use Rattle.mb_model.specs.LayerEvents.{has_number, with_use}
-use Rattle.mb_model.specs.Regions.{region_of, with_region, empty_region}
+use Rattle.mb_model.specs.machine.LayerEvents.{has_number, with_use}
+use Rattle.mb_model.specs.owners.Regions.{region_of, with_region, empty_region}
 use Rattle.mb_signer.specs.Tree.{IsTreeOf}
 use Rattle.mb_outbound.specs.declared.kept.RegionTree.{RegionTree}
 use Rattle.mb_outbound.specs.Binding.{IsBound}

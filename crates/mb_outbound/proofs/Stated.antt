@@ -2,8 +2,8 @@
 use Rattle.std.proofs.Common.{◌≡◌, ℕ, List, ◌∷◌, ◌++◌, ap, ◌∙◌, append_assoc}
 use Rattle.std.specs.Int.{w32, to_be_bytes}
 use Rattle.mb_model.specs.declared.key.KeySeed.{KeySeed}
-use Rattle.mb_model.specs.Signing.{signature_of}
-use Rattle.mb_model.specs.SignedTexts.{statement_text}
+use Rattle.mb_model.specs.signatures.Signing.{signature_of}
+use Rattle.mb_model.specs.machine.SignedTexts.{statement_text}
 
 text_is : (serial : List ℕ) (key number : ℕ) (message head : List ℕ) → head ≡ 4 ∷ serial ++ to_be_bytes w32 key ++ to_be_bytes w32 number → head ++ message ≡ statement_text serial key number message
 unfolding statement_text

@@ -6,10 +6,10 @@ use Rattle.mb_model.specs.declared.limits.TheConstants.{KEY_USES}
 use Rattle.mb_model.specs.declared.region.Region.{Region}
 use Rattle.mb_model.specs.declared.region.RegionKey.{RegionKey}
 use Rattle.mb_model.specs.declared.state.State.{State}
-use Rattle.mb_model.specs.Board.{Memory, Meter}
-use Rattle.mb_model.specs.LayerEvents.{has_number}
-use Rattle.mb_model.specs.Regions.{region_of, with_region}
-use Rattle.mb_model.specs.Meaning.{HoldsRegion, Contents}
+use Rattle.mb_model.specs.outside.Board.{Memory, Meter}
+use Rattle.mb_model.specs.machine.LayerEvents.{has_number}
+use Rattle.mb_model.specs.owners.Regions.{region_of, with_region}
+use Rattle.mb_model.specs.memories.Meaning.{HoldsRegion, Contents}
 use Rattle.mb_model_memory.specs.Holding.{Holds, region_in_slot, with_region_in}
 use Rattle.mb_layout_edits.specs.Edits.{region_with_use, IsSpent}
 use Rattle.mb_outbound.specs.declared.binding.BindEnd.{BindEnd}

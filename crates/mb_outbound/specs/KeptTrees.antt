@@ -2,8 +2,8 @@
 use Rattle.std.specs.Prelude.{◌≡◌, ℕ, find, Option, None, Some}
 use Rattle.mb_model.specs.declared.region.RegionKey.{RegionKey}
 use Rattle.mb_model.specs.declared.state.State.{State}
-use Rattle.mb_model.specs.LayerEvents.{has_number}
-use Rattle.mb_model.specs.Regions.{region_of}
+use Rattle.mb_model.specs.machine.LayerEvents.{has_number}
+use Rattle.mb_model.specs.owners.Regions.{region_of}
 use Rattle.mb_signer.specs.Tree.{IsTreeOf}
 use Rattle.mb_outbound.specs.declared.kept.RegionTree.{RegionTree}
 

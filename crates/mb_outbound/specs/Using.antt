@@ -2,8 +2,8 @@
 use Rattle.std.specs.Prelude.{◌≡◌, ℕ, List, find, None, Result, Ok, Err}
 use Rattle.mb_model.specs.declared.region.Region.{Region}
 use Rattle.mb_model.specs.declared.region.RegionKey.{RegionKey}
-use Rattle.mb_model.specs.LayerEvents.{has_number}
-use Rattle.mb_model.specs.RegionFormat.{SpellsRegion}
+use Rattle.mb_model.specs.machine.LayerEvents.{has_number}
+use Rattle.mb_model.specs.records.RegionFormat.{SpellsRegion}
 use Rattle.mb_layout_edits.specs.declared.usage.NotUsed.{NotUsed}
 use Rattle.mb_layout_edits.specs.declared.usage.NotUsed.TheVariants.{NoKey, Spent}
 use Rattle.mb_layout_edits.specs.Edits.{region_with_use, IsSpent}

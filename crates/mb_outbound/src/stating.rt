@@ -3,8 +3,8 @@
 ghost use Rattle.std.specs.Prelude.{◌≡◌, ◌+◌, ◌≤◌, ◌∷◌, ◌++◌};
 ghost use Rattle.std.specs.Int.{w32, to_be_bytes};
 ghost use Rattle.mb_model.specs.declared.separators.TheConstants.{STATEMENT_TEXT};
-ghost use Rattle.mb_model.specs.Signing.{signature_of};
-ghost use Rattle.mb_model.specs.SignedTexts.{statement_text};
+ghost use Rattle.mb_model.specs.signatures.Signing.{signature_of};
+ghost use Rattle.mb_model.specs.machine.SignedTexts.{statement_text};
 ghost use Rattle.mb_signer.specs.Tree.{IsTreeOf};
 ghost use Rattle.mb_lms.specs.declared.hash_count.TheConstants.{LEAF_HASHES};
 

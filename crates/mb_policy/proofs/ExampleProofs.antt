@@ -6,9 +6,9 @@ use Rattle.std.proofs.lemmas.Bool.{false≢true}
 use Rattle.std.proofs.lemmas.List.Elements.{All-nil, All-cons}
 use Rattle.std.specs.Fmt.{digits}
 use Rattle.hex.specs.Hex.{decode_of, decode_pairs}
-use Rattle.mb_model.specs.Texts.{IsHex}
-use Rattle.mb_model.specs.Lines.{IsLine, IsBeginning, TextFailsAtLine}
-use Rattle.mb_model.specs.Script.{IsName, is_skipped}
+use Rattle.mb_model.specs.outside.Texts.{IsHex}
+use Rattle.mb_model.specs.chains.Lines.{IsLine, IsBeginning, TextFailsAtLine}
+use Rattle.mb_model.specs.chains.Script.{IsName, is_skipped}
 use Rattle.mb_model_lemmas.proofs.LineLemmas.{cons_same, cons_none, HasLines-on, HasLines-nil, IsBeginning-all, bad_after}
 use Rattle.mb_policy.specs.declared.judging.Judgement.TheVariants as judgement
 use Rattle.mb_policy.specs.Policies.{Test, comes_last, key_lives, PolicyRule, PolicyItem, set_item, rule_item, line_words, is_rule_named, verb_word, test_words, IsHashWord, SaysRule, SaysItem, SayItems, IsPolicy}

@@ -4,8 +4,8 @@ use Rattle.mb_model.specs.declared.key.Trust.{Trust}
 use Rattle.mb_model.specs.declared.key.Trust.TheVariants as trust
 use Rattle.mb_model.specs.declared.order.KeyKind.{KeyKind}
 use Rattle.mb_model.specs.declared.order.KeyKind.TheVariants as kinds
-use Rattle.mb_model.specs.Lines.{IsNumber, number_limit}
-use Rattle.mb_model.specs.Drafts.{trust_word, kind_word}
+use Rattle.mb_model.specs.chains.Lines.{IsNumber, number_limit}
+use Rattle.mb_model.specs.chains.Drafts.{trust_word, kind_word}
 use Rattle.mb_words.specs.Words.{FindsSome}
 use Rattle.mb_policy.specs.declared.keyword.Keyword.{Keyword}
 use Rattle.mb_policy.specs.declared.keyword.Keyword.TheVariants as keyword

@@ -10,8 +10,8 @@ use Rattle.std.proofs.lemmas.List.Splits.{slice_split_at, slice_split_none, leng
 use Rattle.std.proofs.lemmas.List.Elements.{All-weaker}
 use Rattle.mb_format.specs.Combinators.{same_bytes}
 use Rattle.mb_format.proofs.Fields.{same_bytes-true, same_bytes-refl}
-use Rattle.mb_model.specs.Layers.{is_layer_number}
-use Rattle.mb_model.specs.Lines.{IsNumber, number_limit}
+use Rattle.mb_model.specs.owners.Layers.{is_layer_number}
+use Rattle.mb_model.specs.chains.Lines.{IsNumber, number_limit}
 use Rattle.mb_words.specs.Words.{IsSplit, FindsSome}
 use Rattle.mb_policy.specs.Policies.{line_words}
 use Rattle.mb_policy.specs.Reading.{meant_by, number_in, positive, layer_in}

@@ -4,8 +4,8 @@ use Rattle.std.specs.Prelude.{filter, not, Bool}
 use Rattle.std.specs.List.{AllZip}
 use Rattle.std.proofs.lemmas.List.{append-nil}
 use Rattle.std.proofs.lemmas.List.Elements.{filter-append}
-use Rattle.mb_model.specs.Lines.{HasLines, IsBeginning, FailsAtLine, ReadsLines, TextFailsAtLine}
-use Rattle.mb_model.specs.Script.{is_skipped}
+use Rattle.mb_model.specs.chains.Lines.{HasLines, IsBeginning, FailsAtLine, ReadsLines, TextFailsAtLine}
+use Rattle.mb_model.specs.chains.Script.{is_skipped}
 use Rattle.mb_model_lemmas.proofs.LineLemmas.{HasLines-nil, HasLines-always, IsBeginning-all, bad_after, cons_same}
 use Rattle.mb_model_lemmas.proofs.WordLemmas.{IsHex-same}
 use Rattle.mb_words.specs.Words.{SplitsLine}

@@ -5,8 +5,8 @@ use Rattle.mb_model.specs.declared.layer.Layer.{Layer}
 use Rattle.mb_model.specs.declared.order.KeyKind.TheVariants as kinds
 use Rattle.mb_model.specs.declared.state.Configuration.{Configuration}
 use Rattle.mb_model.specs.declared.state.Report.{Report}
-use Rattle.mb_model.specs.Layers.{layer_without_owner, equal_trusts}
-use Rattle.mb_model.specs.Lines.{TextFailsAtLine}
+use Rattle.mb_model.specs.owners.Layers.{layer_without_owner, equal_trusts}
+use Rattle.mb_model.specs.chains.Lines.{TextFailsAtLine}
 use Rattle.mb_policy.specs.declared.judging.Judgement.TheVariants as judgement
 use Rattle.mb_policy.specs.Policies.{HashSet, Test, PolicyRule, PolicyItem, set_item, rule_item, test_depth, SaysRule}
 use Rattle.mb_policy.specs.Policies.{opposite, code_in, trust_is, number_between, comes_last, key_lives, has_message}

@@ -9,8 +9,8 @@ use Rattle.mb_model.specs.declared.order.KeyKind.{KeyKind}
 use Rattle.mb_model.specs.declared.order.KeyKind.TheVariants as kinds
 use Rattle.mb_model.specs.declared.state.Configuration.{Configuration}
 use Rattle.mb_model.specs.declared.state.Report.{Report}
-use Rattle.mb_model.specs.Key.{key_bytes}
-use Rattle.mb_model.specs.Layers.{layer_of, is_layer_number, is_same_trust, trust_for}
+use Rattle.mb_model.specs.signatures.Key.{key_bytes}
+use Rattle.mb_model.specs.owners.Layers.{layer_of, is_layer_number, is_same_trust, trust_for}
 use Rattle.mb_policy.specs.declared.judging.Judgement.{Judgement}
 use Rattle.mb_policy.specs.declared.judging.Judgement.TheVariants as judgement
 use Rattle.mb_policy.specs.Policies.{HashSet, Test, PolicyItem, set_item, rule_item}

@@ -1,7 +1,7 @@
 -- What the definitions give: a text is read in one way, and a report is judged in one way.
 use Rattle.std.specs.Prelude.{◌≡◌, ℕ, List}
 use Rattle.mb_model.specs.declared.state.Report.{Report}
-use Rattle.mb_model.specs.Lines.{ReadsLines, TextFailsAtLine}
+use Rattle.mb_model.specs.chains.Lines.{ReadsLines, TextFailsAtLine}
 use Rattle.mb_policy.specs.declared.judging.Judgement.{Judgement}
 use Rattle.mb_policy.specs.Policies.{PolicyItem, IsPolicy}
 use Rattle.mb_policy.specs.Judging.{IsJudged}

@@ -4,7 +4,7 @@ use Rattle.std.specs.Prelude.{Some}
 use Rattle.std.specs.Prelude.{Result, Ok, Err}
 use Rattle.std.specs.List.{AllZip}
 use Rattle.mb_format.specs.Combinators.{same_bytes}
-use Rattle.mb_model.specs.Lines.{ReadsLines, TextFailsAtLine}
+use Rattle.mb_model.specs.chains.Lines.{ReadsLines, TextFailsAtLine}
 use Rattle.mb_words.specs.declared.said.NotSaid.{NotSaid}
 use Rattle.mb_words.specs.declared.said.NotSaid.TheVariants as why
 use Rattle.mb_policy.specs.declared.keyword.Leaf.{Leaf}

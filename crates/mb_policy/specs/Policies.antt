@@ -6,11 +6,11 @@ use Rattle.std.specs.Fmt.{decimal}
 use Rattle.mb_format.specs.Combinators.{same_bytes}
 use Rattle.mb_model.specs.declared.key.Trust.{Trust}
 use Rattle.mb_model.specs.declared.order.KeyKind.{KeyKind}
-use Rattle.mb_model.specs.Texts.{IsHex}
-use Rattle.mb_model.specs.Layers.{is_layer_number}
-use Rattle.mb_model.specs.Lines.{number_limit}
-use Rattle.mb_model.specs.Drafts.{trust_word, kind_word}
-use Rattle.mb_model.specs.Script.{IsName, is_skipped}
+use Rattle.mb_model.specs.outside.Texts.{IsHex}
+use Rattle.mb_model.specs.owners.Layers.{is_layer_number}
+use Rattle.mb_model.specs.chains.Lines.{number_limit}
+use Rattle.mb_model.specs.chains.Drafts.{trust_word, kind_word}
+use Rattle.mb_model.specs.chains.Script.{IsName, is_skipped}
 use Rattle.mb_policy.specs.declared.limits.TheConstants.{LINE_LIMIT, HASH_LIMIT, DEPTH_LIMIT}
 
 -- ---- policies

@@ -7,8 +7,8 @@ use Rattle.mb_model.specs.declared.key.Trust.{Trust}
 use Rattle.mb_model.specs.declared.key.Trust.TheVariants as trust
 use Rattle.mb_model.specs.declared.order.KeyKind.{KeyKind}
 use Rattle.mb_model.specs.declared.order.KeyKind.TheVariants as kinds
-use Rattle.mb_model.specs.Lines.{number_limit}
-use Rattle.mb_model.specs.Drafts.{trust_word, kind_word}
+use Rattle.mb_model.specs.chains.Lines.{number_limit}
+use Rattle.mb_model.specs.chains.Drafts.{trust_word, kind_word}
 use Rattle.mb_policy.specs.declared.keyword.Verb.{Verb}
 use Rattle.mb_policy.specs.declared.keyword.Verb.TheVariants as verb
 use Rattle.mb_policy.specs.declared.keyword.Keyword.{Keyword}

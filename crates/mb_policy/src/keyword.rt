@@ -1,7 +1,7 @@
 //! Words that mean a value each.
 
 ghost use Rattle.std.specs.Prelude.{◌≡◌};
-ghost use Rattle.mb_model.specs.Drafts.{trust_word, kind_word};
+ghost use Rattle.mb_model.specs.chains.Drafts.{trust_word, kind_word};
 ghost use Rattle.mb_policy.specs.Reading.{verb_name, first_of_test};
 ghost use Rattle.mb_words.specs.Words.{FindsSome};
 

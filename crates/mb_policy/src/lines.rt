@@ -3,7 +3,7 @@
 ghost use Rattle.std.specs.Prelude.{◌≡◌, ◌↔◌, ◌≤◌, ◌∷◌, codes, length, IsTrue};
 ghost use Rattle.std.specs.List.{list_any};
 ghost use Rattle.mb_model.specs.declared.limits.TheConstants.{FILE_LIMIT};
-ghost use Rattle.mb_model.specs.Script.{IsName, is_skipped};
+ghost use Rattle.mb_model.specs.chains.Script.{IsName, is_skipped};
 ghost use Rattle.mb_policy.specs.Meanings.{items_of, line_has_rule, FindsHashes};
 ghost use Rattle.mb_policy.specs.Meanings.{ReadsPolicy, ReadsLine, ReadsSet, ReadsRule, ReadsTest};
 ghost use Rattle.mb_policy.specs.Meanings.{EndsTest, MakesSet, MakesRule};

@@ -1,7 +1,7 @@
 //! One configuration of a report.
 
 ghost use Rattle.std.specs.Prelude.{◌≡◌, MatchOption, None, Some};
-ghost use Rattle.mb_model.specs.Layers.{is_same_trust, trust_for};
+ghost use Rattle.mb_model.specs.owners.Layers.{is_same_trust, trust_for};
 ghost use Rattle.mb_policy.specs.Judging.{listed_layer, holds};
 ghost use Rattle.mb_policy.specs.Policies.{version_between, trust_is, reliable_at, number_between};
 ghost use Rattle.mb_policy.specs.Policies.{comes_first, comes_last, kind_is, has_message};

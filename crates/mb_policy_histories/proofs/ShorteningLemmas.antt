@@ -7,8 +7,8 @@ use Rattle.mb_model.specs.declared.entry.Entry.{Entry}
 use Rattle.mb_model.specs.declared.order.KeyKind.{KeyKind}
 use Rattle.mb_model.specs.declared.state.Configuration.{Configuration}
 use Rattle.mb_model.specs.declared.state.Report.{Report}
-use Rattle.mb_model.specs.Acceptance.{KeyEntry, key_of}
-use Rattle.mb_model.specs.Log.{entries_of, RuledLog}
+use Rattle.mb_model.specs.chains.Acceptance.{KeyEntry, key_of}
+use Rattle.mb_model.specs.owners.Log.{entries_of, RuledLog}
 use Rattle.mb_model_lemmas.proofs.ChainLemmas.{accepted_is_ruled}
 use Rattle.mb_model_lemmas.proofs.Splits.{some_same}
 use Rattle.mb_model_histories.proofs.AcceptanceLemmas.{made_on}

@@ -5,11 +5,11 @@ use Rattle.mb_model.specs.declared.key.PublicKey.{PublicKey}
 use Rattle.mb_model.specs.declared.entry.Entry.{Entry}
 use Rattle.mb_model.specs.declared.state.Configuration.{Configuration}
 use Rattle.mb_model.specs.declared.state.Report.{Report}
-use Rattle.mb_model.specs.Acceptance.{IsCurrent, IsVerdict, Verdict, chain_acceptance, chain_rejection}
-use Rattle.mb_model.specs.Lives.{configuration}
-use Rattle.mb_model.specs.Log.{entries_of}
-use Rattle.mb_model.specs.Machine.{World}
-use Rattle.mb_model.specs.Texts.{line_with_lf}
+use Rattle.mb_model.specs.chains.Acceptance.{IsCurrent, IsVerdict, Verdict, chain_acceptance, chain_rejection}
+use Rattle.mb_model.specs.owners.Lives.{configuration}
+use Rattle.mb_model.specs.owners.Log.{entries_of}
+use Rattle.mb_model.specs.machine.Machine.{World}
+use Rattle.mb_model.specs.outside.Texts.{line_with_lf}
 use Rattle.mb_model_commands.specs.Commands.{Input, Command, read, find, print, refuse, HasRead, Past, Ended, end_seen_from, InputEnds, input_is_too_long, input_is_faulty, input_is_not_read, memory_lacks, text_is_printed, text_is_not_printed, CommandEnds, at_first}
 use Rattle.mb_model_commands.specs.Inputs.{root_input, chain_bytes_input}
 use Rattle.mb_model_commands.specs.Outside.{read_once, Prints}

@@ -3,8 +3,8 @@ use Rattle.std.specs.Prelude.{◌≡◌, ℕ, Bool, true, false, ◌||◌, List,
 use Rattle.mb_model.specs.declared.key.PublicKey.{PublicKey}
 use Rattle.mb_model.specs.declared.state.Configuration.{Configuration}
 use Rattle.mb_model.specs.declared.state.Report.{Report}
-use Rattle.mb_model.specs.Acceptance.{Accepts}
-use Rattle.mb_model.specs.Log.{entries_of}
+use Rattle.mb_model.specs.chains.Acceptance.{Accepts}
+use Rattle.mb_model.specs.owners.Log.{entries_of}
 use Rattle.mb_model_histories.specs.AgreementLaws.{IsPrefixOf}
 use Rattle.mb_policy.specs.declared.judging.Judgement.TheVariants as judgement
 use Rattle.mb_policy.specs.Examples.{allow_rule, deny_rule, small_configuration, small_report}

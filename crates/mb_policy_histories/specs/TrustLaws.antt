@@ -7,12 +7,12 @@ use Rattle.mb_model.specs.declared.limits.TheConstants.{ENTRY_LIMIT}
 use Rattle.mb_model.specs.declared.state.Configuration.{Configuration}
 use Rattle.mb_model.specs.declared.state.Report.{Report}
 use Rattle.mb_model.specs.declared.state.State.{State}
-use Rattle.mb_model.specs.Acceptance.{Accepts, Honest}
-use Rattle.mb_model.specs.Lives.{configuration}
-use Rattle.mb_model.specs.Log.{entries_of, serial_of}
-use Rattle.mb_model.specs.Machine.{World}
-use Rattle.mb_model.specs.Texts.{line_with_lf}
-use Rattle.mb_model.specs.Valid.{Valid}
+use Rattle.mb_model.specs.chains.Acceptance.{Accepts, Honest}
+use Rattle.mb_model.specs.owners.Lives.{configuration}
+use Rattle.mb_model.specs.owners.Log.{entries_of, serial_of}
+use Rattle.mb_model.specs.machine.Machine.{World}
+use Rattle.mb_model.specs.outside.Texts.{line_with_lf}
+use Rattle.mb_model.specs.memories.Valid.{Valid}
 use Rattle.mb_model_commands.specs.Commands.{HasRead, Ended, CommandEnds, at_first}
 use Rattle.mb_model_commands.specs.Inputs.{root_input}
 use Rattle.mb_model_commands.specs.Outside.{Outside, read_once, Prints}

@@ -5,12 +5,12 @@ use Rattle.mb_model.specs.declared.region.Region.{Region}
 use Rattle.mb_model.specs.declared.state.State.{State}
 use Rattle.mb_model.specs.declared.stored.Fate.{Fate}
 use Rattle.mb_model.specs.declared.stored.Fate.TheVariants.{Keep}
-use Rattle.mb_model.specs.Board.{Memory, IsLoaded}
-use Rattle.mb_model.specs.Memory.{area_of_slot, HoldsInArea}
-use Rattle.mb_model.specs.StoredLog.{HasIndex}
-use Rattle.mb_model.specs.Regions.{empty_region}
-use Rattle.mb_model.specs.RegionFormat.{region_format, SpellsRegion, CanBeWritten, written_region}
-use Rattle.mb_model.specs.Meaning.{HoldsRegion, Contents, HoldsContents, region_after_fate, state_of_contents}
+use Rattle.mb_model.specs.outside.Board.{Memory, IsLoaded}
+use Rattle.mb_model.specs.memories.Memory.{area_of_slot, HoldsInArea}
+use Rattle.mb_model.specs.memories.StoredLog.{HasIndex}
+use Rattle.mb_model.specs.owners.Regions.{empty_region}
+use Rattle.mb_model.specs.records.RegionFormat.{region_format, SpellsRegion, CanBeWritten, written_region}
+use Rattle.mb_model.specs.memories.Meaning.{HoldsRegion, Contents, HoldsContents, region_after_fate, state_of_contents}
 use Rattle.mb_model.proofs.RegionWriting.{written_spells, spelled_short, written_short, written_is_record}
 use Rattle.mb_model_lemmas.proofs.MeaningLemmas.{one_region}
 use Rattle.mb_model_lemmas.proofs.FateLemmas.{kept_as_before}

@@ -2,9 +2,9 @@
 use Rattle.std.specs.Prelude.{◌≡◌, ℕ, ◌⊎◌, List}
 use Rattle.mb_model.specs.declared.region.Region.{Region}
 use Rattle.mb_model.specs.declared.stored.Fate.{Fate}
-use Rattle.mb_model.specs.Board.{Memory}
-use Rattle.mb_model.specs.RegionFormat.{CanBeWritten}
-use Rattle.mb_model.specs.Meaning.{HoldsRegion, Contents, region_after_fate}
+use Rattle.mb_model.specs.outside.Board.{Memory}
+use Rattle.mb_model.specs.records.RegionFormat.{CanBeWritten}
+use Rattle.mb_model.specs.memories.Meaning.{HoldsRegion, Contents, region_after_fate}
 use Rattle.mb_model_memory.specs.Holding.{Holds, region_in_slot, with_region_in, fate_in_slot}
 
 -- an area holds a region that can be written after this fate

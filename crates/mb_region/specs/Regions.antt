@@ -2,8 +2,8 @@
 use Rattle.std.specs.Prelude.{◌≡◌, ℕ, ◌⊎◌, List}
 use Rattle.mb_model.specs.declared.region.Region.{Region}
 use Rattle.mb_model.specs.declared.stored.Fate.TheVariants.{Keep}
-use Rattle.mb_model.specs.Board.{Memory}
-use Rattle.mb_model.specs.Meaning.{HoldsRegion, Contents}
+use Rattle.mb_model.specs.outside.Board.{Memory}
+use Rattle.mb_model.specs.memories.Meaning.{HoldsRegion, Contents}
 use Rattle.mb_model_memory.specs.Holding.{Holds, KeepsContents, with_region_in, fate_in_slot}
 
 -- the slot is that of a region, 2 or 3

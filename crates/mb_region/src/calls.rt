@@ -6,10 +6,10 @@ ghost use Rattle.mb_model.specs.declared.limits.TheConstants.{AREA_LENGTH, RECOR
 ghost use Rattle.mb_model.specs.declared.region.Region.{Region};
 ghost use Rattle.mb_model.specs.declared.state.State.{State};
 ghost use Rattle.mb_model.specs.declared.stored.Fate.TheVariants.{Keep};
-ghost use Rattle.mb_model.specs.Memory.{IsBlank, area_of_slot, inactive_area_of_slot};
-ghost use Rattle.mb_model.specs.Meaning.{HoldsRegion};
-ghost use Rattle.mb_model.specs.RegionFormat.{SpellsRegion, CanBeWritten};
-ghost use Rattle.mb_model.specs.Regions.{with_region};
+ghost use Rattle.mb_model.specs.memories.Memory.{IsBlank, area_of_slot, inactive_area_of_slot};
+ghost use Rattle.mb_model.specs.memories.Meaning.{HoldsRegion};
+ghost use Rattle.mb_model.specs.records.RegionFormat.{SpellsRegion, CanBeWritten};
+ghost use Rattle.mb_model.specs.owners.Regions.{with_region};
 ghost use Rattle.mb_board.specs.Calls.{IsUp};
 ghost use Rattle.mb_model_memory.specs.Holding.{Means, KeepsContents};
 ghost use Rattle.mb_model_memory.specs.InForce.{AgreeBesides};

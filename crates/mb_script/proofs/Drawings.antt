@@ -4,7 +4,7 @@ use Rattle.std.specs.Prelude.{IsTrue, Some, slice_get, slice_set}
 use Rattle.std.proofs.lemmas.List.{length-take-le, length-drop, take-append-drop, take_at, drop-drop, set-append_right}
 use Rattle.mb_model.specs.declared.event.Event.{Event}
 use Rattle.mb_model.specs.declared.event.Event.TheVariants as event
-use Rattle.mb_model.specs.Script.{with_before, is_command, commands_in, drawn_event, drawn_events}
+use Rattle.mb_model.specs.chains.Script.{with_before, is_command, commands_in, drawn_event, drawn_events}
 use Rattle.mb_model_lemmas.proofs.DrawLemmas.{drawn-push, drawn-length, commands_in-append}
 
 -- The events before a place have their draws, and the noise after these is left.

@@ -3,8 +3,8 @@ use Rattle.std.proofs.Common.{◌≡◌, ◌≢◌, ℕ, ◌+◌, ◌<◌, ◌�
 use Rattle.std.specs.Prelude.{filter}
 use Rattle.std.proofs.lemmas.List.{append-nil}
 use Rattle.std.proofs.lemmas.List.Elements.{filter-append}
-use Rattle.mb_model.specs.Lines.{HasLines}
-use Rattle.mb_model.specs.Script.{is_skipped}
+use Rattle.mb_model.specs.chains.Lines.{HasLines}
+use Rattle.mb_model.specs.chains.Script.{is_skipped}
 use Rattle.mb_model_lemmas.proofs.LineLemmas.{HasLines-nil, HasLines-always}
 use Rattle.mb_model_lemmas.proofs.EventLemmas.{counts}
 use Rattle.mb_words.specs.Words.{SplitsLine}

@@ -6,9 +6,9 @@ use Rattle.std.proofs.lemmas.List.{append_cancel_left}
 use Rattle.mb_model.specs.declared.event.Event.{Event}
 use Rattle.mb_model.specs.declared.event.Event.TheVariants as event
 use Rattle.mb_model.specs.declared.event.Tear.{Tear}
-use Rattle.mb_model.specs.Texts.{IsHex}
-use Rattle.mb_model.specs.Lines.{spaced_words, number_limit}
-use Rattle.mb_model.specs.Script.{tear_of, IsName, FitsMessage, IsCutLine, SaysEvent}
+use Rattle.mb_model.specs.outside.Texts.{IsHex}
+use Rattle.mb_model.specs.chains.Lines.{spaced_words, number_limit}
+use Rattle.mb_model.specs.chains.Script.{tear_of, IsName, FitsMessage, IsCutLine, SaysEvent}
 use Rattle.mb_model_lemmas.proofs.LineLemmas.{Without, first_same, first_none}
 use Rattle.mb_model_lemmas.proofs.EventLemmas.{letters, letters_of, says_letters}
 use Rattle.mb_script.specs.Reading.{HasNumberFirst, HasRegionFirst, SaysSecret, SaysTail, kept_some, none, IsFill}

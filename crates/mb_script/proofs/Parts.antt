@@ -10,11 +10,11 @@ use Rattle.hex.specs.Hex.{decode_of, decode_sized}
 use Rattle.hex.specs.declared.error.FromHexError.{FromHexError}
 use Rattle.hex.proofs.HexLemmas.{decode_of-ok, decode_sized-ok, decode_sized-twice}
 use Rattle.mb_model.specs.declared.limits.TheConstants.{NAME_LIMIT}
-use Rattle.mb_model.specs.RegionFormat.{is_name, is_name_byte}
-use Rattle.mb_model.specs.Layers.{is_upper}
-use Rattle.mb_model.specs.Lines.{IsNumber, number_limit}
+use Rattle.mb_model.specs.records.RegionFormat.{is_name, is_name_byte}
+use Rattle.mb_model.specs.owners.Layers.{is_upper}
+use Rattle.mb_model.specs.chains.Lines.{IsNumber, number_limit}
 use Rattle.mb_model.specs.declared.event.Tear.{Tear}
-use Rattle.mb_model.specs.Script.{IsName, tear_of}
+use Rattle.mb_model.specs.chains.Script.{IsName, tear_of}
 use Rattle.mb_model_lemmas.proofs.LineLemmas.{Without, isnt, cons_same, first_same, first_none}
 use Rattle.mb_model_lemmas.proofs.WordLemmas.{number_front, decimal_spaceless, upper_fits, name_spaceless}
 use Rattle.mb_words.specs.Words.{IsSplit}

@@ -5,8 +5,8 @@ use Rattle.std.specs.List.{AllZip}
 use Rattle.std.proofs.lemmas.List.{append-nil}
 use Rattle.std.proofs.lemmas.List.Elements.{filter-append}
 use Rattle.mb_model.specs.declared.event.Event.{Event}
-use Rattle.mb_model.specs.Lines.{HasLines, IsBeginning, FailsAtLine, ReadsLines, TextFailsAtLine}
-use Rattle.mb_model.specs.Script.{SaysEvent, is_skipped, IsScript}
+use Rattle.mb_model.specs.chains.Lines.{HasLines, IsBeginning, FailsAtLine, ReadsLines, TextFailsAtLine}
+use Rattle.mb_model.specs.chains.Script.{SaysEvent, is_skipped, IsScript}
 use Rattle.mb_model_lemmas.proofs.LineLemmas.{HasLines-nil, HasLines-always, IsBeginning-all, bad_after}
 use Rattle.mb_model_lemmas.proofs.EventLemmas.{too_many_events, counts}
 use Rattle.mb_words.specs.Words.{SplitsLine}

@@ -6,7 +6,7 @@ use Rattle.std.specs.Fmt.{decimal}
 use Rattle.std.proofs.lemmas.Fmt.{decimal_digit, decimal_step}
 use Rattle.std.proofs.lemmas.List.{take_more, take-append-drop}
 use Rattle.hex.specs.Hex.{encode_with, encode_lower, lower_digits}
-use Rattle.mb_model.specs.Lines.{hex_word}
+use Rattle.mb_model.specs.chains.Lines.{hex_word}
 use Rattle.mb_bytes.specs.Puts.{Appends, StopsShort, Puts}
 use Rattle.mb_bytes.proofs.Putting.{puts_then, puts_stop, puts_stop_later}
 use Rattle.mb_model_lemmas.proofs.WordLemmas.{hex_word-some}

@@ -4,10 +4,10 @@ use Rattle.std.specs.Prelude.{Ok, Err}
 use Rattle.std.specs.Fmt.{decimal}
 use Rattle.mb_model.specs.declared.limits.TheConstants.{FILL_LIMIT, FLASH_LENGTH}
 use Rattle.mb_model.specs.declared.event.Event.{Event}
-use Rattle.mb_model.specs.Layers.{is_upper}
-use Rattle.mb_model.specs.Texts.{IsHex}
-use Rattle.mb_model.specs.Lines.{HasLines, ReadsLines, TextFailsAtLine}
-use Rattle.mb_model.specs.Script.{IsName, is_skipped, IsScript}
+use Rattle.mb_model.specs.owners.Layers.{is_upper}
+use Rattle.mb_model.specs.outside.Texts.{IsHex}
+use Rattle.mb_model.specs.chains.Lines.{HasLines, ReadsLines, TextFailsAtLine}
+use Rattle.mb_model.specs.chains.Script.{IsName, is_skipped, IsScript}
 use Rattle.mb_script.specs.declared.script.ScriptEnd.{ScriptEnd}
 use Rattle.mb_script.specs.declared.script.ScriptEnd.TheVariants as end
 

@@ -2,7 +2,7 @@
 
 ghost use Rattle.std.specs.Prelude.{◌≡◌, ◌*◌, ◌<◌, ◌≤◌, ◌^◌, [], ◌∷◌, length, drop, IsTrue};
 ghost use Rattle.mb_model.specs.declared.limits.TheConstants.{DRAW_LENGTH};
-ghost use Rattle.mb_model.specs.Script.{is_command, commands_in, drawn_event};
+ghost use Rattle.mb_model.specs.chains.Script.{is_command, commands_in, drawn_event};
 ghost use Rattle.mb_script.specs.Drawing.{PlacesDraws};
 
 use mb_model::{DRAW_LENGTH, Event, Events};
@@ -35,7 +35,7 @@ pub fn place_draws(events: &mut Events, noise: &[u8]) -> Result<(), ShortNoise>
 }
 
 /// The number of commands among the events.
-#[tactic(auto, unfolding(mb_model::specs::Script::commands_in))]
+#[tactic(auto, unfolding(mb_model::specs::chains::Script::commands_in))]
 fn count_commands(events: &[Event]) -> usize
     ensures { result ≡ commands_in events.now }
 {
@@ -46,7 +46,7 @@ fn count_commands(events: &[Event]) -> usize
 }
 
 /// The event with its draw, which a command takes from the front of the noise; and the noise that is left.
-#[tactic(auto, unfolding(mb_model::specs::Script::commands_in))]
+#[tactic(auto, unfolding(mb_model::specs::chains::Script::commands_in))]
 fn draw_event(event: Event, noise: &[u8]) -> (Event, &[u8])
     requires { IsTrue (is_command event) → DRAW_LENGTH ≤ length noise.now }
     ensures drawn { result.0 ≡ drawn_event noise.now [] event }

@@ -1,7 +1,7 @@
 //! The events of a script, each read from its line.
 
 ghost use Rattle.std.specs.Prelude.{◌≢◌, ◌++◌, ◌∷◌, ℕ, List, All, MatchOption, codes};
-ghost use Rattle.mb_model.specs.Script.{SaysEvent};
+ghost use Rattle.mb_model.specs.chains.Script.{SaysEvent};
 ghost use Rattle.mb_words.specs.Words.{Finds, FindsSome};
 ghost use Rattle.mb_script.specs.Reading.{SaysTail, SaysSecret};
 

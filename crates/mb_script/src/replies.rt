@@ -3,9 +3,9 @@
 ghost use Rattle.std.specs.Prelude.{◌≡◌, ◌++◌, ◌∷◌, [], ◌<◌, unwrap_or};
 ghost use Rattle.std.specs.Fmt.{decimal};
 ghost use Rattle.hex.specs.Hex.{encode_lower};
-ghost use Rattle.mb_model.specs.Texts.{line_with_lf};
-ghost use Rattle.mb_model.specs.Lines.{hex_word};
-ghost use Rattle.mb_model.specs.Replies.{standing_word, refusal_words, reply_line};
+ghost use Rattle.mb_model.specs.outside.Texts.{line_with_lf};
+ghost use Rattle.mb_model.specs.chains.Lines.{hex_word};
+ghost use Rattle.mb_model.specs.chains.Replies.{standing_word, refusal_words, reply_line};
 ghost use Rattle.mb_bytes.specs.Puts.{Puts, Writes};
 
 use mb_bytes::put_slice;

@@ -2,7 +2,7 @@
 
 ghost use Rattle.std.specs.Prelude.{◌≡◌, ◌≤◌, length};
 ghost use Rattle.mb_model.specs.declared.limits.TheConstants.{FILE_LIMIT};
-ghost use Rattle.mb_model.specs.Script.{is_skipped};
+ghost use Rattle.mb_model.specs.chains.Script.{is_skipped};
 ghost use Rattle.mb_script.specs.Reading.{ReadsScript, IsLineOf};
 
 use crate::events::read_event;

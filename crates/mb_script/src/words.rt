@@ -1,8 +1,8 @@
 //! The words of a line.
 
 ghost use Rattle.std.specs.Prelude.{◌≡◌, ◌↔◌, ℕ, List, MatchOption, IsTrue};
-ghost use Rattle.mb_model.specs.Texts.{IsHex};
-ghost use Rattle.mb_model.specs.Script.{IsName, FitsMessage, tear_of};
+ghost use Rattle.mb_model.specs.outside.Texts.{IsHex};
+ghost use Rattle.mb_model.specs.chains.Script.{IsName, FitsMessage, tear_of};
 ghost use Rattle.mb_words.specs.Words.{Finds};
 ghost use Rattle.mb_script.specs.Reading.{HasNumberFirst, HasRegionFirst, HasNameFirst, IsFill};
 

@@ -2,7 +2,7 @@
 use Rattle.std.proofs.Common.{◌≡◌, ℕ, List, Option, Some, None, Result, Ok, Err, sym, ◌∙◌, arith}
 use Rattle.mb_format.specs.Format.{Format, SpelledAt}
 use Rattle.mb_format.specs.Reading.{IsExact}
-use Rattle.mb_model.specs.Sectors.{BeginsAs}
+use Rattle.mb_model.specs.memories.Sectors.{BeginsAs}
 use Rattle.mb_bytes.specs.declared.cursor.Cursor.{Cursor}
 use Rattle.mb_bytes.specs.Reads.{ReadsOk, ReadsErr, ReadsErrAt}
 use Rattle.mb_bytes.proofs.Exactly.{stands}

@@ -2,7 +2,7 @@
 use Rattle.std.proofs.Common.{ℕ, List, Option, Some, None, refl, arith}
 use Rattle.mb_format.specs.Combinators.{items}
 use Rattle.mb_model.specs.declared.stored.Header.{Header}
-use Rattle.mb_model.specs.HeaderFormat.{entry_bytes_format, unsigned_format, header_format}
+use Rattle.mb_model.specs.records.HeaderFormat.{entry_bytes_format, unsigned_format, header_format}
 use Rattle.mb_segments.specs.Bounds.{TextsFit, HeaderFits}
 
 texts_fit : (signed : ℕ) (first second : Option (List ℕ)) → (unsigned_format signed).Allowed (first, second) → TextsFit first second

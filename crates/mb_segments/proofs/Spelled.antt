@@ -3,7 +3,7 @@ use Rattle.std.proofs.Common.{◌≡◌, ℕ, Bool, true, false, List, ◌++◌,
 use Rattle.std.specs.Prelude.{◌==◌}
 use Rattle.std.specs.Int.{w8, w32}
 use Rattle.mb_format.specs.Combinators.{number, between, either, items}
-use Rattle.mb_model.specs.HeaderFormat.{code_length_format, entry_bytes_format, unsigned_format}
+use Rattle.mb_model.specs.records.HeaderFormat.{code_length_format, entry_bytes_format, unsigned_format}
 
 -- whether a slot is named or not
 pub code_length_spelling : (which length : ℕ) → (code_length_format which).spelling length ≡ (number w32).spelling length

@@ -1,7 +1,7 @@
 -- A reader of the beginning of bytes. Which value stands there?
 use Rattle.std.specs.Prelude.{ℕ, List, Option, Some, None, Result, Ok, Err}
 use Rattle.mb_format.specs.Format.{Format}
-use Rattle.mb_model.specs.Sectors.{BeginsAs}
+use Rattle.mb_model.specs.memories.Sectors.{BeginsAs}
 
 -- the value that the bytes begin with; None exactly if they begin with none
 abbrev pub FindsBeginning : {A X : Type 0} → (X → A) → Format A → List ℕ → Option X → Type 0

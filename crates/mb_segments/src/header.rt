@@ -2,7 +2,7 @@
 
 ghost use Rattle.std.specs.Prelude.{◌≡◌, ◌≤◌, length, IfOk};
 ghost use Rattle.mb_model.specs.declared.limits.TheConstants.{ENTRY_LIMIT, ENTRY_TEXT_LIMIT, FILE_LIMIT};
-ghost use Rattle.mb_model.specs.HeaderFormat.{code_length_format, slot_format, entry_bytes_format, unsigned_limit, unsigned_format, header_format};
+ghost use Rattle.mb_model.specs.records.HeaderFormat.{code_length_format, slot_format, entry_bytes_format, unsigned_limit, unsigned_format, header_format};
 ghost use Rattle.mb_bytes.specs.Reads.{bad_at, Reads, ReadsAs};
 ghost use Rattle.mb_bytes.specs.Puts.{Puts, Writes};
 ghost use Rattle.std.specs.Option.{option_copied};
@@ -51,7 +51,7 @@ pub struct StoredHeader<'a> {
 // ---- reading
 
 /// Reads the length of the code in a slot: 0 if no slot is named.
-#[tactic(auto, unfolding(mb_model::specs::HeaderFormat::code_length_format))]
+#[tactic(auto, unfolding(mb_model::specs::records::HeaderFormat::code_length_format))]
 fn code_length_at(cursor: &mut Cursor<'_>, which: u8) -> Result<u32, BadRecord>
     ensures { Reads bad_at (code_length_format which) cursor.old result cursor.new }
 {
@@ -62,7 +62,7 @@ fn code_length_at(cursor: &mut Cursor<'_>, which: u8) -> Result<u32, BadRecord>
     }
 }
 
-#[tactic(auto, unfolding(mb_model::specs::HeaderFormat::slot_format))]
+#[tactic(auto, unfolding(mb_model::specs::records::HeaderFormat::slot_format))]
 fn slot_at(cursor: &mut Cursor<'_>) -> Result<Slot, BadRecord>
     ensures { Reads bad_at slot_format cursor.old result cursor.new }
 {
@@ -72,7 +72,7 @@ fn slot_at(cursor: &mut Cursor<'_>) -> Result<Slot, BadRecord>
 }
 
 /// Reads the bytes of an entry, after their number.
-#[tactic(auto, unfolding(mb_model::specs::HeaderFormat::entry_bytes_format))]
+#[tactic(auto, unfolding(mb_model::specs::records::HeaderFormat::entry_bytes_format))]
 pub(crate) fn text_at<'a>(cursor: &mut Cursor<'a>) -> Result<&'a [u8], BadRecord>
     ensures { ReadsAs (λ text. text.now) bad_at entry_bytes_format cursor.old result cursor.new }
 {
@@ -91,7 +91,7 @@ fn most_unsigned(signed: u16) -> u8
     }
 }
 
-#[tactic(auto, unfolding(mb_model::specs::HeaderFormat::unsigned_format, mb_format::specs::Combinators::items))]
+#[tactic(auto, unfolding(mb_model::specs::records::HeaderFormat::unsigned_format, mb_format::specs::Combinators::items))]
 fn texts_at<'a>(cursor: &mut Cursor<'a>, signed: u16) -> Result<StoredTexts<'a>, BadRecord>
     requires { signed ≤ ENTRY_LIMIT }
     ensures { ReadsAs texts_of bad_at (unsigned_format signed) cursor.old result cursor.new }
@@ -117,7 +117,7 @@ fn texts_at<'a>(cursor: &mut Cursor<'a>, signed: u16) -> Result<StoredTexts<'a>,
     })
 }
 
-#[tactic(auto, unfolding(mb_model::specs::HeaderFormat::header_format))]
+#[tactic(auto, unfolding(mb_model::specs::records::HeaderFormat::header_format))]
 fn stored_header_at<'a>(cursor: &mut Cursor<'a>) -> Result<StoredHeader<'a>, BadRecord>
     ensures { ReadsAs header_of bad_at header_format cursor.old result cursor.new }
 {
@@ -185,7 +185,7 @@ pub fn read_header(alloc: Global, sector: &[u8]) -> Result<Header, HeaderEnd>
 
 // ---- writing
 
-#[tactic(auto, unfolding(mb_model::specs::HeaderFormat::slot_format))]
+#[tactic(auto, unfolding(mb_model::specs::records::HeaderFormat::slot_format))]
 fn put_slot(out: &mut Vec<u8>, slot: Slot) -> Result<(), NoMemory>
     ensures { Puts (slot_format.spelling slot) out.old result out.new }
 {
@@ -194,7 +194,7 @@ fn put_slot(out: &mut Vec<u8>, slot: Slot) -> Result<(), NoMemory>
 }
 
 /// Appends the bytes of an entry, 1 to 400, after their number.
-#[tactic(auto, unfolding(mb_model::specs::HeaderFormat::entry_bytes_format))]
+#[tactic(auto, unfolding(mb_model::specs::records::HeaderFormat::entry_bytes_format))]
 pub(crate) fn put_text(out: &mut Vec<u8>, text: &[u8]) -> Result<(), NoMemory>
     requires { length text.now ≤ ENTRY_TEXT_LIMIT }
     ensures { Puts (entry_bytes_format.spelling text.now) out.old result out.new }
@@ -202,7 +202,7 @@ pub(crate) fn put_text(out: &mut Vec<u8>, text: &[u8]) -> Result<(), NoMemory>
     put_after_u16(out, text)
 }
 
-#[tactic(auto, unfolding(mb_model::specs::HeaderFormat::unsigned_format, mb_format::specs::Combinators::items))]
+#[tactic(auto, unfolding(mb_model::specs::records::HeaderFormat::unsigned_format, mb_format::specs::Combinators::items))]
 fn put_texts(out: &mut Vec<u8>, header: &Header) -> Result<(), NoMemory>
     requires { TextsFit header.now.first header.now.second }
     ensures { Puts ((unsigned_format header.now.signed).spelling
@@ -223,7 +223,7 @@ fn put_texts(out: &mut Vec<u8>, header: &Header) -> Result<(), NoMemory>
     }
 }
 
-#[tactic(auto, unfolding(mb_model::specs::HeaderFormat::header_format))]
+#[tactic(auto, unfolding(mb_model::specs::records::HeaderFormat::header_format))]
 fn put_header(out: &mut Vec<u8>, header: &Header) -> Result<(), NoMemory>
     requires { HeaderFits header.now }
     ensures { Puts (header_format.spelling header.now) out.old result out.new }

@@ -2,7 +2,7 @@
 
 ghost use Rattle.std.specs.Prelude.{◌≤◌, length};
 ghost use Rattle.mb_model.specs.declared.limits.TheConstants.{ENTRY_TEXT_LIMIT, FILE_LIMIT};
-ghost use Rattle.mb_model.specs.HeaderFormat.{log_format};
+ghost use Rattle.mb_model.specs.records.HeaderFormat.{log_format};
 ghost use Rattle.mb_bytes.specs.Reads.{bad_at, ReadsAs};
 ghost use Rattle.mb_bytes.specs.Puts.{Puts, Writes};
 ghost use Rattle.mb_segments.specs.Beginnings.{FindsBeginning};
@@ -21,7 +21,7 @@ pub struct LogSector<'a> {
     pub signature: [u8; SIGNATURE_LENGTH],
 }
 
-#[tactic(auto, unfolding(mb_model::specs::HeaderFormat::log_format))]
+#[tactic(auto, unfolding(mb_model::specs::records::HeaderFormat::log_format))]
 fn log_sector_at<'a>(cursor: &mut Cursor<'a>) -> Result<LogSector<'a>, BadRecord>
     ensures { ReadsAs log_of bad_at log_format cursor.old result cursor.new }
 {
@@ -43,7 +43,7 @@ pub fn log_at(sector: &[u8]) -> Option<LogSector<'_>>
     }
 }
 
-#[tactic(auto, unfolding(mb_model::specs::HeaderFormat::log_format))]
+#[tactic(auto, unfolding(mb_model::specs::records::HeaderFormat::log_format))]
 fn put_parts(
     out: &mut Vec<u8>,
     text: &[u8],

@@ -2,7 +2,7 @@
 
 ghost use Rattle.std.specs.Prelude.{◌≡◌, ◌<◌, ◌≤◌};
 ghost use Rattle.mb_model.specs.declared.limits.TheConstants.{ENTRY_LIMIT};
-ghost use Rattle.mb_model.specs.Sectors.{header_sector, code_sector, log_sector};
+ghost use Rattle.mb_model.specs.memories.Sectors.{header_sector, code_sector, log_sector};
 
 /// The first sector that holds code.
 const CODE: u16 = 2;

@@ -1,8 +1,8 @@
 -- Chains, one step and one chain at a time.
 use Rattle.std.proofs.Common.{◌≡◌, ℕ, ◌+◌, List, [], ◌++◌, refl, add-one, arith}
 use Rattle.mb_model.specs.declared.key.KeySeed.{KeySeed}
-use Rattle.mb_model.specs.Winternitz.{coef, chain_step, value_after_steps, value_after_count}
-use Rattle.mb_model.specs.Signing.{private_value, public_ends, signed_values}
+use Rattle.mb_model.specs.signatures.Winternitz.{coef, chain_step, value_after_steps, value_after_count}
+use Rattle.mb_model.specs.signatures.Signing.{private_value, public_ends, signed_values}
 use Rattle.mb_lms.proofs.Digits.{steps_none}
 
 pub steps_next : (id : List ℕ) (q i n : ℕ) (x : List ℕ) →

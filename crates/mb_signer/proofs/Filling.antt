@@ -4,8 +4,8 @@ use Rattle.std.proofs.lemmas.Nat.{pow_pos}
 use Rattle.std.proofs.lemmas.Bool.{cases_lt}
 use Rattle.std.proofs.Math.Nat.{pow-succ', eq-or-lt_of_le}
 use Rattle.mb_model.specs.declared.key.KeySeed.{KeySeed}
-use Rattle.mb_model.specs.Merkle.{inner_node}
-use Rattle.mb_model.specs.Signing.{node_of}
+use Rattle.mb_model.specs.signatures.Merkle.{inner_node}
+use Rattle.mb_model.specs.signatures.Signing.{node_of}
 use Rattle.mb_signer.specs.Tree.{node_at, HasNodes, IsFilled, IsTreeOf, joined_above}
 use Rattle.mb_model_lemmas.proofs.SignatureLemmas.{node_of-inner}
 

@@ -3,8 +3,8 @@ use Rattle.std.proofs.Common.{◌≡◌, ℕ, ◌+◌, ◌-◌, List, [], ◌++�
 use Rattle.std.specs.Int.{w32, to_be_bytes}
 use Rattle.mb_lms.specs.Sha256.{sha256}
 use Rattle.mb_model.specs.declared.key.KeySeed.{KeySeed}
-use Rattle.mb_model.specs.Merkle.{leaf_node, leaf_mark}
-use Rattle.mb_model.specs.Signing.{node_of, one_time_public}
+use Rattle.mb_model.specs.signatures.Merkle.{leaf_node, leaf_mark}
+use Rattle.mb_model.specs.signatures.Signing.{node_of, one_time_public}
 use Rattle.mb_model_lemmas.proofs.SignatureLemmas.{node_of-leaf}
 
 leaf_of : (key : KeySeed) (q : ℕ) → node_of key (32 + q) ≡ leaf_node key.identifier (32 + q) (one_time_public key q)

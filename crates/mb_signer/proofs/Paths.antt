@@ -1,7 +1,7 @@
 -- The way up a tree from a leaf.
 use Rattle.std.proofs.Common.{◌≡◌, ℕ, zero, suc, ◌+◌, ◌/◌, ◌^◌, ◌<◌, List, [], ◌++◌, refl, add-one, arith}
 use Rattle.mb_model.specs.declared.key.KeySeed.{KeySeed}
-use Rattle.mb_model.specs.Signing.{node_of, sibling, path_from}
+use Rattle.mb_model.specs.signatures.Signing.{node_of, sibling, path_from}
 
 pub path_none : (key : KeySeed) (r : ℕ) → path_from key r 0 ≡ []
 unfolding path_from

@@ -3,8 +3,8 @@ use Rattle.std.proofs.Common.{◌≡◌, ℕ, ◌+◌, List, [], ◌++◌, lengt
 use Rattle.std.specs.Int.{w32, to_be_bytes}
 use Rattle.mb_model.specs.declared.key.KeySeed.{KeySeed}
 use Rattle.mb_model.specs.declared.key.Chains.TheVariants.{W4}
-use Rattle.mb_model.specs.Winternitz.{digits_of, message_hash}
-use Rattle.mb_model.specs.Signing.{randomizer_of, signed_values, signed_digits, path_from, signature_of}
+use Rattle.mb_model.specs.signatures.Winternitz.{digits_of, message_hash}
+use Rattle.mb_model.specs.signatures.Signing.{randomizer_of, signed_values, signed_digits, path_from, signature_of}
 use Rattle.mb_bytes.proofs.InPlace.{joined}
 
 -- the pieces of a signature in a row

@@ -1,7 +1,7 @@
 -- The nodes of a key's tree in a table. Is each node of a kept tree the key's?
 use Rattle.std.specs.Prelude.{◌≡◌, ℕ, zero, suc, ◌+◌, ◌-◌, ◌/◌, ◌^◌, ◌<◌, ◌≤◌, List, [], slice_index_or}
 use Rattle.mb_model.specs.declared.key.KeySeed.{KeySeed}
-use Rattle.mb_model.specs.Signing.{node_of}
+use Rattle.mb_model.specs.signatures.Signing.{node_of}
 
 -- the node with the number r: the table begins with node 1, the root
 abbrev pub node_at : List (List ℕ) → ℕ → List ℕ

@@ -2,7 +2,7 @@
 
 ghost use Rattle.std.specs.Prelude.{◌≡◌, ◌+◌, ◌≤◌, ◌++◌, ◌⊎◌, IfSome, IsSome, MatchOption, None};
 ghost use Rattle.mb_model.specs.declared.key.KeySeed.{KeySeed};
-ghost use Rattle.mb_model.specs.Signing.{public_of, signature_of};
+ghost use Rattle.mb_model.specs.signatures.Signing.{public_of, signature_of};
 ghost use Rattle.mb_signer.specs.Tree.{IsTreeOf};
 ghost use Rattle.mb_signer.specs.Benches.{IsTreeAt, HasTree, HasRoom, KeepsTrees};
 ghost use Rattle.mb_lms.specs.declared.hash_count.TheConstants.{LEAF_HASHES, SIGNING_HASHES, TREE_HASHES};

@@ -2,8 +2,8 @@
 
 ghost use Rattle.std.specs.Prelude.{◌≡◌, ℕ, ◌+◌, ◌<◌, ◌++◌, List};
 ghost use Rattle.std.specs.Int.{w16, w32, to_be_bytes};
-ghost use Rattle.mb_model.specs.Winternitz.{chain_step, value_after_steps as taken, message_hash};
-ghost use Rattle.mb_model.specs.Signing.{private_value, randomizer_of, public_ends, one_time_public};
+ghost use Rattle.mb_model.specs.signatures.Winternitz.{chain_step, value_after_steps as taken, message_hash};
+ghost use Rattle.mb_model.specs.signatures.Signing.{private_value, randomizer_of, public_ends, one_time_public};
 
 use crate::bytes::marked;
 use mb_bytes::put_at;
@@ -25,7 +25,7 @@ const RANDOMIZER: u16 = 0xfffd;
 const SEED: u8 = 0xff;
 
 /// One step of a chain, whose text of 55 bytes is hashed at once (RFC 8554, section 4.3).
-#[tactic(auto, unfolding(mb_model::specs::Winternitz::chain_step))]
+#[tactic(auto, unfolding(mb_model::specs::signatures::Winternitz::chain_step))]
 fn chain_step<L: Ledger>(
     prefix: &[u8; 22],
     step: u8,
@@ -43,7 +43,7 @@ fn chain_step<L: Ledger>(
 }
 
 /// Private value `number` of leaf `q` (RFC 8554, appendix A).
-#[tactic(auto, unfolding(mb_model::specs::Winternitz::chain_step, mb_model::specs::Signing::private_value))]
+#[tactic(auto, unfolding(mb_model::specs::signatures::Winternitz::chain_step, mb_model::specs::signatures::Signing::private_value))]
 fn private_value<L: Ledger>(
     seed: &KeySeed,
     q: u32,
@@ -62,7 +62,7 @@ fn private_value<L: Ledger>(
 }
 
 /// C of the signature at leaf `q`.
-#[tactic(auto, unfolding(mb_model::specs::Signing::randomizer_of))]
+#[tactic(auto, unfolding(mb_model::specs::signatures::Signing::randomizer_of))]
 pub(crate) fn randomizer_at<L: Ledger>(
     seed: &KeySeed,
     q: u32,
@@ -114,7 +114,7 @@ fn public_ends<L: Ledger>(seed: &KeySeed, q: u32, hashes: &mut HashCount<L>) -> 
 }
 
 /// K of leaf `q`, its one-time public key (RFC 8554, section 4.3).
-#[tactic(auto, unfolding(mb_model::specs::Signing::one_time_public))]
+#[tactic(auto, unfolding(mb_model::specs::signatures::Signing::one_time_public))]
 pub(crate) fn one_time_public<L: Ledger>(
     seed: &KeySeed,
     q: u32,
@@ -133,7 +133,7 @@ pub(crate) fn one_time_public<L: Ledger>(
 }
 
 /// Q, the hash of the text that a signature signs (RFC 8554, section 4.5).
-#[tactic(auto, unfolding(mb_model::specs::Winternitz::message_hash))]
+#[tactic(auto, unfolding(mb_model::specs::signatures::Winternitz::message_hash))]
 pub(crate) fn message_hash<L: Ledger>(
     seed: &KeySeed,
     q: u32,

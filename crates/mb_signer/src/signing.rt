@@ -2,7 +2,7 @@
 
 ghost use Rattle.std.specs.Prelude.{◌≡◌, ◌+◌, ◌<◌, ◌≤◌, ◌++◌, take};
 ghost use Rattle.mb_model.specs.declared.key.KeySeed.{KeySeed};
-ghost use Rattle.mb_model.specs.Signing.{signed_values, sibling, path_from, public_of, signature_of};
+ghost use Rattle.mb_model.specs.signatures.Signing.{signed_values, sibling, path_from, public_of, signature_of};
 ghost use Rattle.mb_signer.specs.Tree.{IsTreeOf};
 ghost use Rattle.mb_lms.specs.declared.hash_count.TheConstants.{LEAF_HASHES, SIGNING_HASHES, TREE_HASHES};
 
@@ -38,7 +38,7 @@ pub fn public<L: Ledger>(seed: &KeySeed, hashes: &mut HashCount<L>) -> PublicKey
 }
 
 /// The public key of the seed, from the key's tree, without a hash (RFC 8554, section 5.3).
-#[tactic(auto, unfolding(mb_model::specs::Signing::public_of))]
+#[tactic(auto, unfolding(mb_model::specs::signatures::Signing::public_of))]
 pub fn public_kept(tree: &KeptTree, seed: &KeySeed) -> PublicKey
     requires { IsTreeOf seed.now tree.now }
     ensures { result ≡ public_of seed.now }

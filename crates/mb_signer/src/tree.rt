@@ -2,8 +2,8 @@
 //! 8554, section 5.3).
 
 ghost use Rattle.std.specs.Prelude.{◌≡◌, ℕ, ◌+◌, ◌*◌, ◌/◌, ◌^◌, ◌<◌, ◌≤◌, List};
-ghost use Rattle.mb_model.specs.Merkle.{inner_node};
-ghost use Rattle.mb_model.specs.Signing.{node_of};
+ghost use Rattle.mb_model.specs.signatures.Merkle.{inner_node};
+ghost use Rattle.mb_model.specs.signatures.Signing.{node_of};
 ghost use Rattle.mb_signer.specs.Tree.{node_at, joined_above, IsFilled, IsTreeOf};
 ghost use Rattle.mb_lms.specs.declared.hash_count.TheConstants.{LEAF_HASHES, TREE_HASHES};
 
@@ -80,7 +80,7 @@ fn leaf_node<L: Ledger>(seed: &KeySeed, q: u32, hashes: &mut HashCount<L>) -> [u
 }
 
 /// Node `number`, the parent of two nodes.
-#[tactic(auto, unfolding(mb_model::specs::Merkle::inner_node))]
+#[tactic(auto, unfolding(mb_model::specs::signatures::Merkle::inner_node))]
 fn inner_node<L: Ledger>(
     seed: &KeySeed,
     number: u32,

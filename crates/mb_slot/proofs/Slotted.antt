@@ -2,10 +2,10 @@
 use Rattle.std.proofs.Common.{◌≡◌, ◌≢◌, ℕ, zero, suc, ◌+◌, ◌*◌, ◌%◌, ◌==◌, ◌<◌, ◌≤◌, ◌⊎◌, inl, inr, Bool, true, false, not, if◌then◌else◌, Result, Ok, Err, OnOk, List, [], ◌∷◌, length, get_or, refl, ap, sym, subst, ◌∙◌, arith}
 use Rattle.std.proofs.lemmas.Bool.{cases_order}
 use mathlib.Core.Bool.{not-not}
-use Rattle.mb_model.specs.Pieces.{part}
-use Rattle.mb_model.specs.Board.{Memory, IsLoaded, memory_with_bytes}
+use Rattle.mb_model.specs.outside.Pieces.{part}
+use Rattle.mb_model.specs.outside.Board.{Memory, IsLoaded, memory_with_bytes}
 use Rattle.mb_model.specs.declared.limits.TheConstants.{AREA_LENGTH}
-use Rattle.mb_model.specs.Memory.{slots, life_byte, spare_bytes, selector_of, first_area, second_area, area_of_slot, inactive_area_of_slot}
+use Rattle.mb_model.specs.memories.Memory.{slots, life_byte, spare_bytes, selector_of, first_area, second_area, area_of_slot, inactive_area_of_slot}
 use Rattle.mb_model.proofs.Places.{part-put}
 use Rattle.mb_board.specs.Reach.{Reached, selector as in_selector, in_first_area as in_first, in_second_area as in_second}
 use Rattle.mb_board.specs.Calls.{Torn}

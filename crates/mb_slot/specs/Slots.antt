@@ -3,9 +3,9 @@
 use Rattle.std.specs.Prelude.{◌≡◌, ◌≢◌, ℕ, ◌+◌, ◌<◌, ◌≤◌, ◌%◌, ◌==◌, ◌⊎◌, List, length, slice_index}
 use Rattle.std.specs.Prelude.{Bool, true, not, if◌then◌else◌, Result}
 use Rattle.mb_model.specs.declared.limits.TheConstants.{AREA_LENGTH, BBRAM_LENGTH}
-use Rattle.mb_model.specs.Memory.{slots, selector_of, area_of_slot, inactive_area_of_slot}
+use Rattle.mb_model.specs.memories.Memory.{slots, selector_of, area_of_slot, inactive_area_of_slot}
 use Rattle.mb_board.specs.Reach.{Reached}
-use Rattle.mb_model.specs.Board.{IsLoaded}
+use Rattle.mb_model.specs.outside.Board.{IsLoaded}
 use Rattle.mb_board.specs.Calls.{Seen, Ran}
 
 -- A slot can be used if power is on, the level of the ratchet reaches it, and a memory is loaded.

@@ -1,7 +1,7 @@
 //! The two areas of a slot, and the selector between them.
 
 ghost use Rattle.std.specs.Prelude.{◌≡◌, ◌≢◌, ℕ, ◌≤◌, ◌%◌, ◌==◌, ◌⊎◌, ◌↔◌, length, IsTrue, OnOk, Ok};
-ghost use Rattle.mb_model.specs.Memory.{IsBlank, area_of_slot, inactive_area_of_slot};
+ghost use Rattle.mb_model.specs.memories.Memory.{IsBlank, area_of_slot, inactive_area_of_slot};
 ghost use Rattle.mb_model.specs.declared.limits.TheConstants.{AREA_LENGTH};
 ghost use Rattle.mb_model_memory.specs.InForce.{AgreeBesides};
 ghost use Rattle.mb_slot.specs.Slots.{CanUse, is_first_in_force, area_offset, current_offset, other_offset, IsAreaAt, AreExchanged, RanInOther, RanInSlot};

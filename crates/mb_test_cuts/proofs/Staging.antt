@@ -1,8 +1,8 @@
 -- An image that stands for a state gives the calls what they require.
 use Rattle.std.proofs.Common.{◌≡◌, ℕ, Bool, List, [], length, Some, sym, ap, subst, arith, length-append}
 use Rattle.mb_model.specs.declared.state.State.{State}
-use Rattle.mb_model.specs.Board.{Memory, IsLoaded, image_of}
-use Rattle.mb_model.specs.Meaning.{StandsFor, IsWellFormed}
+use Rattle.mb_model.specs.outside.Board.{Memory, IsLoaded, image_of}
+use Rattle.mb_model.specs.memories.Meaning.{StandsFor, IsWellFormed}
 use Rattle.mb_model_lemmas.proofs.FaultLemmas.{image_parts}
 use Rattle.mb_model_memory.proofs.CommitLemmas.{live_contents}
 use Rattle.mb_boot.specs.Booting.{StandsForValid, KeepsState}

@@ -1,9 +1,9 @@
 -- What is known of a memory before a call that a test makes?
 use Rattle.std.specs.Prelude.{◌≡◌, ℕ, List, Bool, false, Some}
 use Rattle.mb_model.specs.declared.state.State.{State}
-use Rattle.mb_model.specs.Memory.{area_of_slot}
-use Rattle.mb_model.specs.Meaning.{IsWellFormed}
-use Rattle.mb_model.specs.Board.{Memory, IsLoaded, image_of}
+use Rattle.mb_model.specs.memories.Memory.{area_of_slot}
+use Rattle.mb_model.specs.memories.Meaning.{IsWellFormed}
+use Rattle.mb_model.specs.outside.Board.{Memory, IsLoaded, image_of}
 use Rattle.mb_region.specs.Regions.{HoldsSomeRegion}
 use Rattle.mb_boot.specs.Booting.{StandsForValid}
 

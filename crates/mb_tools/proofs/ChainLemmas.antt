@@ -3,7 +3,7 @@ use Rattle.std.proofs.Common.{◌≡◌, ◌≢◌, ℕ, List, [], ◌∷◌, co
 use Rattle.std.proofs.lemmas.List.{take-map, take_min}
 use Rattle.std.specs.Prelude.{IfOk}
 use Rattle.mb_format.specs.Format.{IsBytes, Spells}
-use Rattle.mb_model.specs.Board.{not_used}
+use Rattle.mb_model.specs.outside.Board.{not_used}
 use Rattle.mb_model.specs.declared.key.PublicKey.{PublicKey}
 use Rattle.mb_model.specs.declared.entry.Chain.{Chain}
 use Rattle.mb_model.specs.declared.entry.Entry.{Entry}
@@ -12,17 +12,18 @@ use Rattle.mb_model.specs.declared.entry.Statement.{Statement}
 use Rattle.mb_model.specs.declared.state.Configuration.{Configuration}
 use Rattle.mb_model.specs.declared.state.Report.{Report}
 use Rattle.mb_model.specs.declared.state.State.{State}
-use Rattle.mb_model.specs.Log.{entries_of, RuledLog}
-use Rattle.mb_model.specs.Lives.{lives_of}
-use Rattle.mb_model.specs.Valid.{IsValidState}
-use Rattle.mb_model.specs.ChainFormat.{chain_format}
-use Rattle.mb_model.specs.Attach.{bare_chain, stated_chain}
-use Rattle.mb_model.specs.Texts.{line_with_lf}
-use Rattle.mb_model.specs.Lines.{text_of}
-use Rattle.mb_model.specs.Listing.{listing}
-use Rattle.mb_model.specs.Acceptance.{ChainRefusal, Accepts, IsRefused, chain_acceptance, chain_rejection, IsVerdict}
-use Rattle.mb_model.specs.DeviceChains.{IsChainOf}
-use Rattle.mb_model.specs.DeviceChains.{own_lives, IsAudited}
+use Rattle.mb_model.specs.owners.Log.{entries_of, RuledLog}
+use Rattle.mb_model.specs.owners.Lives.{lives_of}
+use Rattle.mb_model.specs.memories.Valid.{IsValidState}
+use Rattle.mb_model.specs.records.ChainFormat.{chain_format}
+use Rattle.mb_model.specs.chains.Attach.{bare_chain, stated_chain}
+use Rattle.mb_model.specs.outside.Texts.{line_with_lf}
+use Rattle.mb_model.specs.chains.Lines.{text_of}
+use Rattle.mb_model.specs.chains.Listing.{listing}
+use Rattle.mb_model.specs.chains.Acceptance.{ChainRefusal, Accepts, IsRefused, chain_acceptance, chain_rejection}
+use Rattle.mb_model.specs.chains.Acceptance.{IsVerdict}
+use Rattle.mb_model.specs.chains.DeviceChains.{IsChainOf}
+use Rattle.mb_model.specs.chains.DeviceChains.{own_lives, IsAudited}
 use Rattle.mb_model_commands.specs.declared.role.Role.TheVariants as role
 use Rattle.mb_model_commands.specs.Outside.{Outside}
 use Rattle.mb_model_commands.specs.Commands.{print, refuse, at_first}

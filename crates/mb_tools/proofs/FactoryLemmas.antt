@@ -1,11 +1,11 @@
 -- What carries out `factory`.
 use Rattle.std.proofs.Common.{◌≡◌, ℕ, List, [], ◌∷◌, codes, Result, Err, refl, sym, ◌∙◌, ap, subst}
-use Rattle.mb_model.specs.Board.{not_used}
+use Rattle.mb_model.specs.outside.Board.{not_used}
 use Rattle.mb_model.specs.declared.key.PublicKey.{PublicKey}
 use Rattle.mb_model.specs.declared.tools.Keyfile.{Keyfile}
-use Rattle.mb_model.specs.KeyFormat.{keyfile_format}
-use Rattle.mb_model.specs.SignedOrders.{keyfile_after_use}
-use Rattle.mb_model.specs.Factory.{IsFactoryImage}
+use Rattle.mb_model.specs.records.KeyFormat.{keyfile_format}
+use Rattle.mb_model.specs.machine.SignedOrders.{keyfile_after_use}
+use Rattle.mb_model.specs.memories.Factory.{IsFactoryImage}
 use Rattle.mb_model_commands.specs.declared.role.Role.TheVariants as role
 use Rattle.mb_model_commands.specs.Outside.{Outside}
 use Rattle.mb_model_commands.specs.Commands.{Output, print, at_first}

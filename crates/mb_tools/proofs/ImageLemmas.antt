@@ -2,8 +2,8 @@
 use Rattle.std.proofs.Common.{◌≡◌, ℕ, List, Option, None, Some, refl, sym, subst}
 use Rattle.std.specs.Prelude.{IfSome}
 use Rattle.mb_model.specs.declared.state.State.{State}
-use Rattle.mb_model.specs.Meaning.{IsWellFormed}
-use Rattle.mb_model.specs.Faults.{Fault, HasFault as IsAtFault}
+use Rattle.mb_model.specs.memories.Meaning.{IsWellFormed}
+use Rattle.mb_model.specs.memories.Faults.{Fault, HasFault as IsAtFault}
 use Rattle.mb_model_commands.specs.Outside.{Outside, read_once}
 use Rattle.mb_model_commands.specs.Commands.{HasRead}
 use Rattle.mb_model_commands.specs.Inputs.{image_input}

@@ -1,9 +1,9 @@
 -- What carries out `migrate`.
 use Rattle.std.proofs.Common.{◌≡◌, ℕ, List, [], ◌∷◌, Option, None, Some, Result, refl, sym, subst}
 use Rattle.std.specs.Prelude.{IfSome}
-use Rattle.mb_model.specs.Board.{not_used}
-use Rattle.mb_model.specs.Faults.{Fault}
-use Rattle.mb_model.specs.Migration.{CannotMigrate}
+use Rattle.mb_model.specs.outside.Board.{not_used}
+use Rattle.mb_model.specs.memories.Faults.{Fault}
+use Rattle.mb_model.specs.memories.Migration.{CannotMigrate}
 use Rattle.mb_model_commands.specs.declared.role.Role.TheVariants as role
 use Rattle.mb_model_commands.specs.Outside.{Outside, read_once}
 use Rattle.mb_model_commands.specs.Commands.{HasRead, print, at_first}

@@ -1,12 +1,12 @@
 -- What carries out `sign` and `countersign`.
 use Rattle.std.proofs.Common.{◌≡◌, ℕ, List, [], ◌∷◌, codes, Result, Ok, Err, IsErrOf, refl, ◌∙◌, ap, sym, subst}
-use Rattle.mb_model.specs.Board.{not_used}
+use Rattle.mb_model.specs.outside.Board.{not_used}
 use Rattle.mb_model.specs.declared.order.Order.{Order}
 use Rattle.mb_model.specs.declared.tools.Keyfile.{Keyfile}
-use Rattle.mb_model.specs.KeyFormat.{keyfile_format}
-use Rattle.mb_model.specs.Texts.{line_with_lf}
-use Rattle.mb_model.specs.OrderLines.{order_line}
-use Rattle.mb_model.specs.SignedOrders.{keyfile_after_use, signed_order, countersigned_order, IsCountersignable}
+use Rattle.mb_model.specs.records.KeyFormat.{keyfile_format}
+use Rattle.mb_model.specs.outside.Texts.{line_with_lf}
+use Rattle.mb_model.specs.chains.OrderLines.{order_line}
+use Rattle.mb_model.specs.machine.SignedOrders.{keyfile_after_use, signed_order, countersigned_order, IsCountersignable}
 use Rattle.mb_model_commands.specs.declared.role.Role.TheVariants as role
 use Rattle.mb_model_commands.specs.Outside.{Outside}
 use Rattle.mb_model_commands.specs.Commands.{Output, print, at_first}

@@ -1,7 +1,7 @@
 -- How a command ends if its image has a fault, or if there is no memory to look for one. Is each fault reported at its
 -- own place?
 use Rattle.std.specs.Prelude.{◌≡◌, Option, Some, None}
-use Rattle.mb_model.specs.Faults.{Fault}
+use Rattle.mb_model.specs.memories.Faults.{Fault}
 use Rattle.mb_model_commands.specs.declared.role.Role.TheVariants as role
 use Rattle.mb_model_commands.specs.Inputs.{fault_place}
 use Rattle.mb_console.specs.declared.end.End.{End}

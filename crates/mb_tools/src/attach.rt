@@ -1,7 +1,7 @@
 //! The command `attach`.
 
 ghost use Rattle.std.specs.Prelude.{◌≡◌, map};
-ghost use Rattle.mb_model.specs.ChainFormat.{statement_format, chain_format};
+ghost use Rattle.mb_model.specs.records.ChainFormat.{statement_format, chain_format};
 ghost use Rattle.mb_model_commands.specs.ChainCommands.{attach, attach_to, attach_statement};
 ghost use Rattle.mb_tools.specs.Names.{attach_files, attach_given};
 ghost use Rattle.mb_console.specs.Words.{given_argument};

@@ -2,9 +2,9 @@
 
 ghost use Rattle.std.specs.Prelude.{◌+◌, ◌≡◌, ◌≤◌, ◌↔◌, length, IfOk, IsTrue, Some, map};
 ghost use Rattle.mb_model.specs.declared.limits.TheConstants.{FILE_LIMIT};
-ghost use Rattle.mb_model.specs.Valid.{Valid, IsValidState};
-ghost use Rattle.mb_model.specs.Acceptance.{chain_acceptance};
-ghost use Rattle.mb_model.specs.DeviceChains.{own_lives};
+ghost use Rattle.mb_model.specs.memories.Valid.{Valid, IsValidState};
+ghost use Rattle.mb_model.specs.chains.Acceptance.{chain_acceptance};
+ghost use Rattle.mb_model.specs.chains.DeviceChains.{own_lives};
 ghost use Rattle.mb_model_commands.specs.AuditCommand.{audit, audit_device, audit_under, audit_chain, compare};
 ghost use Rattle.mb_model_memory.specs.Storable.{Storable, IsStorableState};
 ghost use Rattle.mb_tools.specs.Names.{audit_files, audit_given};

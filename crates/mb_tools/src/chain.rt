@@ -1,8 +1,8 @@
 //! The command `chain`, and the writing of a chain.
 
 ghost use Rattle.std.specs.Prelude.{◌+◌, ◌≤◌, ◌≡◌, Some, IfOk, string_bytes, map};
-ghost use Rattle.mb_model.specs.Valid.{Valid, IsValidState};
-ghost use Rattle.mb_model.specs.ChainFormat.{chain_format};
+ghost use Rattle.mb_model.specs.memories.Valid.{Valid, IsValidState};
+ghost use Rattle.mb_model.specs.records.ChainFormat.{chain_format};
 ghost use Rattle.mb_model_commands.specs.ChainCommands.{chain, chain_of, write_entries, entries_text};
 ghost use Rattle.mb_model_memory.specs.Storable.{Storable, IsStorableState};
 ghost use Rattle.mb_tools.specs.Names.{chain_files, chain_given};

@@ -2,7 +2,7 @@
 
 ghost use Rattle.std.specs.Prelude.{◌+◌, ◌≤◌, ◌≡◌, IfOk, string_bytes, map};
 ghost use Rattle.mb_model.specs.declared.tools.Keyfile.{Keyfile};
-ghost use Rattle.mb_model.specs.SignedOrders.{keyfile_after_use};
+ghost use Rattle.mb_model.specs.machine.SignedOrders.{keyfile_after_use};
 ghost use Rattle.mb_model_commands.specs.FactoryCommand.{factory, factory_with_noise, factory_with_key, factory_with_owner, write_device, serial_text};
 ghost use Rattle.mb_tools.specs.Names.{factory_files, factory_given};
 ghost use Rattle.mb_console.specs.Words.{given_argument};

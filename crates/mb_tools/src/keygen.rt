@@ -1,8 +1,8 @@
 //! The command `keygen`.
 
 ghost use Rattle.std.specs.Prelude.{◌+◌, ◌≤◌, ◌≡◌, IfOk, string_bytes, map};
-ghost use Rattle.mb_model.specs.Key.{key_bytes};
-ghost use Rattle.mb_model.specs.Signing.{public_of};
+ghost use Rattle.mb_model.specs.signatures.Key.{key_bytes};
+ghost use Rattle.mb_model.specs.signatures.Signing.{public_of};
 ghost use Rattle.mb_model_commands.specs.Keygen.{keygen, owner_text, write_key};
 ghost use Rattle.mb_tools.specs.Names.{keygen_files, keygen_given};
 ghost use Rattle.mb_console.specs.Words.{given_argument};

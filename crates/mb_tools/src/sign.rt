@@ -2,9 +2,9 @@
 
 ghost use Rattle.std.specs.Prelude.{◌+◌, ◌≤◌, ◌≡◌, IfOk, IsTrue, string_bytes, map};
 ghost use Rattle.mb_model.specs.declared.tools.Keyfile.{Keyfile};
-ghost use Rattle.mb_model.specs.Layers.{is_upper};
-ghost use Rattle.mb_model.specs.OrderFormat.{order_format};
-ghost use Rattle.mb_model.specs.SignedOrders.{keyfile_after_use};
+ghost use Rattle.mb_model.specs.owners.Layers.{is_upper};
+ghost use Rattle.mb_model.specs.records.OrderFormat.{order_format};
+ghost use Rattle.mb_model.specs.machine.SignedOrders.{keyfile_after_use};
 ghost use Rattle.mb_model_commands.specs.Sign.{sign, sign_draft, countersign, countersign_order, use_index, index_text};
 ghost use Rattle.mb_tools.specs.Names.{sign_files, sign_given, countersign_files, countersign_given};
 ghost use Rattle.mb_console.specs.Words.{given_argument};

@@ -1,7 +1,7 @@
 //! The command `verify`, and the end of a command whose chain is not accepted.
 
 ghost use Rattle.std.specs.Prelude.{◌≡◌, map};
-ghost use Rattle.mb_model.specs.Acceptance.{chain_acceptance};
+ghost use Rattle.mb_model.specs.chains.Acceptance.{chain_acceptance};
 ghost use Rattle.mb_model_commands.specs.VerifyCommand.{verify, verify_under, tell_verdict};
 ghost use Rattle.mb_verifier.specs.Ends.{chain_refusal_of};
 ghost use Rattle.mb_tools.specs.Names.{verify_files, verify_given};

@@ -1,17 +1,17 @@
 -- What carries out `app`.
 use Rattle.std.proofs.Common.{◌≡◌, ℕ, ◌≤◌, ◌==◌, if◌then◌else◌, length, List, [], codes, Bool, true, false, true≢false, Option, Some, None, Result, Err, refl, sym, ◌∙◌, subst, inr, arith}
 use Rattle.std.specs.Prelude.{IsTrue, IsSome}
-use Rattle.mb_model.specs.Board.{not_used}
+use Rattle.mb_model.specs.outside.Board.{not_used}
 use Rattle.mb_model.specs.declared.key.PublicKey.{PublicKey}
 use Rattle.mb_model.specs.declared.layer.CodeName.{CodeName}
 use Rattle.mb_model.specs.declared.layer.Trusts.{Trusts}
 use Rattle.mb_model.specs.declared.state.Codes.{Codes}
 use Rattle.mb_model.specs.declared.state.State.{State}
-use Rattle.mb_model.specs.Layers.{layer_of, is_upper, Runnable}
-use Rattle.mb_model.specs.LayerFormat.{layer_format}
-use Rattle.mb_model.specs.PublicRecord.{code_format, codes_format}
-use Rattle.mb_model.specs.Valid.{IsValidState, IsNamed}
-use Rattle.mb_model.specs.Texts.{line_with_lf}
+use Rattle.mb_model.specs.owners.Layers.{layer_of, is_upper, Runnable}
+use Rattle.mb_model.specs.records.LayerFormat.{layer_format}
+use Rattle.mb_model.specs.memories.PublicRecord.{code_format, codes_format}
+use Rattle.mb_model.specs.memories.Valid.{IsValidState, IsNamed}
+use Rattle.mb_model.specs.outside.Texts.{line_with_lf}
 use Rattle.mb_model_commands.specs.Outside.{Outside}
 use Rattle.mb_model_commands.specs.Commands.{CommandEnds, print, refuse, at_first}
 use Rattle.mb_model_lemmas.proofs.RegionLemmas.{at_upper}

@@ -6,8 +6,8 @@ use Rattle.mb_format.specs.Format.{IsBytes}
 use Rattle.mb_model.specs.declared.state.State.{State}
 use Rattle.mb_model.specs.declared.region.Secret.{Secret}
 use Rattle.mb_model.specs.declared.layer.Layers.{Layers}
-use Rattle.mb_model.specs.Layers.{Runnable}
-use Rattle.mb_model.specs.Texts.{line_with_lf}
+use Rattle.mb_model.specs.owners.Layers.{Runnable}
+use Rattle.mb_model.specs.outside.Texts.{line_with_lf}
 use Rattle.mb_model_commands.specs.Outside.{Outside, HasRisen, Prints}
 use Rattle.mb_model_commands.specs.Commands.{Past, Ended, SaysLine, Stops, WantsMemory, PrintEnds, text_is_printed, text_is_not_printed, CommandEnds, IsFaultless}
 use Rattle.mb_appvm.specs.declared.running.AppEnd.{AppEnd}

@@ -3,9 +3,9 @@ use Rattle.std.specs.Prelude.{◌≡◌, ℕ, ◌==◌, List, [], ◌∷◌, cod
 use Rattle.std.specs.Fmt.{decimal}
 use Rattle.mb_model.specs.declared.state.Codes.{Codes}
 use Rattle.mb_model.specs.declared.state.State.{State}
-use Rattle.mb_model.specs.Texts.{line_with_lf}
-use Rattle.mb_model.specs.Lines.{spaced_words, hex_word}
-use Rattle.mb_model.specs.Layers.{Runnable}
+use Rattle.mb_model.specs.outside.Texts.{line_with_lf}
+use Rattle.mb_model.specs.chains.Lines.{spaced_words, hex_word}
+use Rattle.mb_model.specs.owners.Layers.{Runnable}
 use Rattle.mb_model_commands.specs.Commands.{Command, read, find, either_command, print, refuse}
 use Rattle.mb_model_commands.specs.Inputs.{image_input}
 use Rattle.mb_appvm.specs.declared.running.AppEnd.{AppEnd}

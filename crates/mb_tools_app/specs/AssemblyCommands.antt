@@ -1,8 +1,8 @@
 -- What the commands `asm` and `disasm` do. Is the code that of the text, and the text that of the code?
 use Rattle.std.specs.Prelude.{ℕ, List, [], ◌∷◌, length, map, codes}
 use Rattle.std.specs.Fmt.{decimal}
-use Rattle.mb_model.specs.Texts.{line_with_lf}
-use Rattle.mb_model.specs.Lines.{spaced_words, text_of}
+use Rattle.mb_model.specs.outside.Texts.{line_with_lf}
+use Rattle.mb_model.specs.chains.Lines.{spaced_words, text_of}
 use Rattle.mb_model_commands.specs.declared.role.Role.TheVariants as role
 use Rattle.mb_model_commands.specs.Commands.{Command, read, write, print}
 use Rattle.mb_appvm.specs.declared.instruction.Instruction.{Instruction}

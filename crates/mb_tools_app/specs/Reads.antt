@@ -1,6 +1,6 @@
 -- A code that was read to be listed, and its text. Is the text that of the code's instructions?
 use Rattle.std.specs.Prelude.{◌≡◌, ℕ, List, map}
-use Rattle.mb_model.specs.Lines.{text_of}
+use Rattle.mb_model.specs.chains.Lines.{text_of}
 use Rattle.mb_model_commands.specs.Outside.{Outside}
 use Rattle.mb_console.specs.Ending.{HasInput}
 use Rattle.mb_appvm.specs.declared.instruction.Instruction.{Instruction}

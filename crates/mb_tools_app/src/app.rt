@@ -2,9 +2,9 @@
 
 ghost use Rattle.std.specs.Prelude.{◌+◌, ◌≡◌, ◌≤◌, length, map, IfOk, IsTrue, IsSome, Some, string_bytes};
 ghost use Rattle.mb_model.specs.declared.limits.TheConstants.{FILE_LIMIT};
-ghost use Rattle.mb_model.specs.Texts.{line_with_lf};
-ghost use Rattle.mb_model.specs.Layers.{is_upper, Runnable};
-ghost use Rattle.mb_model.specs.Valid.{Valid, IsValidState};
+ghost use Rattle.mb_model.specs.outside.Texts.{line_with_lf};
+ghost use Rattle.mb_model.specs.owners.Layers.{is_upper, Runnable};
+ghost use Rattle.mb_model.specs.memories.Valid.{Valid, IsValidState};
 ghost use Rattle.mb_model_commands.specs.Outside.{Outside};
 ghost use Rattle.mb_model_commands.specs.Commands.{print, refuse};
 ghost use Rattle.mb_model_memory.specs.Storable.{Storable, IsStorableState};

@@ -1,7 +1,7 @@
 //! The output of `asm` and of `disasm`, and the line that reports how much was written.
 
 ghost use Rattle.std.specs.Prelude.{◌≡◌, IfOk, string_bytes};
-ghost use Rattle.mb_model.specs.Texts.{line_with_lf};
+ghost use Rattle.mb_model.specs.outside.Texts.{line_with_lf};
 ghost use Rattle.mb_console.specs.Ending.{CarriesOut};
 ghost use Rattle.mb_tools_app.specs.AssemblyCommands.{line_of_count, write_counted};
 

@@ -2,9 +2,9 @@
 use Rattle.std.proofs.Common.{◌≡◌, ℕ, List, Option, false, Result, Err, refl, sym, subst, ◌∙◌}
 use Rattle.std.specs.Prelude.{codes}
 use Rattle.mb_model.specs.declared.state.State.{State}
-use Rattle.mb_model.specs.Board.{Held, Used}
-use Rattle.mb_model.specs.Meaning.{StandsFor, IsWellFormed}
-use Rattle.mb_model.specs.Texts.{line_with_lf}
+use Rattle.mb_model.specs.outside.Board.{Held, Used}
+use Rattle.mb_model.specs.memories.Meaning.{StandsFor, IsWellFormed}
+use Rattle.mb_model.specs.outside.Texts.{line_with_lf}
 use Rattle.mb_model_commands.specs.Outside.{Outside}
 use Rattle.mb_model_commands.specs.Commands.{Past, either_command, print, lack}
 use Rattle.mb_model_lemmas.proofs.FaultLemmas.{image_parts}

@@ -7,9 +7,9 @@ use Rattle.mb_model.specs.declared.event.Event.{Event}
 use Rattle.mb_model.specs.declared.event.Event.TheVariants as event
 use Rattle.mb_model.specs.declared.event.Answered.{Answered}
 use Rattle.mb_model.specs.declared.state.State.{State}
-use Rattle.mb_model.specs.Board.{Held, IsLoaded, image_of}
-use Rattle.mb_model.specs.Machine.{opening_world}
-use Rattle.mb_model.specs.Script.{with_before, drawn_event, drawn_events, Drawn}
+use Rattle.mb_model.specs.outside.Board.{Held, IsLoaded, image_of}
+use Rattle.mb_model.specs.machine.Machine.{opening_world}
+use Rattle.mb_model.specs.chains.Script.{with_before, drawn_event, drawn_events, Drawn}
 use Rattle.mb_model_commands.specs.Inputs.{Image}
 use Rattle.mb_model_commands.specs.RunCommand.{IsServed}
 use Rattle.mb_model_lemmas.proofs.DrawLemmas.{drawn-length}

@@ -3,8 +3,8 @@ use Rattle.std.proofs.Common.{◌≡◌, ℕ, List, length, length-append, Optio
 use Rattle.mb_model.specs.declared.event.Event.{Event}
 use Rattle.mb_model.specs.declared.event.Answered.{Answered}
 use Rattle.mb_model.specs.declared.state.State.{State}
-use Rattle.mb_model.specs.Board.{Held, Used, not_used, loaded_once_more, having_answered}
-use Rattle.mb_model.specs.Meaning.{IsWellFormed}
+use Rattle.mb_model.specs.outside.Board.{Held, Used, not_used, loaded_once_more, having_answered}
+use Rattle.mb_model.specs.memories.Meaning.{IsWellFormed}
 use Rattle.mb_model_commands.specs.Outside.{Outside}
 use Rattle.mb_model_commands.specs.RunCommand.{IsServed}
 use Rattle.mb_model_commands.specs.Inputs.{Image}

@@ -5,14 +5,14 @@ use Rattle.std.specs.Prelude.{Any}
 use Rattle.mb_model.specs.declared.event.Event.{Event}
 use Rattle.mb_model.specs.declared.reply.Reply.TheVariants as reply
 use Rattle.mb_model.specs.declared.state.State.{State}
-use Rattle.mb_model.specs.Born.{officer_key}
-use Rattle.mb_model.specs.Signing.{public_of}
-use Rattle.mb_model.specs.Factory.{state_at_birth}
-use Rattle.mb_model.specs.Meaning.{IsWellFormed}
-use Rattle.mb_model.specs.Lines.{ReadsLines, TextFailsAtLine, text_of}
-use Rattle.mb_model.specs.Script.{IsScript, IsShortNoise, commands_in}
-use Rattle.mb_model.specs.Listing.{summary}
-use Rattle.mb_model.specs.Board.{Held, Used, image_of, not_used, loaded_once_more, having_answered}
+use Rattle.mb_model.specs.owners.Born.{officer_key}
+use Rattle.mb_model.specs.signatures.Signing.{public_of}
+use Rattle.mb_model.specs.memories.Factory.{state_at_birth}
+use Rattle.mb_model.specs.memories.Meaning.{IsWellFormed}
+use Rattle.mb_model.specs.chains.Lines.{ReadsLines, TextFailsAtLine, text_of}
+use Rattle.mb_model.specs.chains.Script.{IsScript, IsShortNoise, commands_in}
+use Rattle.mb_model.specs.chains.Listing.{summary}
+use Rattle.mb_model.specs.outside.Board.{Held, Used, image_of, not_used, loaded_once_more, having_answered}
 use Rattle.mb_model_commands.specs.declared.workload.Workload.{Workload}
 use Rattle.mb_model_commands.specs.Workload.{key_of_officer, IsWorkload}
 use Rattle.mb_model_commands.specs.Outside.{Outside}

@@ -7,8 +7,8 @@ use Rattle.std.proofs.lemmas.List.{append-nil, take-append-drop, take_more, take
 use Rattle.std.proofs.lemmas.List.Elements.{filter-append, All-nil, All-head, All-tail, All-push}
 use Rattle.mb_model.specs.declared.event.Event.{Event}
 use Rattle.mb_model.specs.declared.event.Event.TheVariants as event
-use Rattle.mb_model.specs.Lines.{IsBeginning, FailsAtLine, ends_early, ReadsLines, TextFailsAtLine}
-use Rattle.mb_model.specs.Script.{SaysEvent, is_skipped, IsScript}
+use Rattle.mb_model.specs.chains.Lines.{IsBeginning, FailsAtLine, ends_early, ReadsLines, TextFailsAtLine}
+use Rattle.mb_model.specs.chains.Script.{SaysEvent, is_skipped, IsScript}
 use Rattle.mb_model_commands.specs.Inputs.{IsClearInput}
 use Rattle.mb_model_lemmas.proofs.LineLemmas.{HasLines-same, FailsAtLine-none, bad_after}
 use Rattle.mb_model_lemmas.proofs.EventLemmas.{SaysEvent-same, IsScript-same, counts}

@@ -6,13 +6,13 @@ use Rattle.std.proofs.lemmas.List.Elements.{All-nil, All-cons, All-head, All-tai
 use Rattle.mb_model.specs.declared.event.Event.{Event}
 use Rattle.mb_model.specs.declared.event.Answered.{Answered}
 use Rattle.mb_model.specs.declared.state.State.{State}
-use Rattle.mb_model.specs.Machine.{World, opening_world, off}
-use Rattle.mb_model.specs.Meaning.{StandsFor, IsWellFormed}
-use Rattle.mb_model.specs.Script.{IsScriptEvent}
-use Rattle.mb_model.specs.Board.{Memory, Ledger, Meter, Held, Used, IsLoaded, image_of, phase_at, held_at_load, ledger_at_load, counted_load, use_of, not_used, loaded_once_more, having_answered}
-use Rattle.mb_model.specs.Acknowledged.{Shows}
-use Rattle.mb_model.specs.Clean.{Clean}
-use Rattle.mb_model.specs.Replies.{replies_text}
+use Rattle.mb_model.specs.machine.Machine.{World, opening_world, off}
+use Rattle.mb_model.specs.memories.Meaning.{StandsFor, IsWellFormed}
+use Rattle.mb_model.specs.chains.Script.{IsScriptEvent}
+use Rattle.mb_model.specs.outside.Board.{Memory, Ledger, Meter, Held, Used, IsLoaded, image_of, phase_at, held_at_load, ledger_at_load, counted_load, use_of, not_used, loaded_once_more, having_answered}
+use Rattle.mb_model.specs.memories.Acknowledged.{Shows}
+use Rattle.mb_model.specs.memories.Clean.{Clean}
+use Rattle.mb_model.specs.chains.Replies.{replies_text}
 use Rattle.mb_model_commands.specs.declared.role.Role.TheVariants as role
 use Rattle.mb_model_commands.specs.Outside.{Outside}
 use Rattle.mb_model_commands.specs.RunCommand.{RunNames, IsServed, write_image, serve_events}

@@ -1,7 +1,7 @@
 -- What a board holds whose power was turned off between two runs.
 use Rattle.std.proofs.Common.{◌≡◌, ◌≤◌, Bool, false, [], inl, inr, sym, ◌∙◌, ap, subst}
-use Rattle.mb_model.specs.Machine.{off}
-use Rattle.mb_model.specs.Board.{Memory, Ledger, Meter, Held, phase_at}
+use Rattle.mb_model.specs.machine.Machine.{off}
+use Rattle.mb_model.specs.outside.Board.{Memory, Ledger, Meter, Held, phase_at}
 use Rattle.mb_board.specs.Calls.{Seen, IsSwitched, IsBetweenEvents, held_in}
 use Rattle.mb_tools_device.specs.Holding.{HoldsShut, EndsHolding}
 

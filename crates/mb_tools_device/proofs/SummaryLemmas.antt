@@ -2,9 +2,9 @@
 use Rattle.std.proofs.Common.{◌≡◌, ℕ, List, [], ◌∷◌, ◌++◌, length, codes, refl, sym, ap, ◌∙◌, arith, append-nil, append_assoc}
 use Rattle.std.specs.Fmt.{decimal}
 use Rattle.mb_model.specs.declared.event.Answered.{Answered}
-use Rattle.mb_model.specs.Texts.{line_with_lf}
-use Rattle.mb_model.specs.Lines.{text_of, hex_word, spaced_words}
-use Rattle.mb_model.specs.Listing.{summary, replies_that, is_done, is_signed, is_refused}
+use Rattle.mb_model.specs.outside.Texts.{line_with_lf}
+use Rattle.mb_model.specs.chains.Lines.{text_of, hex_word, spaced_words}
+use Rattle.mb_model.specs.chains.Listing.{summary, replies_that, is_done, is_signed, is_refused}
 use Rattle.mb_tools_device.specs.Summaries.{hash_line}
 
 -- six lines are one text

@@ -9,7 +9,7 @@ use Rattle.mb_model.specs.declared.event.Event.TheVariants as event
 use Rattle.mb_model.specs.declared.event.Tear.{Tear}
 use Rattle.mb_model.specs.declared.event.Answered.{Answered}
 use Rattle.mb_model.specs.declared.reply.Reply.TheVariants as reply
-use Rattle.mb_model.specs.Script.{IsScriptEvent, tear_of}
+use Rattle.mb_model.specs.chains.Script.{IsScriptEvent, tear_of}
 use Rattle.mb_script.specs.Reading.{IsFill}
 use Rattle.mb_tools_device.specs.CutCommand.{AreUncut, CutRun, IsCutRun, LastIsStopped}
 use Rattle.mb_tools_device.specs.TwoRuns.{AreRuns, CanBeCut}

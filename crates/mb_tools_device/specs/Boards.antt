@@ -1,6 +1,6 @@
 -- The board of a command that serves a device. How does such a command find it, and what has it done by it in the end?
 use Rattle.std.specs.Prelude.{◌≡◌, false, Result, None}
-use Rattle.mb_model.specs.Board.{not_used, use_of}
+use Rattle.mb_model.specs.outside.Board.{not_used, use_of}
 use Rattle.mb_model_commands.specs.Outside.{Outside}
 use Rattle.mb_model_commands.specs.Commands.{Command, at_first}
 use Rattle.mb_board.specs.Calls.{Seen}

@@ -8,12 +8,12 @@ use Rattle.mb_model.specs.declared.event.Answered.{Answered}
 use Rattle.mb_model.specs.declared.limits.TheConstants.{EVENT_LIMIT}
 use Rattle.mb_model.specs.declared.reply.Reply.TheVariants as reply
 use Rattle.mb_model.specs.declared.state.State.{State}
-use Rattle.mb_model.specs.Texts.{IsHex, line_with_lf}
-use Rattle.mb_model.specs.Lines.{ReadsLines, TextFailsAtLine}
-use Rattle.mb_model.specs.Script.{IsScript, tear_of}
-use Rattle.mb_model.specs.Machine.{World}
-use Rattle.mb_model.specs.Board.{Held}
-use Rattle.mb_model.specs.Acknowledged.{Shows}
+use Rattle.mb_model.specs.outside.Texts.{IsHex, line_with_lf}
+use Rattle.mb_model.specs.chains.Lines.{ReadsLines, TextFailsAtLine}
+use Rattle.mb_model.specs.chains.Script.{IsScript, tear_of}
+use Rattle.mb_model.specs.machine.Machine.{World}
+use Rattle.mb_model.specs.outside.Board.{Held}
+use Rattle.mb_model.specs.memories.Acknowledged.{Shows}
 use Rattle.mb_model_commands.specs.declared.role.Role.TheVariants as role
 use Rattle.mb_model_commands.specs.declared.role.Place.TheVariants as fault
 use Rattle.mb_model_commands.specs.Inputs.{Image, image_input, draws_input}

@@ -6,7 +6,7 @@ use Rattle.mb_model.specs.declared.event.Tear.{Tear}
 use Rattle.mb_model.specs.declared.event.Answered.{Answered}
 use Rattle.mb_model.specs.declared.reply.Reply.TheVariants as reply
 use Rattle.mb_model.specs.declared.state.State.{State}
-use Rattle.mb_model.specs.Board.{Held}
+use Rattle.mb_model.specs.outside.Board.{Held}
 use Rattle.mb_model_commands.specs.Inputs.{Image}
 use Rattle.mb_tools_device.specs.MachineRuns.{MachineComesTo}
 use Rattle.mb_tools_device.specs.CutCommand.{CutRun, IsCutRun, IsUncutScript, LastIsStopped, IsCutServed}

@@ -1,8 +1,8 @@
 -- A generated workload as it is served. Are the events those of its script, and the outputs its three files?
 use Rattle.std.specs.Prelude.{List, [], ◌∷◌}
 use Rattle.mb_model.specs.declared.event.Event.{Event}
-use Rattle.mb_model.specs.Lines.{ReadsLines}
-use Rattle.mb_model.specs.Script.{IsScript, Drawn}
+use Rattle.mb_model.specs.chains.Lines.{ReadsLines}
+use Rattle.mb_model.specs.chains.Script.{IsScript, Drawn}
 use Rattle.mb_model_commands.specs.declared.role.Role.TheVariants as role
 use Rattle.mb_model_commands.specs.declared.workload.Workload.{Workload}
 use Rattle.mb_model_commands.specs.Commands.{Output}

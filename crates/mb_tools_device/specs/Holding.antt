@@ -1,6 +1,6 @@
 -- What a board holds when a command has ended. Was something written since its last answer?
 use Rattle.std.specs.Prelude.{◌≡◌, ◌≤◌, ◌⊎◌, [], None, Result, Ok, Err}
-use Rattle.mb_model.specs.Machine.{off}
+use Rattle.mb_model.specs.machine.Machine.{off}
 use Rattle.mb_board.specs.Calls.{Seen, IsBetweenEvents, held_in}
 use Rattle.mb_console.specs.declared.end.End.{End}
 use Rattle.mb_console.specs.declared.end.End.TheVariants as end

@@ -6,7 +6,7 @@ use Rattle.mb_model.specs.declared.event.Answered.{Answered}
 use Rattle.mb_model.specs.declared.reply.Reply.{Reply}
 use Rattle.mb_model.specs.declared.reply.Reply.TheVariants as reply
 use Rattle.mb_model.specs.declared.state.State.{State}
-use Rattle.mb_model.specs.Machine.{World, Machine, Run, opening_world}
+use Rattle.mb_model.specs.machine.Machine.{World, Machine, Run, opening_world}
 
 -- the events lead from one world to another, each with the machine's own answer
 abbrev pub MachineRun : World → List Event → World → Type 0

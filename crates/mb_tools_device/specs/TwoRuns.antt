@@ -3,8 +3,8 @@ use Rattle.std.specs.Prelude.{◌≡◌, ℕ, ◌≤◌, false, List, length, Al
 use Rattle.mb_model.specs.declared.event.Event.{Event}
 use Rattle.mb_model.specs.declared.limits.TheConstants.{EVENT_LIMIT}
 use Rattle.mb_model.specs.declared.state.State.{State}
-use Rattle.mb_model.specs.Board.{Held, AreBytes, IsLoaded, image_of}
-use Rattle.mb_model.specs.Script.{IsScriptEvent}
+use Rattle.mb_model.specs.outside.Board.{Held, AreBytes, IsLoaded, image_of}
+use Rattle.mb_model.specs.chains.Script.{IsScriptEvent}
 use Rattle.mb_tools_device.specs.MachineRuns.{is_cut}
 use Rattle.mb_tools_device.specs.CutCommand.{CutRun, ShowsState, cut_events}
 

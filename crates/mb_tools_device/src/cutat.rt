@@ -3,9 +3,9 @@
 ghost use Rattle.std.specs.Prelude.{◌+◌, ◌*◌, ◌≡◌, ◌≤◌, ℕ, List, length, All, None, Option, false, map};
 ghost use Rattle.mb_model.specs.declared.limits.TheConstants.{CUT_LIMIT, EVENT_LIMIT, IMAGE_LENGTH};
 ghost use Rattle.mb_model.specs.declared.state.State.{State as Stands};
-ghost use Rattle.mb_model.specs.Board.{Held, Used, IsLoaded, image_of, use_of};
-ghost use Rattle.mb_model.specs.Meaning.{IsWellFormed};
-ghost use Rattle.mb_model.specs.Script.{IsScriptEvent};
+ghost use Rattle.mb_model.specs.outside.Board.{Held, Used, IsLoaded, image_of, use_of};
+ghost use Rattle.mb_model.specs.memories.Meaning.{IsWellFormed};
+ghost use Rattle.mb_model.specs.chains.Script.{IsScriptEvent};
 ghost use Rattle.mb_model_commands.specs.Commands.{load, serve};
 ghost use Rattle.mb_script.specs.Reading.{IsFill};
 ghost use Rattle.mb_console.specs.Words.{given_argument};

@@ -2,10 +2,10 @@
 
 ghost use Rattle.std.specs.Prelude.{◌+◌, ◌*◌, ◌≡◌, ◌≤◌, length, All, IfOk, IfErr, OnOk, map};
 ghost use Rattle.mb_model.specs.declared.limits.TheConstants.{EVENT_LIMIT, IMAGE_LENGTH};
-ghost use Rattle.mb_model.specs.Board.{IsLoaded, use_of};
-ghost use Rattle.mb_model.specs.Machine.{World};
-ghost use Rattle.mb_model.specs.Acknowledged.{Shows};
-ghost use Rattle.mb_model.specs.Script.{IsScriptEvent};
+ghost use Rattle.mb_model.specs.outside.Board.{IsLoaded, use_of};
+ghost use Rattle.mb_model.specs.machine.Machine.{World};
+ghost use Rattle.mb_model.specs.memories.Acknowledged.{Shows};
+ghost use Rattle.mb_model.specs.chains.Script.{IsScriptEvent};
 ghost use Rattle.mb_model_commands.specs.Commands.{Past};
 ghost use Rattle.mb_model_commands.specs.GenerateCommand.{generate, summarise};
 ghost use Rattle.mb_model_commands.specs.Workload.{IsWorkload};

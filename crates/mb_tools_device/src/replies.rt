@@ -1,7 +1,7 @@
 //! The text of the replies.
 
 ghost use Rattle.std.specs.Prelude.{◌≡◌, IfOk};
-ghost use Rattle.mb_model.specs.Replies.{replies_text};
+ghost use Rattle.mb_model.specs.chains.Replies.{replies_text};
 
 use mb_model::{Answered, NoMemory};
 use mb_script::write_reply;

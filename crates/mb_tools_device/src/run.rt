@@ -3,9 +3,9 @@
 ghost use Rattle.std.specs.Prelude.{◌+◌, ◌*◌, ◌≡◌, ◌≤◌, length, All, Option, false, map};
 ghost use Rattle.mb_model.specs.declared.limits.TheConstants.{EVENT_LIMIT, IMAGE_LENGTH};
 ghost use Rattle.mb_model.specs.declared.state.State.{State};
-ghost use Rattle.mb_model.specs.Board.{IsLoaded, use_of};
-ghost use Rattle.mb_model.specs.Meaning.{IsWellFormed};
-ghost use Rattle.mb_model.specs.Script.{IsScriptEvent};
+ghost use Rattle.mb_model.specs.outside.Board.{IsLoaded, use_of};
+ghost use Rattle.mb_model.specs.memories.Meaning.{IsWellFormed};
+ghost use Rattle.mb_model.specs.chains.Script.{IsScriptEvent};
 ghost use Rattle.mb_model_commands.specs.RunCommand.{run, read_script, read_noise, serve_events, write_image};
 ghost use Rattle.mb_tools_device.specs.Names.{run_files, run_given};
 ghost use Rattle.mb_console.specs.Words.{given_argument};

@@ -2,7 +2,7 @@
 
 ghost use Rattle.std.specs.Prelude.{◌≡◌, ◌≤◌, length, All, IfOk, IfErr, MatchOption};
 ghost use Rattle.mb_model.specs.declared.limits.TheConstants.{EVENT_LIMIT};
-ghost use Rattle.mb_model.specs.Script.{IsScriptEvent};
+ghost use Rattle.mb_model.specs.chains.Script.{IsScriptEvent};
 ghost use Rattle.mb_model_commands.specs.Inputs.{draws_input};
 ghost use Rattle.mb_console.specs.Ending.{HasInput, StopsAt};
 ghost use Rattle.mb_tools_device.specs.CutCommand.{AreUncut};
@@ -24,7 +24,7 @@ impl Form for ScriptForm {
     ghost use Rattle.std.specs.Prelude.{◌≤◌, List, [], All, length};
     ghost use Rattle.mb_model.specs.declared.event.Event.{Event};
     ghost use Rattle.mb_model.specs.declared.limits.TheConstants.{EVENT_LIMIT};
-    ghost use Rattle.mb_model.specs.Script.{IsScriptEvent};
+    ghost use Rattle.mb_model.specs.chains.Script.{IsScriptEvent};
     ghost use Rattle.mb_model_commands.specs.Inputs.{script_input};
 
     type Value = Events;
@@ -55,7 +55,7 @@ pub struct UncutScriptForm;
 impl Form for UncutScriptForm {
     ghost use Rattle.std.specs.Prelude.{List, [], All};
     ghost use Rattle.mb_model.specs.declared.event.Event.{Event};
-    ghost use Rattle.mb_model.specs.Script.{IsScriptEvent};
+    ghost use Rattle.mb_model.specs.chains.Script.{IsScriptEvent};
     ghost use Rattle.mb_tools_device.specs.CutCommand.{AreUncut, uncut_script_input};
 
     type Value = Events;

@@ -3,9 +3,9 @@
 ghost use Rattle.std.specs.Prelude.{◌≡◌, ◌↔◌, ◌+◌, ◌≤◌, ◌++◌, length, decimal, Any, IsTrue};
 ghost use Rattle.arrayvec.specs.ArrayVec.{array_vec_len};
 ghost use Rattle.mb_model.specs.declared.reply.Reply.TheVariants as reply;
-ghost use Rattle.mb_model.specs.Texts.{line_with_lf};
-ghost use Rattle.mb_model.specs.Lines.{text_of};
-ghost use Rattle.mb_model.specs.Listing.{summary, replies_that, is_done, is_signed, is_refused};
+ghost use Rattle.mb_model.specs.outside.Texts.{line_with_lf};
+ghost use Rattle.mb_model.specs.chains.Lines.{text_of};
+ghost use Rattle.mb_model.specs.chains.Listing.{summary, replies_that, is_done, is_signed, is_refused};
 ghost use Rattle.mb_tools_device.specs.Summaries.{hash_line};
 
 use arrayvec::ArrayVec;

@@ -2,7 +2,7 @@
 
 ghost use Rattle.std.specs.Prelude.{◌≡◌, ◌↔◌, ◌≤◌, ℕ, List, length, All, IfOk, IsTrue};
 ghost use Rattle.mb_model.specs.declared.limits.TheConstants.{CUT_LIMIT, EVENT_LIMIT};
-ghost use Rattle.mb_model.specs.Script.{IsScriptEvent};
+ghost use Rattle.mb_model.specs.chains.Script.{IsScriptEvent};
 ghost use Rattle.mb_script.specs.Reading.{IsFill};
 ghost use Rattle.mb_tools_device.specs.CutCommand.{AreUncut, CutRun, IsCutRun, LastIsStopped};
 ghost use Rattle.mb_tools_device.specs.TwoRuns.{AreRuns};

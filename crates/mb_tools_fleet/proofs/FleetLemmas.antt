@@ -1,6 +1,6 @@
 -- What carries out `fleet`, and that it is never refused.
 use Rattle.std.proofs.Common.{◌≡◌, ◌≢◌, ℕ, List, [], ◌∷◌, true, Option, Result, Err, refl, sym, ◌∙◌, subst, inl, inr}
-use Rattle.mb_model.specs.Board.{not_used}
+use Rattle.mb_model.specs.outside.Board.{not_used}
 use Rattle.mb_model.specs.declared.key.PublicKey.{PublicKey}
 use Rattle.mb_model_commands.specs.declared.role.Role.TheVariants as role
 use Rattle.mb_model_commands.specs.Outside.{Outside, read_once}

@@ -1,8 +1,8 @@
 -- What carries out `endorsed`.
 use Rattle.std.proofs.Common.{ℕ, List, [], codes, Result, Err, refl}
-use Rattle.mb_model.specs.Board.{not_used}
+use Rattle.mb_model.specs.outside.Board.{not_used}
 use Rattle.mb_model.specs.declared.key.PublicKey.{PublicKey}
-use Rattle.mb_model.specs.Texts.{line_with_lf}
+use Rattle.mb_model.specs.outside.Texts.{line_with_lf}
 use Rattle.mb_model_commands.specs.Outside.{Outside}
 use Rattle.mb_model_commands.specs.Commands.{print, at_first}
 use Rattle.mb_hss.specs.declared.key.HssKey.{HssKey}

@@ -2,7 +2,7 @@
 -- endorsed?
 use Rattle.std.specs.Prelude.{◌≡◌, ℕ, ◌+◌, ◌^◌, List, ◌∷◌, codes}
 use Rattle.mb_model.specs.declared.key.PublicKey.{PublicKey}
-use Rattle.mb_model.specs.Key.{key_bytes}
+use Rattle.mb_model.specs.signatures.Key.{key_bytes}
 use Rattle.mb_model_commands.specs.declared.role.Role.TheVariants as role
 use Rattle.mb_model_commands.specs.Sign.{index_text}
 use Rattle.mb_model_commands.specs.Commands.{Command, read, either_command, write, print, refuse}

@@ -1,7 +1,7 @@
 -- What the command `endorsed` does. Is a root key accepted exactly if the maker's HSS key has signed it?
 use Rattle.std.specs.Prelude.{ℕ, List, codes}
 use Rattle.mb_model.specs.declared.key.PublicKey.{PublicKey}
-use Rattle.mb_model.specs.Texts.{line_with_lf}
+use Rattle.mb_model.specs.outside.Texts.{line_with_lf}
 use Rattle.mb_model_commands.specs.Commands.{Command, read, either_command, print, refuse}
 use Rattle.mb_model_commands.specs.Inputs.{root_input}
 use Rattle.mb_hss.specs.declared.key.HssKey.{HssKey}

@@ -1,10 +1,11 @@
 -- What carries out `trust`.
 use Rattle.std.proofs.Common.{◌≡◌, ℕ, List, [], codes, Option, None, Some, Result, Err, refl, sym, subst, inl, inr}
-use Rattle.mb_model.specs.Board.{not_used}
+use Rattle.mb_model.specs.outside.Board.{not_used}
 use Rattle.mb_model.specs.declared.key.PublicKey.{PublicKey}
 use Rattle.mb_model.specs.declared.state.Report.{Report}
-use Rattle.mb_model.specs.Texts.{line_with_lf}
-use Rattle.mb_model.specs.Acceptance.{ChainRefusal, Accepts, IsRefused, chain_acceptance, chain_rejection, IsVerdict}
+use Rattle.mb_model.specs.outside.Texts.{line_with_lf}
+use Rattle.mb_model.specs.chains.Acceptance.{ChainRefusal, Accepts, IsRefused, chain_acceptance, chain_rejection}
+use Rattle.mb_model.specs.chains.Acceptance.{IsVerdict}
 use Rattle.mb_model_commands.specs.Outside.{Outside}
 use Rattle.mb_model_commands.specs.Commands.{print, at_first}
 use Rattle.mb_model_commands.specs.VerifyCommand.{chain_refusal_line}

@@ -3,8 +3,8 @@
 use Rattle.std.specs.Prelude.{ℕ, List, ◌++◌, codes}
 use Rattle.std.specs.Fmt.{decimal}
 use Rattle.mb_model.specs.declared.key.PublicKey.{PublicKey}
-use Rattle.mb_model.specs.Texts.{line_with_lf}
-use Rattle.mb_model.specs.Acceptance.{Verdict, chain_acceptance, chain_rejection, IsVerdict}
+use Rattle.mb_model.specs.outside.Texts.{line_with_lf}
+use Rattle.mb_model.specs.chains.Acceptance.{Verdict, chain_acceptance, chain_rejection, IsVerdict}
 use Rattle.mb_model_commands.specs.Commands.{Command, read, find, print, refuse}
 use Rattle.mb_model_commands.specs.Inputs.{root_input, chain_bytes_input}
 use Rattle.mb_model_commands.specs.VerifyCommand.{chain_refusal_line}

@@ -2,7 +2,7 @@
 
 ghost use Rattle.std.specs.Prelude.{◌≡◌, ◌≤◌, length, map, IfOk};
 ghost use Rattle.mb_model.specs.declared.limits.TheConstants.{FILE_LIMIT};
-ghost use Rattle.mb_model.specs.Acceptance.{chain_acceptance};
+ghost use Rattle.mb_model.specs.chains.Acceptance.{chain_acceptance};
 ghost use Rattle.mb_console.specs.Ending.{CarriesOut};
 ghost use Rattle.mb_console.specs.Words.{given_argument};
 ghost use Rattle.mb_policy.specs.Meanings.{policy_items};

@@ -1,7 +1,7 @@
 -- What the program comes to by its command line.
 use Rattle.std.proofs.Common.{◌≡◌, ℕ, true, false, List, [], ◌∷◌, codes, IsTrue, refl, sym, subst}
-use Rattle.mb_model.specs.Board.{Used, not_used}
-use Rattle.mb_model.specs.Board.{Held}
+use Rattle.mb_model.specs.outside.Board.{Used, not_used}
+use Rattle.mb_model.specs.outside.Board.{Held}
 use Rattle.mb_model_commands.specs.Outside.{Outside, FailsToPrint}
 use Rattle.mb_model_commands.specs.Commands.{Ended, PrintEnds, text_is_not_printed, SaysLine, at_first}
 use Rattle.mb_top.specs.Top.{Ends}

@@ -1,6 +1,6 @@
 -- The counterexamples of ends, refuted.
 use Rattle.std.proofs.Common.{◌≡◌, ◌≢◌, ℕ, ◌≤◌, Bool, true, nat_lt, List, [], ◌∷◌, length, refl, arith}
-use Rattle.mb_model.specs.Board.{not_used}
+use Rattle.mb_model.specs.outside.Board.{not_used}
 use Rattle.mb_model_commands.specs.Commands.{Ended}
 use Rattle.mb_console.specs.declared.words.Kind.{Kind}
 use Rattle.mb_console.specs.Words.{Argument, Row, AreWordsFor, IsCalled, IsCall}

@@ -1,7 +1,7 @@
 -- From a command to what the words say that call it.
 use Rattle.std.proofs.Common.{◌≡◌, ℕ, ◌≤◌, true, false, Bool, List, [], Option, Some, Result, Ok, Err, refl, sym, ap, subst}
-use Rattle.mb_model.specs.Board.{Used, not_used}
-use Rattle.mb_model.specs.Board.{Held}
+use Rattle.mb_model.specs.outside.Board.{Used, not_used}
+use Rattle.mb_model.specs.outside.Board.{Held}
 use Rattle.mb_model_commands.specs.Outside.{Outside}
 use Rattle.mb_model_commands.specs.Commands.{Ended, CommandEnds, HasInputsFor, IsFaultless, at_first}
 use Rattle.mb_console.specs.declared.end.End.{End}

@@ -1,6 +1,6 @@
 -- Ends that the program does not have; the checker refutes each line. Can the program end in any way?
 use Rattle.std.specs.Prelude.{◌≢◌, ◌≤◌, ℕ, List, length}
-use Rattle.mb_model.specs.Board.{not_used}
+use Rattle.mb_model.specs.outside.Board.{not_used}
 use Rattle.mb_model_commands.specs.Commands.{Ended}
 use Rattle.mb_top.specs.Top.{Ends}
 

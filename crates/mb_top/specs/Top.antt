@@ -1,7 +1,7 @@
 -- What the program does, by its words: which command they call, and how it ends.
 use Rattle.std.specs.Prelude.{◌≡◌, ◌⊎◌, List, ℕ, codes, Result}
-use Rattle.mb_model.specs.Board.{Used}
-use Rattle.mb_model.specs.Board.{Held}
+use Rattle.mb_model.specs.outside.Board.{Used}
+use Rattle.mb_model.specs.outside.Board.{Held}
 use Rattle.mb_model_commands.specs.Outside.{Outside}
 use Rattle.mb_model_commands.specs.Commands.{Command as Does, Ended, Stops, CommandEnds, at_first}
 use Rattle.mb_model_commands.specs.RunCommand.{run}

@@ -1,8 +1,8 @@
 //! The whole program: its command line, and the texts of `--help` and `--version`.
 
 ghost use Rattle.std.specs.Prelude.{◌≡◌, ◌↔◌, ◌∷◌, [], map, IfOk, IfErr, IsTrue, None, false, string_bytes};
-ghost use Rattle.mb_model.specs.Board.{Held};
-ghost use Rattle.mb_model.specs.Board.{not_used, use_of};
+ghost use Rattle.mb_model.specs.outside.Board.{Held};
+ghost use Rattle.mb_model.specs.outside.Board.{not_used, use_of};
 ghost use Rattle.mb_model_commands.specs.Commands.{PrintEnds, Stops, at_first};
 ghost use Rattle.mb_console.specs.Ending.{ended_at, end_line, end_status};
 ghost use Rattle.mb_top.specs.Program.{ProgramEnds, end_without};

@@ -1,7 +1,7 @@
 //! The commands by their words.
 
 ghost use Rattle.std.specs.Prelude.{◌≡◌, ◌<◌, ◌⊎◌, ℕ, MatchOption, List, Option, [], map, None, Some, false, string_bytes};
-ghost use Rattle.mb_model.specs.Board.{not_used, use_of};
+ghost use Rattle.mb_model.specs.outside.Board.{not_used, use_of};
 ghost use Rattle.mb_model_commands.specs.Commands.{HasInputsFor, ComesToRefusal, IsFaultless};
 ghost use Rattle.mb_console.specs.Words.{Argument, IsCall, given_argument};
 ghost use Rattle.mb_top.specs.CommandTable.{commands};

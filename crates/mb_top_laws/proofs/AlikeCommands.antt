@@ -6,7 +6,7 @@ use Rattle.mb_model.specs.declared.key.PublicKey.{PublicKey}
 use Rattle.mb_model.specs.declared.order.Order.{Order}
 use Rattle.mb_model.specs.declared.state.State.{State}
 use Rattle.mb_model.specs.declared.tools.Keyfile.{Keyfile}
-use Rattle.mb_model.specs.Acceptance.{Verdict, chain_acceptance, chain_rejection, IsVerdict}
+use Rattle.mb_model.specs.chains.Acceptance.{Verdict, chain_acceptance, chain_rejection, IsVerdict}
 use Rattle.mb_model_commands.specs.Keygen.{KeygenNames, keygen}
 use Rattle.mb_model_commands.specs.Sign.{SignNames, CountersignNames, sign, countersign, sign_by, use_index}
 use Rattle.mb_model_commands.specs.FactoryCommand.{FactoryNames, factory, make_device, write_device}

@@ -5,11 +5,11 @@ use Rattle.mb_format.specs.Combinators.{same_bytes}
 use Rattle.mb_format.proofs.Fields.{same_bytes-refl, same_bytes-true}
 use Rattle.mb_model.specs.declared.event.Event.{Event}
 use Rattle.mb_model.specs.declared.event.Answered.{Answered}
-use Rattle.mb_model.specs.Board.{Held, Used, image_of, loaded_once_more}
-use Rattle.mb_model.specs.Acknowledged.{LeavesMemory}
-use Rattle.mb_model.specs.Machine.{World, opening_world}
-use Rattle.mb_model.specs.Meaning.{IsWellFormed}
-use Rattle.mb_model.specs.Replies.{replies_text}
+use Rattle.mb_model.specs.outside.Board.{Held, Used, image_of, loaded_once_more}
+use Rattle.mb_model.specs.memories.Acknowledged.{LeavesMemory}
+use Rattle.mb_model.specs.machine.Machine.{World, opening_world}
+use Rattle.mb_model.specs.memories.Meaning.{IsWellFormed}
+use Rattle.mb_model.specs.chains.Replies.{replies_text}
 use Rattle.mb_model_commands.specs.declared.role.Role.TheVariants as role
 use Rattle.mb_model_commands.specs.Inputs.{Image}
 use Rattle.mb_model_commands.specs.RunCommand.{RunNames, IsServed, run, serve_events, write_image}

@@ -5,7 +5,7 @@ use Rattle.mb_format.specs.Format.{IsBytes}
 use Rattle.mb_format.specs.Combinators.{same_bytes}
 use Rattle.mb_format.proofs.Fields.{same_bytes-refl, same_bytes-true}
 use Rattle.mb_model.specs.declared.limits.TheConstants.{FILE_LIMIT}
-use Rattle.mb_model.specs.Texts.{line_with_lf}
+use Rattle.mb_model.specs.outside.Texts.{line_with_lf}
 use Rattle.mb_model_commands.specs.declared.role.Place.{Place}
 use Rattle.mb_model_commands.specs.Outside.{Outside, HasRisen, count_after_call, read_once, by_fault, by_absence, WritesFile, Prints}
 use Rattle.mb_model_commands.specs.Commands.{Input, Output, Command, read, find, either_command, write, print, refuse, lack, Past, Ended, SaysLine, Stops, WantsMemory, HasRead, InputEnds, input_is_too_long, input_is_faulty, input_is_not_read, memory_lacks, WriteEnds, PrintEnds, text_is_printed, text_is_not_printed, CommandEnds, IsFaultless, end_seen_from, at_first, input_line, role_word, place_words}

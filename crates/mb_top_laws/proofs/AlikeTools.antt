@@ -6,8 +6,8 @@ use Rattle.mb_format.proofs.Whole.{IsClearWhole-from_exact}
 use Rattle.mb_model.specs.declared.key.PublicKey.{PublicKey}
 use Rattle.mb_model.specs.declared.state.Codes.{Codes}
 use Rattle.mb_model.specs.declared.state.State.{State}
-use Rattle.mb_model.specs.Acceptance.{Verdict, chain_acceptance, chain_rejection}
-use Rattle.mb_model.specs.Meaning.{IsWellFormed}
+use Rattle.mb_model.specs.chains.Acceptance.{Verdict, chain_acceptance, chain_rejection}
+use Rattle.mb_model.specs.memories.Meaning.{IsWellFormed}
 use Rattle.mb_model_commands.specs.declared.role.Place.TheVariants as fault
 use Rattle.mb_model_commands.specs.Inputs.{fault_place}
 use Rattle.mb_model_commands.specs.MigrateCommand.{MigrateNames, old_image_input, migrate}

@@ -6,11 +6,11 @@ use Rattle.mb_format.specs.Combinators.{number_bytes}
 use Rattle.mb_format.specs.Format.{IsBytes}
 use Rattle.mb_model.specs.declared.region.Secret.{Secret}
 use Rattle.mb_model.specs.declared.state.State.{State}
-use Rattle.mb_model.specs.Faults.{HasFault}
-use Rattle.mb_model.specs.LayerEvents.{has_name}
-use Rattle.mb_model.specs.Layers.{Runnable}
-use Rattle.mb_model.specs.Meaning.{IsWellFormed}
-use Rattle.mb_model.specs.Texts.{line_with_lf}
+use Rattle.mb_model.specs.memories.Faults.{HasFault}
+use Rattle.mb_model.specs.machine.LayerEvents.{has_name}
+use Rattle.mb_model.specs.owners.Layers.{Runnable}
+use Rattle.mb_model.specs.memories.Meaning.{IsWellFormed}
+use Rattle.mb_model.specs.outside.Texts.{line_with_lf}
 use Rattle.mb_model_commands.specs.Commands.{Input, Past, Ended, end_seen_from, HasRead, SaysLine, Stops, WantsMemory, InputEnds, input_is_too_long, input_is_faulty, input_is_not_read, memory_lacks, PrintEnds, text_is_printed, text_is_not_printed, CommandEnds}
 use Rattle.mb_model_commands.specs.Inputs.{image_input}
 use Rattle.mb_model_commands.specs.Outside.{Outside, HasRisen, read_once, FailsToRead, by_fault, by_absence, Prints, FailsToPrint}

@@ -13,16 +13,16 @@ use Rattle.mb_model.specs.declared.event.Answered.{Answered}
 use Rattle.mb_model.specs.declared.reply.Reply.{Reply}
 use Rattle.mb_model.specs.declared.reply.Reply.TheVariants as reply
 use Rattle.mb_model.specs.declared.reply.Refusal.TheVariants.{PoweredOff}
-use Rattle.mb_model.specs.Refusals.{refusal_reply}
-use Rattle.mb_model.specs.Board.{Memory, Held, image_of, erased_bytes, zeros, held_at_load, not_used, loaded_once_more, having_answered}
-use Rattle.mb_model.specs.Memory.{IsBlank}
-use Rattle.mb_model.specs.Acknowledged.{LeavesMemory, LeavesCleanMemory}
-use Rattle.mb_model.specs.Machine.{World, Step, machine_step, lacks_memory, opening_world, Run}
-use Rattle.mb_model.specs.Meaning.{IsWellFormed, StandsFor, is_dead}
-use Rattle.mb_model.specs.WrittenImage.{written_image}
-use Rattle.mb_model.specs.Lines.{IsLine, ReadsLines}
-use Rattle.mb_model.specs.Script.{IsScriptEvent, IsScript, with_before, commands_in, drawn_events, Drawn}
-use Rattle.mb_model.specs.Replies.{replies_text}
+use Rattle.mb_model.specs.machine.Refusals.{refusal_reply}
+use Rattle.mb_model.specs.outside.Board.{Memory, Held, image_of, erased_bytes, zeros, held_at_load, not_used, loaded_once_more, having_answered}
+use Rattle.mb_model.specs.memories.Memory.{IsBlank}
+use Rattle.mb_model.specs.memories.Acknowledged.{LeavesMemory, LeavesCleanMemory}
+use Rattle.mb_model.specs.machine.Machine.{World, Step, machine_step, lacks_memory, opening_world, Run}
+use Rattle.mb_model.specs.memories.Meaning.{IsWellFormed, StandsFor, is_dead}
+use Rattle.mb_model.specs.memories.WrittenImage.{written_image}
+use Rattle.mb_model.specs.chains.Lines.{IsLine, ReadsLines}
+use Rattle.mb_model.specs.chains.Script.{IsScriptEvent, IsScript, with_before, commands_in, drawn_events, Drawn}
+use Rattle.mb_model.specs.chains.Replies.{replies_text}
 use Rattle.mb_model_commands.specs.Inputs.{Image}
 use Rattle.mb_model_commands.specs.RunCommand.{IsServed, run}
 use Rattle.mb_model_commands.specs.Outside.{Outside, read_once}

@@ -2,8 +2,8 @@
 use Rattle.std.proofs.Common.{ℕ, List, [], ◌++◌, refl, inl, inr, arith, lit≤}
 use Rattle.std.specs.Prelude.{codes}
 use Rattle.std.proofs.lemmas.List.Elements.{All-nil}
-use Rattle.mb_model.specs.Board.{Held, held_at_load, not_used}
-use Rattle.mb_model.specs.Texts.{line_with_lf}
+use Rattle.mb_model.specs.outside.Board.{Held, held_at_load, not_used}
+use Rattle.mb_model.specs.outside.Texts.{line_with_lf}
 use Rattle.mb_model_commands.specs.Outside.{Outside, count_after_call, read_once, by_fault}
 use Rattle.mb_model_commands.specs.Commands.{Ended, input_is_not_read, memory_lacks, text_is_printed, CommandEnds}
 use Rattle.mb_model_commands.specs.Commands.{at_first}

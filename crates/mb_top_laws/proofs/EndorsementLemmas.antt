@@ -9,16 +9,16 @@ use Rattle.std.proofs.lemmas.List.Kept.{AllPairs-cons}
 use Rattle.mb_format.proofs.Bounds as bounds
 use Rattle.mb_format.proofs.Fields.{wide8, wide32, wide64}
 use Rattle.mb_model.proofs.FormatBounds.{public_key_short}
-use Rattle.mb_model.specs.Machine.{off}
+use Rattle.mb_model.specs.machine.Machine.{off}
 use Rattle.mb_format.specs.Format.{IsShort, Format, Spells, IsBytes}
 use Rattle.mb_format.specs.Combinators.{same_bytes}
 use Rattle.mb_format.specs.Reading.{IsExact}
 use Rattle.mb_format.proofs.Fields.{same_bytes-refl, same_bytes-true}
 use Rattle.mb_format.proofs.Whole.{IsClearWhole-from_exact}
 use Rattle.mb_model.specs.declared.key.PublicKey.{PublicKey}
-use Rattle.mb_model.specs.Board.{not_used}
-use Rattle.mb_model.specs.KeyFormat.{public_key_format}
-use Rattle.mb_model.specs.Texts.{line_with_lf}
+use Rattle.mb_model.specs.outside.Board.{not_used}
+use Rattle.mb_model.specs.records.KeyFormat.{public_key_format}
+use Rattle.mb_model.specs.outside.Texts.{line_with_lf}
 use Rattle.mb_model.proofs.KeyFormatLaws.{public_key_exact}
 use Rattle.mb_model_commands.specs.declared.role.Place.{Place}
 use Rattle.mb_model_commands.specs.declared.role.Role.{Role}

@@ -8,8 +8,8 @@ use Rattle.mb_format.specs.Format.{IsBytes}
 use Rattle.mb_model.specs.declared.event.Event.{Event}
 use Rattle.mb_model.specs.declared.event.Event.TheVariants as event
 use Rattle.mb_model.specs.declared.event.Answered.{Answered}
-use Rattle.mb_model.specs.Texts.{IsHex}
-use Rattle.mb_model.specs.Script.{SaysEvent, is_skipped, IsScript, with_before, drawn_event, drawn_events, Drawn}
+use Rattle.mb_model.specs.outside.Texts.{IsHex}
+use Rattle.mb_model.specs.chains.Script.{SaysEvent, is_skipped, IsScript, with_before, drawn_event, drawn_events, Drawn}
 use Rattle.mb_model_lemmas.specs.RefusalLaws.{BringsBytes}
 use Rattle.mb_model_lemmas.proofs.LineLemmas.{cons_same}
 

@@ -12,7 +12,7 @@ use Rattle.mb_format.specs.Combinators.{same_bytes, number, table, times, items}
 use Rattle.mb_format.proofs.Fields.{same_bytes-refl, same_bytes-true}
 use Rattle.mb_format.proofs.Whole.{IsClearWhole-from_exact}
 use Rattle.mb_model.specs.declared.key.PublicKey.{PublicKey}
-use Rattle.mb_model.specs.Lines.{text_of}
+use Rattle.mb_model.specs.chains.Lines.{text_of}
 use Rattle.mb_model_commands.specs.declared.role.Role.TheVariants as role
 use Rattle.mb_model_commands.specs.declared.role.Place.TheVariants as fault
 use Rattle.mb_model_lemmas.proofs.OneFlash.{front_bytes, back_bytes}

@@ -6,7 +6,7 @@ use Rattle.mb_model.proofs.KeyFormatLaws.{public_key_exact, keyfile_exact}
 use Rattle.mb_model.proofs.EntryFormatLaws.{chain_exact}
 use Rattle.mb_model.specs.declared.event.Event.{Event}
 use Rattle.mb_model.specs.declared.state.State.{State}
-use Rattle.mb_model.specs.Lines.{FailsAtLine, TextFailsAtLine}
+use Rattle.mb_model.specs.chains.Lines.{FailsAtLine, TextFailsAtLine}
 use Rattle.mb_model_commands.specs.declared.role.Role.{Role}
 use Rattle.mb_model_commands.specs.declared.role.Place.TheVariants as fault
 use Rattle.mb_model_commands.specs.Commands.{Input}

@@ -4,8 +4,8 @@ use Rattle.mb_model.specs.declared.event.Event.{Event}
 use Rattle.mb_model.specs.declared.event.Answered.{Answered}
 use Rattle.mb_model.specs.declared.key.PublicKey.{PublicKey}
 use Rattle.mb_model.specs.declared.state.State.{State}
-use Rattle.mb_model.specs.Board.{Held, Used, not_used, counted_load, loaded_once_more, having_answered}
-use Rattle.mb_model.specs.Acceptance.{Verdict, chain_acceptance, chain_rejection}
+use Rattle.mb_model.specs.outside.Board.{Held, Used, not_used, counted_load, loaded_once_more, having_answered}
+use Rattle.mb_model.specs.chains.Acceptance.{Verdict, chain_acceptance, chain_rejection}
 use Rattle.mb_model_commands.specs.declared.role.Role.TheVariants as role
 use Rattle.mb_model_commands.specs.Outside.{read_once}
 use Rattle.mb_model_commands.specs.Inputs.{Image, image_input, script_input, draws_input}

@@ -5,8 +5,8 @@ use Rattle.mb_format.proofs.Exact.{IsBytes-drop, IsBytes-take}
 use Rattle.mb_model.specs.declared.state.Codes.{Codes}
 use Rattle.mb_model.specs.declared.state.State.{State}
 use Rattle.mb_model.specs.declared.stored.Slot.{Slot}
-use Rattle.mb_model.specs.Flash.{code_slot, HoldsCode}
-use Rattle.mb_model.specs.Meaning.{Contents, HasMeaning, is_dead, is_live, IsWellFormed, state_of_contents}
+use Rattle.mb_model.specs.memories.Flash.{code_slot, HoldsCode}
+use Rattle.mb_model.specs.memories.Meaning.{Contents, HasMeaning, is_dead, is_live, IsWellFormed, state_of_contents}
 use Rattle.mb_model_lemmas.proofs.FaultLemmas.{image_flash_bytes}
 
 slot_bytes : (flash : List ℕ) (layer slot : ℕ) → IsBytes flash → IsBytes (code_slot flash layer slot)

@@ -3,9 +3,9 @@ use Rattle.std.specs.Prelude.{◌≡◌, ◌≢◌, ◌≤◌, ℕ, List, [], �
 use Rattle.mb_format.specs.Format.{IsBytes}
 use Rattle.mb_model.specs.declared.region.Secret.{Secret}
 use Rattle.mb_model.specs.declared.state.State.{State}
-use Rattle.mb_model.specs.LayerEvents.{has_name}
-use Rattle.mb_model.specs.Layers.{Runnable}
-use Rattle.mb_model.specs.Meaning.{IsWellFormed}
+use Rattle.mb_model.specs.machine.LayerEvents.{has_name}
+use Rattle.mb_model.specs.owners.Layers.{Runnable}
+use Rattle.mb_model.specs.memories.Meaning.{IsWellFormed}
 use Rattle.mb_model_commands.specs.Commands.{Past, Ended, CommandEnds}
 use Rattle.mb_model_commands.specs.Outside.{Outside}
 use Rattle.mb_model_histories.specs.KeyFileLaws.{Files}

@@ -2,9 +2,9 @@
 use Rattle.std.specs.Prelude.{◌≡◌, ◌≢◌, ℕ, false, List, [], codes, All, Option, None, Some, if◌then◌else◌}
 use Rattle.mb_format.specs.Combinators.{same_bytes}
 use Rattle.mb_model.specs.declared.state.State.{State}
-use Rattle.mb_model.specs.Acknowledged.{LeavesMemory}
-use Rattle.mb_model.specs.Meaning.{IsWellFormed}
-use Rattle.mb_model.specs.WrittenImage.{written_image}
+use Rattle.mb_model.specs.memories.Acknowledged.{LeavesMemory}
+use Rattle.mb_model.specs.memories.Meaning.{IsWellFormed}
+use Rattle.mb_model.specs.memories.WrittenImage.{written_image}
 use Rattle.mb_model_commands.specs.Outside.{Outside}
 use Rattle.mb_model_commands.specs.Commands.{Command as Does, Ended, CommandEnds, IsFaultless, at_first}
 use Rattle.mb_model_commands.specs.RunCommand.{RunNames, run}

@@ -3,8 +3,8 @@
 use Rattle.std.specs.Prelude.{◌≡◌, ◌≢◌, ◌<◌, ◌⊎◌, ◌^◌, ℕ, List, [], ◌∷◌, AllPairs, codes, Some}
 use Rattle.mb_format.specs.Format.{Format, IsBytes, Spells}
 use Rattle.mb_model.specs.declared.key.PublicKey.{PublicKey}
-use Rattle.mb_model.specs.KeyFormat.{public_key_format}
-use Rattle.mb_model.specs.Texts.{line_with_lf}
+use Rattle.mb_model.specs.records.KeyFormat.{public_key_format}
+use Rattle.mb_model.specs.outside.Texts.{line_with_lf}
 use Rattle.mb_model_commands.specs.Commands.{Past, Ended, CommandEnds, at_first, IsFaultless}
 use Rattle.mb_model_commands.specs.Outside.{Adds}
 use Rattle.mb_model_histories.specs.KeyFileLaws.{Files}

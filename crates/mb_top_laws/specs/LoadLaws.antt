@@ -1,6 +1,6 @@
 -- How often a command loads a board. Does a command that serves no device touch one?
 use Rattle.std.specs.Prelude.{◌≡◌, ◌≤◌, ◌⊎◌, Bool, true, false, List}
-use Rattle.mb_model.specs.Board.{not_used}
+use Rattle.mb_model.specs.outside.Board.{not_used}
 use Rattle.mb_model_commands.specs.Commands.{Ended, CommandEnds, at_first}
 use Rattle.mb_console.specs.Words.{Argument}
 use Rattle.mb_top.specs.declared.table.Command.{Command}

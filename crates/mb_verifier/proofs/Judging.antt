@@ -5,9 +5,9 @@ use Rattle.std.proofs.lemmas.List.{take_more, take-append-drop}
 use Rattle.mb_model.specs.declared.key.PublicKey.{PublicKey}
 use Rattle.mb_model.specs.declared.entry.Entry.{Entry}
 use Rattle.mb_model.specs.declared.entry.SignedEntry.{SignedEntry}
-use Rattle.mb_model.specs.Log.{figures_of, entries_of, Ordered, RuledLog}
-use Rattle.mb_model.specs.Merkle.{leaf_number}
-use Rattle.mb_model.specs.Acceptance.{ChainRefusal, IsInPlace, IsGood, AreGood}
+use Rattle.mb_model.specs.owners.Log.{figures_of, entries_of, Ordered, RuledLog}
+use Rattle.mb_model.specs.signatures.Merkle.{leaf_number}
+use Rattle.mb_model.specs.chains.Acceptance.{ChainRefusal, IsInPlace, IsGood, AreGood}
 use Rattle.mb_model_lemmas.proofs.LogLemmas.{entries_more}
 use Rattle.mb_model_lemmas.proofs.ChainLemmas.{AreGood-push, good_is_ruled}
 use Rattle.mb_model.specs.declared.state.Figures.{Figures}

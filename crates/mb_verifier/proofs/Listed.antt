@@ -10,11 +10,11 @@ use Rattle.mb_model.specs.declared.layer.Layer.{Layer}
 use Rattle.mb_model.specs.declared.layer.Layers.{Layers}
 use Rattle.mb_model.specs.declared.state.Configuration.{Configuration}
 use Rattle.mb_model.specs.declared.state.Report.{Report}
-use Rattle.mb_model.specs.Texts.{line_with_lf}
-use Rattle.mb_model.specs.Lines.{hex_word, spaced_words, text_of}
-use Rattle.mb_model.specs.Layers.{are_equal}
-use Rattle.mb_model.specs.Listing.{owner_word, code_words, reliable_word, trust_words, layer_line, configuration_lines, statement_lines, listing}
-use Rattle.mb_model.specs.Drafts.{trust_word}
+use Rattle.mb_model.specs.outside.Texts.{line_with_lf}
+use Rattle.mb_model.specs.chains.Lines.{hex_word, spaced_words, text_of}
+use Rattle.mb_model.specs.owners.Layers.{are_equal}
+use Rattle.mb_model.specs.chains.Listing.{owner_word, code_words, reliable_word, trust_words, layer_line, configuration_lines, statement_lines, listing}
+use Rattle.mb_model.specs.chains.Drafts.{trust_word}
 use Rattle.mb_verifier.specs.Lines.{key_line, line_upto}
 
 pub text_of-append : (a b : List (List ℕ)) → text_of (a ++ b) ≡ text_of a ++ text_of b

@@ -11,10 +11,10 @@ use Rattle.mb_model.specs.declared.entry.Statement.{Statement}
 use Rattle.mb_model.specs.declared.order.KeyKind.{KeyKind}
 use Rattle.mb_model.specs.declared.state.Configuration.{Configuration}
 use Rattle.mb_model.specs.declared.state.Report.{Report}
-use Rattle.mb_model.specs.Log.{figures_of, entries_of, RuledLog}
-use Rattle.mb_model.specs.EntryFormat.{entry_format}
-use Rattle.mb_model.specs.ChainFormat.{chain_format}
-use Rattle.mb_model.specs.Acceptance.{ChainRefusal, bad_form, bad_signature, bad_order, breaks_rules, key_unknown, bad_statement, wrong_number, key_ended, AreGood, IsNext, IfStatement, IsCurrent, message_of, Accepts, IsRefused}
+use Rattle.mb_model.specs.owners.Log.{figures_of, entries_of, RuledLog}
+use Rattle.mb_model.specs.records.EntryFormat.{entry_format}
+use Rattle.mb_model.specs.records.ChainFormat.{chain_format}
+use Rattle.mb_model.specs.chains.Acceptance.{ChainRefusal, bad_form, bad_signature, bad_order, breaks_rules, key_unknown, bad_statement, wrong_number, key_ended, AreGood, IsNext, IfStatement, IsCurrent, message_of, Accepts, IsRefused}
 use Rattle.mb_cert.proofs.Sizes.{entries_allowed}
 use Rattle.mb_model.specs.declared.state.Figures.{Figures}
 use Rattle.mb_log.specs.declared.life.BornKey.{BornKey}

@@ -5,10 +5,11 @@ use Rattle.mb_model.specs.declared.entry.Entry.{Entry}
 use Rattle.mb_model.specs.declared.entry.SignedEntry.{SignedEntry}
 use Rattle.mb_model.specs.declared.entry.Statement.{Statement}
 use Rattle.mb_model.specs.declared.state.Figures.{Figures}
-use Rattle.mb_model.specs.Log.{figures_of, entries_of, number_of, Ruled}
-use Rattle.mb_model.specs.Acceptance.{ChainRefusal, bad_form, bad_signature, bad_order, breaks_rules, key_unknown}
-use Rattle.mb_model.specs.Acceptance.{bad_statement, wrong_number, key_ended, IsCertified, IsInPlace, AreGood}
-use Rattle.mb_model.specs.Acceptance.{KeyEntry, is_alive, IsStated}
+use Rattle.mb_model.specs.owners.Log.{figures_of, entries_of, number_of, Ruled}
+use Rattle.mb_model.specs.chains.Acceptance.{ChainRefusal, bad_form, bad_signature, bad_order, breaks_rules}
+use Rattle.mb_model.specs.chains.Acceptance.{key_unknown}
+use Rattle.mb_model.specs.chains.Acceptance.{bad_statement, wrong_number, key_ended, IsCertified, IsInPlace, AreGood}
+use Rattle.mb_model.specs.chains.Acceptance.{KeyEntry, is_alive, IsStated}
 
 -- an entry after a log with these figures is refused for this, the first check that it fails
 abbrev pub IsBadEntry : PublicKey → Figures → SignedEntry → ChainRefusal → Type 0

@@ -1,6 +1,6 @@
 -- Which refusal an answer names.
 use Rattle.std.specs.Prelude.{Option, Some, None}
-use Rattle.mb_model.specs.Acceptance as acceptance
+use Rattle.mb_model.specs.chains.Acceptance as acceptance
 use Rattle.mb_verifier.specs.declared.refusal.ChainRefusal.{ChainRefusal}
 use Rattle.mb_verifier.specs.declared.refusal.ChainRefusal.TheVariants as why
 

@@ -1,8 +1,9 @@
 -- Why the entries of a chain are refused, whatever the key. Is the reason one that its statement cannot give?
 use Rattle.std.specs.Prelude.{ℕ, List}
 use Rattle.mb_model.specs.declared.key.PublicKey.{PublicKey}
-use Rattle.mb_model.specs.Acceptance.{ChainRefusal, bad_form, bad_signature, bad_order, breaks_rules, key_unknown}
-use Rattle.mb_model.specs.Acceptance.{bad_statement, wrong_number, key_ended, IsRefused}
+use Rattle.mb_model.specs.chains.Acceptance.{ChainRefusal, bad_form, bad_signature, bad_order, breaks_rules}
+use Rattle.mb_model.specs.chains.Acceptance.{key_unknown}
+use Rattle.mb_model.specs.chains.Acceptance.{bad_statement, wrong_number, key_ended, IsRefused}
 
 -- a reason that the form or an entry gives; the others are of a key or a statement
 abbrev pub IsOfEntries : ChainRefusal → Type 0

@@ -3,9 +3,9 @@ use Rattle.std.specs.Prelude.{ℕ, nat_le, List, [], ◌∷◌, codes, if◌then
 use Rattle.std.specs.Fmt.{decimal}
 use Rattle.mb_model.specs.declared.layer.Layer.{Layer}
 use Rattle.mb_model.specs.declared.state.Report.{Report}
-use Rattle.mb_model.specs.Lines.{spaced_words}
-use Rattle.mb_model.specs.Drafts.{kind_word}
-use Rattle.mb_model.specs.Listing.{life_word, layer_line}
+use Rattle.mb_model.specs.chains.Lines.{spaced_words}
+use Rattle.mb_model.specs.chains.Drafts.{kind_word}
+use Rattle.mb_model.specs.chains.Listing.{life_word, layer_line}
 
 -- the line of the key
 abbrev pub key_line : ℕ → Report → List ℕ

@@ -3,10 +3,10 @@
 ghost use Rattle.std.specs.Prelude.{◌≡◌, ◌≤◌, ℕ, List, length, IfOk, IfErr, IfSome, Some};
 ghost use Rattle.mb_model.specs.declared.limits.TheConstants.{FILE_LIMIT};
 ghost use Rattle.mb_model.specs.declared.entry.Chain.{Chain};
-ghost use Rattle.mb_model.specs.ChainFormat.{chain_format};
-ghost use Rattle.mb_model.specs.Log.{entries_of, RuledLog};
-ghost use Rattle.mb_model.specs.Acceptance.{Accepts, AreGood, IsRefused, message_of};
-ghost use Rattle.mb_model.specs.Acceptance as acceptance;
+ghost use Rattle.mb_model.specs.records.ChainFormat.{chain_format};
+ghost use Rattle.mb_model.specs.owners.Log.{entries_of, RuledLog};
+ghost use Rattle.mb_model.specs.chains.Acceptance.{Accepts, AreGood, IsRefused, message_of};
+ghost use Rattle.mb_model.specs.chains.Acceptance as acceptance;
 ghost use Rattle.mb_format.specs.Format.{Spells};
 ghost use Rattle.mb_verifier.specs.Ends.{chain_refusal_of};
 ghost use Rattle.mb_verifier.specs.Entries.{IsEntriesRefused};

@@ -2,9 +2,9 @@
 
 ghost use Rattle.std.specs.Prelude.{◌≡◌, ◌↔◌, ◌≤◌, List, length, All, IfOk, IfErr, IfSome, OnOk, IsTrue};
 ghost use Rattle.mb_model.specs.declared.limits.TheConstants.{ENTRY_LIMIT};
-ghost use Rattle.mb_model.specs.EntryFormat.{entry_format};
-ghost use Rattle.mb_model.specs.Log.{figures_of, entries_of};
-ghost use Rattle.mb_model.specs.Acceptance.{in_charge, IsCertified, IsGood, AreGood};
+ghost use Rattle.mb_model.specs.records.EntryFormat.{entry_format};
+ghost use Rattle.mb_model.specs.owners.Log.{figures_of, entries_of};
+ghost use Rattle.mb_model.specs.chains.Acceptance.{in_charge, IsCertified, IsGood, AreGood};
 ghost use Rattle.mb_log.specs.KeyLife.{IsLifeOf};
 ghost use Rattle.mb_verifier.specs.Checked.{IsBadEntry, HasBadEntry};
 ghost use Rattle.mb_verifier.specs.Ends.{chain_refusal_of};

@@ -2,10 +2,10 @@
 
 ghost use Rattle.std.specs.Prelude.{◌≡◌, [], ◌++◌, IfOk, OnOk, flat_map};
 ghost use Rattle.std.specs.String.{string_bytes};
-ghost use Rattle.mb_model.specs.Texts.{line_with_lf};
-ghost use Rattle.mb_model.specs.Lines.{spaced_words, text_of};
-ghost use Rattle.mb_model.specs.Drafts.{kind_word, trust_word};
-ghost use Rattle.mb_model.specs.Listing.{trust_words, life_word, reliable_word, owner_word, code_words, layer_line, configuration_lines, statement_lines, listing};
+ghost use Rattle.mb_model.specs.outside.Texts.{line_with_lf};
+ghost use Rattle.mb_model.specs.chains.Lines.{spaced_words, text_of};
+ghost use Rattle.mb_model.specs.chains.Drafts.{kind_word, trust_word};
+ghost use Rattle.mb_model.specs.chains.Listing.{trust_words, life_word, reliable_word, owner_word, code_words, layer_line, configuration_lines, statement_lines, listing};
 ghost use Rattle.mb_verifier.specs.Lines.{key_line, line_upto};
 
 use mb_lms::key_hash;

@@ -1,10 +1,10 @@
 //! The checks of a statement: by the key, of the chain's last configuration, and by a key that is alive.
 
 ghost use Rattle.std.specs.Prelude.{◌≡◌, ◌↔◌, IfErr, IfSome, OnOk, IsTrue, Some};
-ghost use Rattle.mb_model.specs.Log.{figures_of, entries_of};
-ghost use Rattle.mb_model.specs.Merkle.{Verifies};
-ghost use Rattle.mb_model.specs.SignedTexts.{statement_text};
-ghost use Rattle.mb_model.specs.Acceptance.{IsStated, IsCurrent};
+ghost use Rattle.mb_model.specs.owners.Log.{figures_of, entries_of};
+ghost use Rattle.mb_model.specs.signatures.Merkle.{Verifies};
+ghost use Rattle.mb_model.specs.machine.SignedTexts.{statement_text};
+ghost use Rattle.mb_model.specs.chains.Acceptance.{IsStated, IsCurrent};
 ghost use Rattle.mb_log.specs.KeyLife.{as_entry, IsLifeOf};
 ghost use Rattle.mb_verifier.specs.Checked.{IsBadStatement};
 ghost use Rattle.mb_verifier.specs.Ends.{chain_refusal_of};

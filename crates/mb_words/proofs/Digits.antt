@@ -5,7 +5,7 @@ use Rattle.std.specs.Fmt.{decimal}
 use Rattle.std.proofs.lemmas.Bool.{cases_lt}
 use Rattle.std.proofs.lemmas.Fmt.{decimal_digit, decimal_step, decimal_nonempty, length-decimal-le, decimal_injective}
 use Rattle.std.proofs.lemmas.List.{same_from_push}
-use Rattle.mb_model.specs.Lines.{IsNumber, number_limit}
+use Rattle.mb_model.specs.chains.Lines.{IsNumber, number_limit}
 use Rattle.mb_model_lemmas.proofs.WordLemmas.{limited_fits}
 use Rattle.mb_words.specs.Words.{FindsSome}
 

@@ -1,6 +1,6 @@
 -- The next line of a text, and the lines after it.
 use Rattle.std.proofs.Common.{ℕ, ◌<◌, inl, inr, List, [], ◌∷◌, length, length-append, sym, ap, subst, arith}
-use Rattle.mb_model.specs.Lines.{HasLines}
+use Rattle.mb_model.specs.chains.Lines.{HasLines}
 use Rattle.mb_model_lemmas.proofs.LineLemmas.{HasLines-on, HasLines-over, HasLines-nil, HasLines-same}
 use Rattle.mb_words.specs.Words.{SplitsLine}
 

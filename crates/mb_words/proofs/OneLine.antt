@@ -1,7 +1,7 @@
 -- A text of one line: what it is read as, or which line of it is wrong.
 use Rattle.std.proofs.Common.{◌≡◌, ℕ, ◌<◌, List, [], ◌∷◌, length, sym, ap, subst, arith}
 use Rattle.std.specs.Prelude.{Err}
-use Rattle.mb_model.specs.Lines.{HasLines, TextFailsAtLine}
+use Rattle.mb_model.specs.chains.Lines.{HasLines, TextFailsAtLine}
 use Rattle.mb_model_lemmas.proofs.LineLemmas.{HasLines-none, HasLines-nil, HasLines-always}
 use Rattle.mb_model_lemmas.proofs.OrderLineLemmas.{HasOneLine, empty, first, second}
 use Rattle.mb_words.specs.declared.said.NotSaid.{NotSaid}

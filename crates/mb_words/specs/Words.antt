@@ -1,6 +1,6 @@
 -- What reading the words of a line gives. Is what is found exactly what stands there?
 use Rattle.std.specs.Prelude.{◌≡◌, ◌≢◌, ℕ, ◌⊎◌, List, [], ◌∷◌, ◌++◌, All, Option, Some, None, Result, Ok, Err}
-use Rattle.mb_model.specs.Lines.{IsLine}
+use Rattle.mb_model.specs.chains.Lines.{IsLine}
 use Rattle.mb_words.specs.declared.said.NotSaid.{NotSaid}
 use Rattle.mb_words.specs.declared.said.NotSaid.TheVariants as why
 

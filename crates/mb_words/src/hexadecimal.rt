@@ -2,8 +2,8 @@
 
 ghost use Rattle.std.specs.Prelude.{◌≡◌, ◌<◌, length, IfOk};
 ghost use Rattle.std.specs.String.{string_bytes};
-ghost use Rattle.mb_model.specs.Texts.{IsHex};
-ghost use Rattle.mb_model.specs.Lines.{hex_word};
+ghost use Rattle.mb_model.specs.outside.Texts.{IsHex};
+ghost use Rattle.mb_model.specs.chains.Lines.{hex_word};
 ghost use Rattle.mb_words.specs.Words.{Finds, FindsSome};
 
 use crate::said::NotSaid;

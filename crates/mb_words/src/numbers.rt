@@ -1,7 +1,7 @@
 //! Numbers in decimal.
 
 ghost use Rattle.std.specs.Prelude.{◌<◌, ◌+◌, ◌*◌, ◌^◌, SomeIff};
-ghost use Rattle.mb_model.specs.Lines.{IsNumber, number_limit};
+ghost use Rattle.mb_model.specs.chains.Lines.{IsNumber, number_limit};
 ghost use Rattle.mb_words.specs.Words.{FindsSome};
 
 /// The most digits of a number.

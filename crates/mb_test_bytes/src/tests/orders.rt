@@ -1,6 +1,6 @@
 //! Orders both ways, against bytes of another program and bytes that are written out.
 
-ghost use Rattle.mb_model.specs.OrderFormat.{order_format};
+ghost use Rattle.mb_model.specs.records.OrderFormat.{order_format};
 
 use super::spelled::joined;
 use mb_command::{body_length, read_order, signed_part, write_order};

@@ -2,7 +2,7 @@
 
 ghost use Rattle.std.specs.Prelude.{◌≡◌, ◌≤◌, ◌⊎◌, length, vec_len, IfOk};
 ghost use Rattle.mb_model.specs.declared.limits.TheConstants.{REGION_VERSION};
-ghost use Rattle.mb_model.specs.RegionFormat.{region_format};
+ghost use Rattle.mb_model.specs.records.RegionFormat.{region_format};
 
 use super::spelled::bytes_of;
 use super::values::{

@@ -1,7 +1,7 @@
 //! Bytes that are spelled in hexadecimal.
 
 ghost use Rattle.std.specs.Prelude.{◌≤◌, vec_len, IfOk};
-ghost use Rattle.mb_model.specs.EntryFormat.{entry_format};
+ghost use Rattle.mb_model.specs.records.EntryFormat.{entry_format};
 
 use mb_bytes::Cursor;
 use mb_layout::read_entry;

@@ -1,7 +1,7 @@
 //! A board on which power will fail.
 
 ghost use Rattle.std.specs.Prelude.{◌≡◌, ◌≤◌, length, IfOk, None, true, false};
-ghost use Rattle.mb_model.specs.Script.{IsScriptEvent};
+ghost use Rattle.mb_model.specs.chains.Script.{IsScriptEvent};
 ghost use Rattle.mb_test_cuts.specs.Staged.{HoldsImage};
 
 use mb_board::{Board, SimBoard};

@@ -1,10 +1,10 @@
 //! The calls that are stopped.
 
 ghost use Rattle.std.specs.Prelude.{◌≡◌, ◌<◌, ◌≤◌, length, IfOk, false};
-ghost use Rattle.mb_model.specs.Board.{IsLoaded};
-ghost use Rattle.mb_model.specs.Memory.{area_of_slot};
-ghost use Rattle.mb_model.specs.RootFormat.{root_format};
-ghost use Rattle.mb_model.specs.RegionFormat.{CanBeWritten};
+ghost use Rattle.mb_model.specs.outside.Board.{IsLoaded};
+ghost use Rattle.mb_model.specs.memories.Memory.{area_of_slot};
+ghost use Rattle.mb_model.specs.records.RootFormat.{root_format};
+ghost use Rattle.mb_model.specs.records.RegionFormat.{CanBeWritten};
 ghost use Rattle.mb_region.specs.Regions.{HoldsSomeRegion};
 ghost use Rattle.mb_boot.specs.Booting.{StandsForValid};
 ghost use Rattle.mb_test_cuts.specs.Staged.{IsLiveImage, IsReadyForCalls};

@@ -1,10 +1,10 @@
 //! Power losses, tampering and an answer on the board that simulates a device.
 
 ghost use Rattle.std.specs.Prelude.{◌≡◌, ◌∷◌, ◌≤◌, [], length, true, false, All, IfOk, None};
-ghost use Rattle.mb_model.specs.Memory.{IsBlank};
-ghost use Rattle.mb_model.specs.Pieces.{part};
-ghost use Rattle.mb_model.specs.Script.{IsScriptEvent};
-ghost use Rattle.mb_model.specs.Board.{IsLoaded, erased_bytes, image_of, ledger_at_load};
+ghost use Rattle.mb_model.specs.memories.Memory.{IsBlank};
+ghost use Rattle.mb_model.specs.outside.Pieces.{part};
+ghost use Rattle.mb_model.specs.chains.Script.{IsScriptEvent};
+ghost use Rattle.mb_model.specs.outside.Board.{IsLoaded, erased_bytes, image_of, ledger_at_load};
 ghost use Rattle.mb_board.specs.Calls.{power_of, level_of};
 ghost use Rattle.mb_board.specs.Cuts.{is_armed};
 
@@ -63,7 +63,7 @@ enum Kind {
 }
 
 // Whether the flash is erased where the tests program it.
-#[tactic(auto, unfolding(mb_model::specs::Board::erased_bytes))]
+#[tactic(auto, unfolding(mb_model::specs::outside::Board::erased_bytes))]
 fn is_erased(board: &SimBoard) -> bool
     requires on { board.now.power ≡ true }
     requires loaded { IsLoaded board.now.memory }

@@ -1,7 +1,7 @@
 //! Orders judged by written figures, and each refusal before those that come after it.
 
 ghost use Rattle.std.specs.Prelude.{◌≡◌, ◌<◌, ◌≤◌, IfOk};
-ghost use Rattle.mb_model.specs.OrderFormat.{order_format};
+ghost use Rattle.mb_model.specs.records.OrderFormat.{order_format};
 
 use super::signed::{
     ESTABLISH_AT_SEVEN, LOAD_ONE, LOAD_ONE_BY_ONE, LOAD_ONE_BY_THREE, LOAD_THREE,

@@ -1,7 +1,7 @@
 //! Lines of orders, against bytes that are written out.
 
 ghost use Rattle.std.specs.Prelude.{◌≡◌, IsTrue};
-ghost use Rattle.mb_model.specs.OrderFormat.{order_format};
+ghost use Rattle.mb_model.specs.records.OrderFormat.{order_format};
 
 use mb_model::{Act, Order};
 use mb_officer::{OrderLineEnd, read_order_line, write_order_line};

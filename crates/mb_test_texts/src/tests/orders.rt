@@ -1,8 +1,8 @@
 //! Orders drafted, signed and countersigned, against values of another program.
 
 ghost use Rattle.std.specs.Prelude.{◌≡◌, ◌<◌, ◌≤◌, IfSome, OnOk, OnErr, IsTrue};
-ghost use Rattle.mb_model.specs.Layers.{is_upper};
-ghost use Rattle.mb_model.specs.OrderFormat.{order_format};
+ghost use Rattle.mb_model.specs.owners.Layers.{is_upper};
+ghost use Rattle.mb_model.specs.records.OrderFormat.{order_format};
 
 use super::order_lines::hand_on;
 use hex::FromHex;

@@ -13,7 +13,7 @@ pub struct ChainForm;
 impl Form for ChainForm {
     ghost use Rattle.std.specs.Prelude.{[]};
     ghost use Rattle.mb_model.specs.declared.entry.Chain.{Chain};
-    ghost use Rattle.mb_model.specs.ChainFormat.{chain_format};
+    ghost use Rattle.mb_model.specs.records.ChainFormat.{chain_format};
     ghost use Rattle.mb_model_commands.specs.Inputs.{chain_input};
 
     type Value = Chain;
@@ -70,7 +70,7 @@ pub struct StatementLine;
 impl Form for StatementLine {
     ghost use Rattle.std.specs.Prelude.{[]};
     ghost use Rattle.mb_model.specs.declared.entry.Statement.{Statement};
-    ghost use Rattle.mb_model.specs.ChainFormat.{statement_format};
+    ghost use Rattle.mb_model.specs.records.ChainFormat.{statement_format};
     ghost use Rattle.mb_model_commands.specs.Inputs.{statement_input};
 
     type Value = Statement;

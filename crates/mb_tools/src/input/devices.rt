@@ -3,8 +3,8 @@
 //! Images are read by functions of their own, since the hashes of their keys are counted.
 
 ghost use Rattle.std.specs.Prelude.{◌+◌, ◌≤◌, ◌*◌, IfOk, IfErr};
-ghost use Rattle.mb_model.specs.Meaning.{IsWellFormed};
-ghost use Rattle.mb_model.specs.Valid.{Valid};
+ghost use Rattle.mb_model.specs.memories.Meaning.{IsWellFormed};
+ghost use Rattle.mb_model.specs.memories.Valid.{Valid};
 ghost use Rattle.mb_model_commands.specs.MigrateCommand.{old_image_input};
 ghost use Rattle.mb_model_commands.specs.Inputs.{image_input};
 ghost use Rattle.mb_model_memory.specs.Storable.{Storable};

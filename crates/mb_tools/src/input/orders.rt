@@ -13,7 +13,7 @@ pub struct DraftForm;
 impl Form for DraftForm {
     ghost use Rattle.std.specs.Prelude.{[]};
     ghost use Rattle.mb_model.specs.declared.order.Order.{Order};
-    ghost use Rattle.mb_model.specs.OrderFormat.{order_format};
+    ghost use Rattle.mb_model.specs.records.OrderFormat.{order_format};
     ghost use Rattle.mb_model_commands.specs.Inputs.{draft_input};
 
     type Value = Order;
@@ -44,7 +44,7 @@ pub struct OrderLine;
 impl Form for OrderLine {
     ghost use Rattle.std.specs.Prelude.{[]};
     ghost use Rattle.mb_model.specs.declared.order.Order.{Order};
-    ghost use Rattle.mb_model.specs.OrderFormat.{order_format};
+    ghost use Rattle.mb_model.specs.records.OrderFormat.{order_format};
     ghost use Rattle.mb_model_commands.specs.Inputs.{order_input};
 
     type Value = Order;

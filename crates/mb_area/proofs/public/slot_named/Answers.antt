@@ -1,6 +1,6 @@
 use Rattle.std.proofs.Common.{◌∙◌, ap, length, List, ℕ, arith}
-use Rattle.mb_model.specs.HeaderFormat.{header_format}
-use Rattle.mb_model.specs.Sectors.{BeginsAs}
+use Rattle.mb_model.specs.records.HeaderFormat.{header_format}
+use Rattle.mb_model.specs.memories.Sectors.{BeginsAs}
 use Rattle.mb_area.specs.Flashes.{BeginWithHeader}
 use Rattle.mb_area.proofs.Published.{sector_short, as_read}
 use Rattle.mb_area.proofs.public.slot_named.Goals as goal

@@ -1,5 +1,5 @@
 use Rattle.std.proofs.Common.{sym, refl}
-use Rattle.mb_model.specs.Flash.{HoldsHeader}
+use Rattle.mb_model.specs.memories.Flash.{HoldsHeader}
 use Rattle.mb_area.specs.Flashes.{IsPublicWritten, IsPublicThere, IsSpared}
 use Rattle.mb_area.proofs.Published.{some_header, agree_for_roots, flash_kept, for_root, written_moved, spared_moved, there_moved}
 use Rattle.mb_area.proofs.public.write_public.Goals as goal

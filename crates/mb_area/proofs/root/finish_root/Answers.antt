@@ -1,7 +1,7 @@
 use Rattle.std.proofs.Common.{◌≡◌, ◌⊎◌, subst}
 use Rattle.mb_model.specs.declared.stored.Root.{Root}
-use Rattle.mb_model.specs.RootFormat.{root_format}
-use Rattle.mb_model.specs.Memory.{area_of_slot, HoldsRecord}
+use Rattle.mb_model.specs.records.RootFormat.{root_format}
+use Rattle.mb_model.specs.memories.Memory.{area_of_slot, HoldsRecord}
 use Rattle.mb_area.proofs.Rooted.{finished_or_kept, finished_means}
 use Rattle.mb_area.proofs.root.finish_root.Goals as goal
 

@@ -1,7 +1,7 @@
 use Rattle.std.proofs.Common.{◌≡◌, ◌∙◌, sym, subst, List, ℕ, arith}
 use Rattle.std.proofs.lemmas.List.{take_at}
-use Rattle.mb_model.specs.RootFormat.{root_format}
-use Rattle.mb_model.specs.Memory.{area_of_slot, HoldsRecord}
+use Rattle.mb_model.specs.records.RootFormat.{root_format}
+use Rattle.mb_model.specs.memories.Memory.{area_of_slot, HoldsRecord}
 use Rattle.mb_model_lemmas.proofs.PublicLemmas.{bounded_by}
 use Rattle.mb_area.proofs.Rooted.{in_force, some_held}
 use Rattle.mb_area.proofs.root.read_root.Goals as goal

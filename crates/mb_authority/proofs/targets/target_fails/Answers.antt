@@ -1,5 +1,5 @@
 use Rattle.std.proofs.Common.{◌≡◌, true, false, length, ap, refl, arith}
-use Rattle.mb_model.specs.Rules.{TargetHolds}
+use Rattle.mb_model.specs.owners.Rules.{TargetHolds}
 use Rattle.mb_authority.proofs.Firsts.{found, passed, ended, few_targets}
 use Rattle.mb_authority.proofs.targets.target_fails.Goals as goal
 

@@ -1,5 +1,5 @@
 use Rattle.std.proofs.Common.{All, take}
-use Rattle.mb_model.specs.Rules.{TargetHolds}
+use Rattle.mb_model.specs.owners.Rules.{TargetHolds}
 use Rattle.mb_authority.proofs.targets.target_fails.Given as goal
 
 abbrev pub invariant-loop-i : goal.invariant-loop-i

@@ -1,6 +1,6 @@
 use Rattle.std.proofs.Common.{◌≡◌, ◌+◌, ◌*◌, ◌-◌, ap, ◌∙◌, arith}
-use Rattle.mb_model.specs.Pieces.{part}
-use Rattle.mb_model.specs.Board.{memory_with_bytes}
+use Rattle.mb_model.specs.outside.Pieces.{part}
+use Rattle.mb_model.specs.outside.Board.{memory_with_bytes}
 use Rattle.mb_board.proofs.bank.copy_sector.Goals as goal
 
 pub returns : goal.returns

@@ -1,5 +1,5 @@
 use Rattle.std.proofs.Common.{sym, subst, ap, length, arith}
-use Rattle.mb_model.specs.HeaderFormat.{header_format}
+use Rattle.mb_model.specs.records.HeaderFormat.{header_format}
 use Rattle.mb_segments.specs.Uncopied.{header_of}
 use Rattle.mb_boot.proofs.Completed.{settled_allowed, header_put}
 use Rattle.mb_boot.proofs.pending.settle_header.Goals as goal

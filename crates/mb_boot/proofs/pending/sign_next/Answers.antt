@@ -1,6 +1,6 @@
 use Rattle.std.proofs.Common.{ℕ, List, refl, sym, ap, subst, ◌∙◌}
-use Rattle.mb_model.specs.HeaderFormat.{header_format}
-use Rattle.mb_model.specs.Sectors.{BeginsAs}
+use Rattle.mb_model.specs.records.HeaderFormat.{header_format}
+use Rattle.mb_model.specs.memories.Sectors.{BeginsAs}
 use Rattle.mb_signer.specs.Benches.{HasTree}
 use Rattle.std.specs.Option.{option_copied}
 use Rattle.mb_segments.specs.Uncopied.{header_of}

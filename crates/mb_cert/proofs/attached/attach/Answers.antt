@@ -1,7 +1,7 @@
 use Rattle.std.proofs.Common.{List, Some, take, sym, ap, subst, ◌∙◌}
 use Rattle.mb_model.specs.declared.entry.SignedEntry.{SignedEntry}
-use Rattle.mb_model.specs.ChainFormat.{chain_format}
-use Rattle.mb_model.specs.Attach.{cut_at}
+use Rattle.mb_model.specs.records.ChainFormat.{chain_format}
+use Rattle.mb_model.specs.chains.Attach.{cut_at}
 use Rattle.mb_model_lemmas.proofs.AttachLemmas.{stated_allowed}
 use Rattle.mb_cert.proofs.attached.attach.Goals as goal
 

@@ -1,6 +1,6 @@
 use Rattle.std.proofs.Common.{arith, subst}
 use Rattle.mb_format.specs.Format.{IsBytes}
-use Rattle.mb_model.specs.ChainFormat.{statement_format}
+use Rattle.mb_model.specs.records.ChainFormat.{statement_format}
 use Rattle.mb_model.proofs.EntryFormatLaws.{statement_exact}
 use Rattle.mb_bytes.specs.Reads.{FailsWholeAt}
 use Rattle.mb_cert.specs.declared.end.ChainEnd.{ChainEnd}

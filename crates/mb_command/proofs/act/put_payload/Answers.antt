@@ -1,4 +1,4 @@
-use Rattle.mb_model.specs.OrderFormat.{payload_format}
+use Rattle.mb_model.specs.records.OrderFormat.{payload_format}
 use Rattle.mb_bytes.proofs.Putting.{puts_both}
 use Rattle.mb_command.proofs.act.put_payload.Goals as goal
 

@@ -1,4 +1,4 @@
-use Rattle.mb_model.specs.OrderFormat.{body_format, order_format}
+use Rattle.mb_model.specs.records.OrderFormat.{body_format, order_format}
 use Rattle.mb_command.proofs.Lengths.{length-body, body_first}
 use Rattle.mb_command.proofs.body.body_length.Goals as goal
 

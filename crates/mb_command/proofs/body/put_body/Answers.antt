@@ -1,6 +1,6 @@
 use Rattle.std.proofs.Common.{◌∙◌, ap}
 use Rattle.std.proofs.lemmas.Result.{err_from_is_err_and}
-use Rattle.mb_model.specs.OrderFormat.{form_byte, body_format}
+use Rattle.mb_model.specs.records.OrderFormat.{form_byte, body_format}
 use Rattle.mb_bytes.proofs.Putting.{puts_both, puts_stop, puts_stop_later}
 use Rattle.mb_command.proofs.body.put_body.Goals as goal
 

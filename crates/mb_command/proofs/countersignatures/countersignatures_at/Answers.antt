@@ -2,8 +2,8 @@ use Rattle.std.proofs.Common.{◌≡◌, ◌-◌, ◌+◌, arith}
 use Rattle.std.proofs.lemmas.Result.{err_from_is_err_and}
 use Rattle.std.specs.Int.{w8}
 use Rattle.mb_format.specs.Combinators.{between}
-use Rattle.mb_model.specs.OrderFormat.{countersignature_limit, countersignature_format, climb_after, countersignatures_format}
-use Rattle.mb_model.specs.Rules.{kind_of}
+use Rattle.mb_model.specs.records.OrderFormat.{countersignature_limit, countersignature_format, climb_after, countersignatures_format}
+use Rattle.mb_model.specs.owners.Rules.{kind_of}
 use Rattle.mb_bytes.proofs.Reading.{led_ok, reading_goes_on, reading_ends, list_fails_at}
 use Rattle.mb_command.specs.Ends.{order_text_at}
 use Rattle.mb_command.proofs.countersignatures.countersignatures_at.Goals as goal

@@ -1,5 +1,5 @@
 use Rattle.std.specs.Prelude.{◌-◌, ◌≤◌}
-use Rattle.mb_model.specs.OrderFormat.{countersignature_format, climb_after}
+use Rattle.mb_model.specs.records.OrderFormat.{countersignature_format, climb_after}
 use Rattle.mb_bytes.proofs.Reading.{IsReading}
 use Rattle.mb_command.proofs.countersignatures.countersignatures_at.Given as goal
 

@@ -1,5 +1,5 @@
 use Rattle.mb_bytes.proofs.Putting.{IsWriting}
-use Rattle.mb_model.specs.OrderFormat.{countersignature_format}
+use Rattle.mb_model.specs.records.OrderFormat.{countersignature_format}
 use Rattle.mb_command.specs.Parts.{any_climb}
 use Rattle.mb_command.proofs.countersignatures.put_countersignatures.Given as goal
 

@@ -1,4 +1,4 @@
-use Rattle.mb_model.specs.OrderFormat.{body_of, order_format}
+use Rattle.mb_model.specs.records.OrderFormat.{body_of, order_format}
 use Rattle.mb_bytes.proofs.Putting.{puts_both}
 use Rattle.mb_command.proofs.order.put_order.Goals as goal
 

@@ -1,7 +1,7 @@
 use Rattle.std.proofs.lemmas.Result.{err_from_is_err_and}
 use Rattle.std.proofs.Common.{◌≡◌, arith, ◌-◌, ◌+◌, Ok, Err}
 use Rattle.mb_format.specs.Combinators.{items}
-use Rattle.mb_model.specs.OrderFormat.{countersignature_format, climb_after}
+use Rattle.mb_model.specs.records.OrderFormat.{countersignature_format, climb_after}
 use Rattle.mb_model.proofs.OrderFormatLaws.{countersignature_exact}
 use Rattle.mb_command.specs.Surveys.{IsLayerOf}
 use Rattle.mb_command.proofs.OrderParts.{later_inhabited}

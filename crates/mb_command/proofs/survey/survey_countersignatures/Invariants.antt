@@ -1,6 +1,6 @@
 use Rattle.std.specs.Prelude.{◌+◌, ◌-◌, ◌≤◌}
 use Rattle.mb_format.specs.Combinators.{items}
-use Rattle.mb_model.specs.OrderFormat.{countersignature_format, climb_after}
+use Rattle.mb_model.specs.records.OrderFormat.{countersignature_format, climb_after}
 use Rattle.mb_command.proofs.SurveyLoops.{Leads}
 use Rattle.mb_command.proofs.survey.survey_countersignatures.Given as goal
 

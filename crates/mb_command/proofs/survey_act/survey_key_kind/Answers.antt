@@ -1,4 +1,4 @@
-use Rattle.mb_model.specs.EntryFormat.{key_kind_format}
+use Rattle.mb_model.specs.records.EntryFormat.{key_kind_format}
 use Rattle.mb_model.proofs.EntryFormatLaws.{key_kind_exact}
 use Rattle.mb_command.proofs.OrderParts.{key_kind_inhabited, key_kind_local}
 use Rattle.std.proofs.lemmas.Result.{err_from_is_err_and}

@@ -1,8 +1,8 @@
 use Rattle.std.specs.Int.{w8}
 use Rattle.mb_format.specs.Combinators.{listed}
 use Rattle.mb_format.proofs.Bounds.{listed_local}
-use Rattle.mb_model.specs.LayerFormat.{trust_byte}
-use Rattle.mb_model.specs.OrderFormat.{other_rows}
+use Rattle.mb_model.specs.records.LayerFormat.{trust_byte}
+use Rattle.mb_model.specs.records.OrderFormat.{other_rows}
 use Rattle.mb_command.proofs.OrderParts.{other_exact, other_inhabited}
 use Rattle.std.proofs.lemmas.Result.{err_from_is_err_and}
 use Rattle.std.proofs.Common.{arith}

@@ -1,4 +1,4 @@
-use Rattle.mb_model.specs.LayerFormat.{trust_format}
+use Rattle.mb_model.specs.records.LayerFormat.{trust_format}
 use Rattle.mb_model.proofs.KeyFormatLaws.{trust_exact}
 use Rattle.mb_command.proofs.OrderParts.{trust_inhabited, trust_local}
 use Rattle.std.proofs.lemmas.Result.{err_from_is_err_and}

@@ -1,7 +1,7 @@
 use Rattle.std.specs.Int.{w8}
 use Rattle.mb_format.specs.Combinators.{listed}
 use Rattle.mb_format.proofs.Bounds.{listed_local}
-use Rattle.mb_model.specs.OrderFormat.{form_rows, form_byte}
+use Rattle.mb_model.specs.records.OrderFormat.{form_rows, form_byte}
 use Rattle.mb_command.proofs.OrderParts.{form_exact, form_inhabited}
 use Rattle.std.proofs.lemmas.Result.{err_from_is_err_and}
 use Rattle.std.proofs.Common.{arith}

@@ -1,7 +1,7 @@
 use Rattle.std.proofs.lemmas.Result.{err_from_is_err_and}
 use Rattle.std.proofs.Common.{arith, ◌-◌, ◌+◌, Ok, Err}
 use Rattle.mb_format.specs.Combinators.{times}
-use Rattle.mb_model.specs.OrderFormat.{target_format}
+use Rattle.mb_model.specs.records.OrderFormat.{target_format}
 use Rattle.mb_model.proofs.OrderFormatLaws.{target_exact}
 use Rattle.mb_command.specs.Surveys.{NothingTold}
 use Rattle.mb_command.proofs.Inhabited.{times_inhabited}

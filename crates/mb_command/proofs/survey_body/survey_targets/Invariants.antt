@@ -1,6 +1,6 @@
 use Rattle.std.specs.Prelude.{◌-◌}
 use Rattle.mb_format.specs.Combinators.{times}
-use Rattle.mb_model.specs.OrderFormat.{target_format}
+use Rattle.mb_model.specs.records.OrderFormat.{target_format}
 use Rattle.mb_command.proofs.SurveyLoops.{Leads}
 use Rattle.mb_command.proofs.survey_body.survey_targets.Given as goal
 

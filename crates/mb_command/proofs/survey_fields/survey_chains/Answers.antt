@@ -2,8 +2,8 @@ use Rattle.mb_command.specs.Surveys.{IsTold}
 use Rattle.std.specs.Int.{w32}
 use Rattle.std.proofs.lemmas.Result.{err_from_is_err_and}
 use Rattle.mb_format.specs.Combinators.{row_of, table}
-use Rattle.mb_model.specs.Key.{chains_type}
-use Rattle.mb_model.specs.KeyFormat.{chains_rows}
+use Rattle.mb_model.specs.signatures.Key.{chains_type}
+use Rattle.mb_model.specs.records.KeyFormat.{chains_rows}
 use Rattle.mb_command.proofs.OrderParts.{chains_are, chains_numbered}
 use Rattle.mb_command.proofs.Surveying.{forget, table_found, table_stuck}
 use Rattle.mb_command.proofs.survey_fields.survey_chains.Goals as goal

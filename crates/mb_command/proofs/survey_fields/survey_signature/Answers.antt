@@ -4,7 +4,7 @@ use Rattle.std.proofs.lemmas.Result.{err_from_is_err_and}
 use Rattle.std.proofs.Common.{lit<, length}
 use Rattle.mb_format.specs.Combinators.{raw, between, both}
 use Rattle.mb_format.proofs.Fields.{wide16, raw_exact, between_exact}
-use Rattle.mb_model.specs.OrderFormat.{sized_signature_format}
+use Rattle.mb_model.specs.records.OrderFormat.{sized_signature_format}
 use Rattle.mb_command.specs.Surveys.{IsTold}
 use Rattle.mb_command.proofs.Inhabited.{raw_inhabited}
 use Rattle.mb_command.proofs.Surveying.{both_stuck, both_surveys, made_stuck, made_surveys}

@@ -2,8 +2,8 @@ use Rattle.mb_command.specs.Surveys.{IsTold}
 use Rattle.std.specs.Int.{w32}
 use Rattle.std.proofs.lemmas.Result.{err_from_is_err_and}
 use Rattle.mb_format.specs.Combinators.{row_of, table}
-use Rattle.mb_model.specs.Key.{tree_type}
-use Rattle.mb_model.specs.KeyFormat.{tree_rows}
+use Rattle.mb_model.specs.signatures.Key.{tree_type}
+use Rattle.mb_model.specs.records.KeyFormat.{tree_rows}
 use Rattle.mb_command.proofs.OrderParts.{trees_are, tree_numbered}
 use Rattle.mb_command.proofs.Surveying.{forget, table_found, table_stuck}
 use Rattle.mb_command.proofs.survey_fields.survey_tree.Goals as goal

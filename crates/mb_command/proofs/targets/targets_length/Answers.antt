@@ -1,5 +1,5 @@
 use Rattle.std.proofs.Common.{◌∙◌, length, arith}
-use Rattle.mb_model.specs.OrderFormat.{target_format}
+use Rattle.mb_model.specs.records.OrderFormat.{target_format}
 use Rattle.mb_bytes.proofs.Putting.{item_at}
 use Rattle.mb_command.proofs.Lengths.{allowed_at, measured_next, measured_last, length-counted}
 use Rattle.mb_command.proofs.targets.targets_length.Goals as goal

@@ -1,5 +1,5 @@
 use Rattle.std.specs.Prelude.{◌+◌, ◌*◌, ◌≤◌}
-use Rattle.mb_model.specs.OrderFormat.{target_format}
+use Rattle.mb_model.specs.records.OrderFormat.{target_format}
 use Rattle.mb_command.proofs.Lengths.{IsMeasured}
 use Rattle.mb_command.proofs.targets.targets_length.Given as goal
 

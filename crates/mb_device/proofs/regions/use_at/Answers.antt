@@ -1,7 +1,7 @@
 use Rattle.std.proofs.Common.{◌≡◌, ℕ, ◌≤◌, ◌∙◌, true, false, refl, sym, ap, subst, inr, None, Some}
 use Rattle.mb_model.specs.declared.reply.Refusal.TheVariants.{WrongLayer}
 use Rattle.mb_model.specs.declared.reply.Reply.TheVariants as reply
-use Rattle.mb_model.specs.Layers.{is_runnable}
+use Rattle.mb_model.specs.owners.Layers.{is_runnable}
 use Rattle.mb_board.specs.Calls.{held_in, IsUp}
 use Rattle.mb_device.specs.declared.device.Device.{Device}
 use Rattle.mb_device.specs.Regions.{region_named}

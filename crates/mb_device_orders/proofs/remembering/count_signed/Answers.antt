@@ -1,6 +1,6 @@
 use Rattle.std.proofs.Common.{sym, subst, List, ℕ, ◌∙◌}
-use Rattle.mb_model.specs.HeaderFormat.{header_format}
-use Rattle.mb_model.specs.Sectors.{BeginsAs}
+use Rattle.mb_model.specs.records.HeaderFormat.{header_format}
+use Rattle.mb_model.specs.memories.Sectors.{BeginsAs}
 use Rattle.mb_device_orders.proofs.Planned.{read_short}
 use Rattle.mb_device_orders.proofs.remembering.count_signed.Goals as goal
 

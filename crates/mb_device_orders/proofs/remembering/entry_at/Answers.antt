@@ -1,5 +1,5 @@
 use Rattle.std.proofs.Common.{sym, subst, List, ℕ, ◌∙◌}
-use Rattle.mb_model.specs.Flash.{HoldsEntry}
+use Rattle.mb_model.specs.memories.Flash.{HoldsEntry}
 use Rattle.mb_device_orders.proofs.Planned.{read_short}
 use Rattle.mb_device_orders.proofs.remembering.entry_at.Goals as goal
 

@@ -1,6 +1,6 @@
 use Rattle.std.proofs.lemmas.Result.{err_from_is_err_and}
 use Rattle.mb_model.specs.declared.region.Secret.{Secret}
-use Rattle.mb_model.specs.Regions.{region_of}
+use Rattle.mb_model.specs.owners.Regions.{region_of}
 use Rattle.mb_device_regions.specs.Secrets.{secret_of}
 use Rattle.mb_device_regions.proofs.Outcomes.{put_record, put_as, full_for, secret_copied}
 use Rattle.mb_device_regions.proofs.secrets.region_with.Goals as goal

@@ -1,5 +1,5 @@
 use Rattle.std.proofs.Common.{ℕ, Option, sym, subst, ◌∙◌}
-use Rattle.mb_model.specs.Regions.{region_of}
+use Rattle.mb_model.specs.owners.Regions.{region_of}
 use Rattle.mb_signer.specs.Tree.{IsTreeOf}
 use Rattle.mb_outbound.specs.declared.kept.RegionTree.{RegionTree}
 use Rattle.mb_outbound.specs.KeptTrees.{IfKeptFor}

@@ -1,4 +1,4 @@
-use Rattle.mb_model.specs.Regions.{region_of}
+use Rattle.mb_model.specs.owners.Regions.{region_of}
 use Rattle.mb_device_regions.proofs.Readied.{region_held, region_kept, kept_if}
 use Rattle.mb_device_regions.proofs.stored.load.Goals as goal
 

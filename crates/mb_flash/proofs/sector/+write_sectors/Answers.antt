@@ -1,7 +1,7 @@
 use Rattle.std.proofs.Common.{length, ap, ◌∙◌, ◌*◌, ◌+◌, arith}
 use Rattle.mb_slot.proofs.Slotted.{on_ok}
-use Rattle.mb_model.specs.Pieces.{part}
-use Rattle.mb_model.specs.Board.{Memory}
+use Rattle.mb_model.specs.outside.Pieces.{part}
+use Rattle.mb_model.specs.outside.Board.{Memory}
 use Rattle.mb_flash.proofs.Sectored.{both_stand, piece_stands, next_stands}
 use Rattle.mb_flash.proofs.sector.+write_sectors.Goals as goal
 

@@ -1,6 +1,6 @@
 use Rattle.std.proofs.Common.{◌∷◌, [], length, codes}
 use Rattle.std.specs.Fmt.{decimal}
-use Rattle.mb_model.specs.Lines.{spaced_words}
+use Rattle.mb_model.specs.chains.Lines.{spaced_words}
 use Rattle.mb_fleet.specs.Serving.{serial_line}
 use Rattle.mb_fleet.proofs.Texts.{lines_more, lines_ended}
 use Rattle.mb_fleet.proofs.answer.put_found.Goals as goal

@@ -1,6 +1,6 @@
 -- The lines so far, after the first.
 use Rattle.std.proofs.Common.{◌≡◌, ◌++◌, take, map}
-use Rattle.mb_model.specs.Lines.{text_of}
+use Rattle.mb_model.specs.chains.Lines.{text_of}
 use Rattle.mb_fleet.specs.Serving.{serial_line}
 use Rattle.mb_fleet.proofs.answer.put_found.Given as goal
 

@@ -1,6 +1,6 @@
 -- The hashes of the entries so far.
 use Rattle.std.proofs.Common.{◌≡◌, map, take}
-use Rattle.mb_model.specs.Log.{entries_of}
+use Rattle.mb_model.specs.owners.Log.{entries_of}
 use Rattle.mb_fleet.specs.Rows.{entry_hash}
 use Rattle.mb_fleet.proofs.row.hash_entries.Given as goal
 

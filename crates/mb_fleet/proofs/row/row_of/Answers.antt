@@ -1,7 +1,7 @@
 use Rattle.std.proofs.Common.{◌∙◌, sym, arith, ap, length}
 use Rattle.std.proofs.lemmas.List.{length-map}
 use Rattle.mb_model.specs.declared.entry.SignedEntry.{SignedEntry}
-use Rattle.mb_model.specs.Log.{entries_of}
+use Rattle.mb_model.specs.owners.Log.{entries_of}
 use Rattle.mb_verifier.proofs.Verdicts.{entries_spelled, entries_few}
 use Rattle.mb_fleet.specs.Rows.{entry_hash}
 use Rattle.mb_fleet.proofs.Rowing.{has_serial}

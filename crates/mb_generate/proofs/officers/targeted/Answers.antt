@@ -2,7 +2,7 @@ use Rattle.std.proofs.Common.{subst, sym, List, ◌≡◌, [], ◌∷◌, ◌++�
 use Rattle.mb_model.specs.declared.order.Order.{Order}
 use Rattle.mb_model.specs.declared.order.Target.{Target}
 use Rattle.mb_model.specs.declared.order.Target.TheVariants as target
-use Rattle.mb_model.specs.OrderFormat.{order_format}
+use Rattle.mb_model.specs.records.OrderFormat.{order_format}
 use Rattle.mb_generate.proofs.Planning.{targeted_allowed}
 use Rattle.mb_generate.proofs.officers.targeted.Goals as goal
 

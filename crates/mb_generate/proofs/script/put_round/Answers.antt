@@ -1,8 +1,8 @@
 use Rattle.std.proofs.Common.{◌≡◌, ◌-◌, ◌*◌, ℕ, List, [], ◌∷◌, ◌++◌, ap, subst, ◌∙◌}
 use Rattle.std.proofs.lemmas.Result.{on_ok_weaker}
 use Rattle.mb_model.specs.declared.order.Order.{Order}
-use Rattle.mb_model.specs.Texts.{line_with_lf}
-use Rattle.mb_model.specs.OrderLines.{order_line}
+use Rattle.mb_model.specs.outside.Texts.{line_with_lf}
+use Rattle.mb_model.specs.chains.OrderLines.{order_line}
 use Rattle.mb_model_commands.specs.Workload.{round_plan, signed_plan}
 use Rattle.mb_generate.specs.Drawing.{round_of}
 use Rattle.mb_generate.specs.Orders.{AreOfficers}

@@ -1,5 +1,5 @@
 use Rattle.std.proofs.Common.{ℕ, List, ◌++◌, sym, ap, ◌∙◌, append-nil, arith}
-use Rattle.mb_model.specs.Texts.{line_with_lf}
+use Rattle.mb_model.specs.outside.Texts.{line_with_lf}
 use Rattle.mb_model_commands.specs.Workload.{put_line}
 use Rattle.mb_generate.proofs.Scripting.{puts_none, secret_put}
 use Rattle.mb_generate.proofs.script.put_secrets.Goals as goal

@@ -1,5 +1,5 @@
 use Rattle.std.proofs.Common.{◌≡◌, ◌+◌, ◌*◌, ◌≤◌, take, map}
-use Rattle.mb_model.specs.Lines.{text_of}
+use Rattle.mb_model.specs.chains.Lines.{text_of}
 use Rattle.mb_model_commands.specs.Workload.{plans}
 use Rattle.mb_generate.specs.Drawing.{round_of, draws_of}
 use Rattle.mb_generate.specs.Orders.{AreOfficers, HaveUsed}

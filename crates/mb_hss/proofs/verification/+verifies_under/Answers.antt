@@ -1,6 +1,6 @@
 use Rattle.std.proofs.Common.{◌≡◌, ℕ, List, ◌++◌, refl, subst, sym, true, false}
-use Rattle.mb_model.specs.Key.{key_bytes}
-use Rattle.mb_model.specs.Merkle.{Verifies}
+use Rattle.mb_model.specs.signatures.Key.{key_bytes}
+use Rattle.mb_model.specs.signatures.Merkle.{Verifies}
 use Rattle.mb_hss.specs.HssVerification.{VerifiesUnder}
 use Rattle.mb_hss.proofs.VerificationLemmas.{under_last, under_none, under_apart, under_from, whole_text, never}
 use Rattle.mb_hss.proofs.verification.+verifies_under.Goals as goal

@@ -1,6 +1,6 @@
 use Rattle.std.proofs.Common.{◌≡◌, take}
-use Rattle.mb_model.specs.Lives.{alive_keys}
-use Rattle.mb_model.specs.Log.{entries_of}
+use Rattle.mb_model.specs.owners.Lives.{alive_keys}
+use Rattle.mb_model.specs.owners.Log.{entries_of}
 use Rattle.mb_image.specs.Keys.{listed_keys}
 use Rattle.mb_image.proofs.alive.alive_keys.Given as goal
 

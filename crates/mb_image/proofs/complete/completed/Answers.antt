@@ -1,7 +1,7 @@
 use Rattle.std.proofs.Common.{◌++◌, Option, map, sym, ap, ◌∙◌}
-use Rattle.mb_model.specs.OrderEffects.{entry_signed_by}
+use Rattle.mb_model.specs.machine.OrderEffects.{entry_signed_by}
 use Rattle.mb_model.specs.declared.stored.Outgoing.{Outgoing}
-use Rattle.mb_model.specs.StoredLog.{entries_signed_for, log_completed_by}
+use Rattle.mb_model.specs.memories.StoredLog.{entries_signed_for, log_completed_by}
 use Rattle.mb_image.proofs.complete.completed.Goals as goal
 use Rattle.mb_image.proofs.complete.completed.Goals.{in-None+in_ok-push_signed-in-None, in-Some+in_ok-push_handed_over-in-Some}
 

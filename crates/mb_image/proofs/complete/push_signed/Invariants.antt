@@ -1,5 +1,5 @@
 use Rattle.std.proofs.Common.{◌≡◌, ◌≤◌, ◌+◌, ◌*◌, ◌++◌, map, take}
-use Rattle.mb_model.specs.OrderEffects.{entry_signed_by}
+use Rattle.mb_model.specs.machine.OrderEffects.{entry_signed_by}
 use Rattle.mb_image.proofs.complete.push_signed.Given as goal
 
 abbrev pub invariant-loop-entry : goal.invariant-loop-entry

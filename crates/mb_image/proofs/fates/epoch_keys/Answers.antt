@@ -1,7 +1,7 @@
 use Rattle.std.proofs.Common.{rules, ap, ◌∙◌}
 use Rattle.std.specs.Prelude.{filter}
 use Rattle.std.proofs.lemmas.Fn.{filter_same}
-use Rattle.mb_model.specs.Regions.{is_epoch}
+use Rattle.mb_model.specs.owners.Regions.{is_epoch}
 use Rattle.mb_image.proofs.fates.epoch_keys.Goals as goal
 
 pub returns : goal.returns

@@ -1,5 +1,5 @@
 use Rattle.std.proofs.Common.{true≢false, sym, ◌∙◌, arith}
-use Rattle.mb_model.specs.Log.{entries_of}
+use Rattle.mb_model.specs.owners.Log.{entries_of}
 use Rattle.std.proofs.Common.{take}
 use Rattle.mb_image.proofs.Following.{EachFollows-none, EachFollows-more, follows_by, one_fails, figures_next, short_front, figures_nothing}
 use Rattle.mb_image.proofs.log.figures_of.Goals as goal

@@ -1,5 +1,5 @@
 use Rattle.std.proofs.Common.{subst}
-use Rattle.mb_model.specs.Memory.{IsBlank}
+use Rattle.mb_model.specs.memories.Memory.{IsBlank}
 use Rattle.mb_image.proofs.Reading.{root_found}
 use Rattle.mb_image.proofs.memory.root_of.Goals as goal
 

@@ -1,5 +1,5 @@
 use Rattle.std.proofs.Common.{◌≡◌, ◌≤◌, ◌+◌, ◌*◌, map, take}
-use Rattle.mb_model.specs.Valid.{as_made}
+use Rattle.mb_model.specs.memories.Valid.{as_made}
 use Rattle.mb_image.specs.Keys.{listed_keys}
 use Rattle.mb_image.proofs.regions.are_alive.Given as goal
 

@@ -1,10 +1,10 @@
 use Rattle.std.proofs.Common.{◌≡◌, ◌≤◌, List, map, ap, subst, ◌∙◌, arith, length}
 use Rattle.std.specs.Prelude.{◌↔◌, IsTrue}
 use Rattle.mb_model.specs.declared.region.RegionKey.{RegionKey}
-use Rattle.mb_model.specs.Valid.{as_made}
+use Rattle.mb_model.specs.memories.Valid.{as_made}
 use Rattle.mb_image.specs.Keys.{listed_keys}
 use Rattle.mb_model.specs.declared.region.Secret.{Secret}
-use Rattle.mb_model.specs.Log.{entries_of}
+use Rattle.mb_model.specs.owners.Log.{entries_of}
 use Rattle.mb_image.proofs.ValidParts.{AreKept, valid_where}
 use Rattle.mb_image.proofs.regions.is_valid_region.Goals as goal
 

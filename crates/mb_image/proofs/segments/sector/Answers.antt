@@ -1,5 +1,5 @@
 use Rattle.std.proofs.Common.{◌≡◌, ◌+◌, ◌-◌, ◌*◌, ap, ◌∙◌, arith, take, drop}
-use Rattle.mb_model.specs.Flash.{sector}
+use Rattle.mb_model.specs.memories.Flash.{sector}
 use Rattle.mb_image.proofs.segments.sector.Goals as goal
 
 pub returns-clause-found : goal.returns-clause-found

@@ -1,7 +1,7 @@
 use Rattle.std.proofs.Common.{◌≡◌, ap, ◌∙◌, arith}
 use Rattle.mb_format.specs.Format.{IsBytes}
-use Rattle.mb_model.specs.Sectors.{log_sector}
-use Rattle.mb_model.specs.Flash.{sector}
+use Rattle.mb_model.specs.memories.Sectors.{log_sector}
+use Rattle.mb_model.specs.memories.Flash.{sector}
 use Rattle.mb_image.proofs.Sectors.{log_text_short, no_sector, no_entry, found_entry}
 use Rattle.mb_image.proofs.segments.signed_at.Goals as goal
 

@@ -1,6 +1,6 @@
 use Rattle.std.proofs.Common.{true≢false, sym, ◌∙◌}
 use Rattle.mb_model_lemmas.proofs.ValidStates.{follows_is_ruled}
-use Rattle.mb_model.specs.Log.{entries_of}
+use Rattle.mb_model.specs.owners.Log.{entries_of}
 use Rattle.mb_log.proofs.KeyLives.{figures_number}
 use Rattle.mb_image.proofs.Following.{IfOk-weaker}
 use Rattle.mb_image.proofs.Reading.{matched}

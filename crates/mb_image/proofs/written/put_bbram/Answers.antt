@@ -1,5 +1,5 @@
 use Rattle.std.proofs.lemmas.Result.{err_from_is_err_and}
-use Rattle.mb_model.specs.WrittenImage.{written_bbram}
+use Rattle.mb_model.specs.memories.WrittenImage.{written_bbram}
 use Rattle.mb_bytes.proofs.Putting.{puts_stop, puts_stop_later, puts_both}
 use Rattle.mb_image.proofs.written.put_bbram.Goals as goal
 

@@ -1,8 +1,8 @@
 use Rattle.std.proofs.Common.{◌≡◌, ◌∙◌, ℕ, List, ap, length, arith}
 use Rattle.mb_model.specs.declared.entry.SignedEntry.{SignedEntry}
-use Rattle.mb_model.specs.EntryFormat.{entry_format}
-use Rattle.mb_model.specs.HeaderFormat.{log_format}
-use Rattle.mb_model.specs.WrittenFlash.{entry_in_log}
+use Rattle.mb_model.specs.records.EntryFormat.{entry_format}
+use Rattle.mb_model.specs.records.HeaderFormat.{log_format}
+use Rattle.mb_model.specs.memories.WrittenFlash.{entry_in_log}
 use Rattle.mb_model.proofs.FormatBounds.{entry_short}
 use Rattle.mb_model_lemmas.proofs.PublicLemmas.{entry_from_signed}
 use Rattle.mb_model_lemmas.proofs.WrittenLemmas.{entry_some, entry_fits}

@@ -1,7 +1,7 @@
 use Rattle.std.proofs.Common.{ap, sym, subst, length, arith}
 use Rattle.mb_model.specs.declared.stored.Header.{Header}
-use Rattle.mb_model.specs.HeaderFormat.{header_format}
-use Rattle.mb_model.specs.WrittenFlash.{first_header}
+use Rattle.mb_model.specs.records.HeaderFormat.{header_format}
+use Rattle.mb_model.specs.memories.WrittenFlash.{first_header}
 use Rattle.mb_model.proofs.FormatBounds.{header_short}
 use Rattle.mb_model_lemmas.proofs.WrittenLemmas.{first_allowed}
 use Rattle.mb_image.proofs.WrittenSectors.{padded}

@@ -1,5 +1,5 @@
 use Rattle.std.proofs.Common.{ap, length, arith}
-use Rattle.mb_model.specs.WrittenFlash.{sectors_of}
+use Rattle.mb_model.specs.memories.WrittenFlash.{sectors_of}
 use Rattle.mb_model_lemmas.proofs.WrittenLemmas.{length-sectors}
 use Rattle.mb_image.proofs.WrittenSectors.{padded}
 use Rattle.mb_image.proofs.written.put_log_sectors.Goals as goal

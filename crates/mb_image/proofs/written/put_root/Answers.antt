@@ -1,5 +1,5 @@
 use Rattle.std.proofs.Common.{◌∙◌, ap, length, arith}
-use Rattle.mb_model.specs.RootFormat.{root_format}
+use Rattle.mb_model.specs.records.RootFormat.{root_format}
 use Rattle.mb_model.proofs.FormatBounds.{root_short}
 use Rattle.mb_image.proofs.written.put_root.Goals as goal
 

@@ -1,4 +1,4 @@
-use Rattle.mb_model.specs.EntryFormat.{change_format, new_key_format, succession_format, entry_format}
+use Rattle.mb_model.specs.records.EntryFormat.{change_format, new_key_format, succession_format, entry_format}
 use Rattle.mb_bytes.proofs.Putting.{puts_both}
 use Rattle.mb_layout.proofs.entry.put_entry.Goals as goal
 

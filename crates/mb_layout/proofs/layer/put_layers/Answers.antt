@@ -1,4 +1,4 @@
-use Rattle.mb_model.specs.LayerFormat.{layers_format}
+use Rattle.mb_model.specs.records.LayerFormat.{layers_format}
 use Rattle.mb_bytes.proofs.Putting.{puts_both}
 use Rattle.mb_layout.proofs.layer.put_layers.Goals as goal
 

@@ -1,4 +1,4 @@
-use Rattle.mb_model.specs.RegionFormat.{secrets_format, keys_format, region_by, region_format}
+use Rattle.mb_model.specs.records.RegionFormat.{secrets_format, keys_format, region_by, region_format}
 use Rattle.mb_bytes.proofs.Putting.{puts_both}
 use Rattle.mb_layout.proofs.region.put_region.Goals as goal
 

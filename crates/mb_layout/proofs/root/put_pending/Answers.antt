@@ -1,4 +1,4 @@
-use Rattle.mb_model.specs.RootFormat.{pending_format}
+use Rattle.mb_model.specs.records.RootFormat.{pending_format}
 use Rattle.mb_bytes.proofs.Putting.{puts_both}
 use Rattle.mb_layout.proofs.root.put_pending.Goals as goal
 

@@ -1,4 +1,4 @@
-use Rattle.mb_model.specs.RootFormat.{region_key_format}
+use Rattle.mb_model.specs.records.RootFormat.{region_key_format}
 use Rattle.mb_bytes.proofs.Putting.{puts_both}
 use Rattle.mb_layout.proofs.root.put_region_key.Goals as goal
 

@@ -1,5 +1,5 @@
 use Rattle.std.proofs.Common.{arith}
-use Rattle.mb_model.specs.Meaning.{region_after_fate}
+use Rattle.mb_model.specs.memories.Meaning.{region_after_fate}
 use Rattle.mb_layout_edits.proofs.RegionParts.{few_keys}
 use Rattle.mb_layout_edits.proofs.fate.fate_record.Goals as goal
 

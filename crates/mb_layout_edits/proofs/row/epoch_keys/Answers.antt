@@ -1,7 +1,7 @@
 use Rattle.std.proofs.Common.{sym, ◌∙◌}
 use Rattle.std.proofs.lemmas.List.Elements.{filter_more}
 use Rattle.mb_model.specs.declared.region.RegionKey.{RegionKey}
-use Rattle.mb_model.specs.Regions.{is_epoch}
+use Rattle.mb_model.specs.owners.Regions.{is_epoch}
 use Rattle.mb_layout_edits.proofs.Rows.{filter_below}
 use Rattle.mb_layout_edits.proofs.row.epoch_keys.Goals as goal
 

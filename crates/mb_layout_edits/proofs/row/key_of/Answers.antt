@@ -1,5 +1,5 @@
 use Rattle.std.proofs.Common.{sym, ◌∙◌}
-use Rattle.mb_model.specs.LayerEvents.{has_number}
+use Rattle.mb_model.specs.machine.LayerEvents.{has_number}
 use Rattle.mb_bytes.proofs.Putting.{item_at}
 use Rattle.mb_layout_edits.proofs.Rows.{find_here, find_on, find_none}
 use Rattle.mb_layout_edits.proofs.row.key_of.Goals as goal

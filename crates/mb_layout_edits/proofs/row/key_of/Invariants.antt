@@ -1,5 +1,5 @@
 use Rattle.std.proofs.Common.{◌≡◌, find, drop}
-use Rattle.mb_model.specs.LayerEvents.{has_number}
+use Rattle.mb_model.specs.machine.LayerEvents.{has_number}
 use Rattle.mb_layout_edits.proofs.row.key_of.Given as goal
 
 abbrev pub invariant-loop-key : goal.invariant-loop-key

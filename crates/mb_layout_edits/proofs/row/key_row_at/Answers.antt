@@ -3,8 +3,8 @@ use Rattle.std.proofs.lemmas.Result.{err_from_is_err_and}
 use Rattle.std.specs.Prelude.{Some}
 use Rattle.std.specs.Int.{w8}
 use Rattle.mb_format.specs.Combinators.{between}
-use Rattle.mb_model.specs.RootFormat.{region_key_format}
-use Rattle.mb_model.specs.RegionFormat.{keys_format}
+use Rattle.mb_model.specs.records.RootFormat.{region_key_format}
+use Rattle.mb_model.specs.records.RegionFormat.{keys_format}
 use Rattle.mb_bytes.proofs.Reading.{led_ok, reading_goes_on, reading_ends, list_fails_at}
 use Rattle.mb_layout_edits.proofs.row.key_row_at.Goals as goal
 

@@ -1,5 +1,5 @@
 use Rattle.std.proofs.Common.{◌≡◌, length}
-use Rattle.mb_model.specs.RootFormat.{region_key_format}
+use Rattle.mb_model.specs.records.RootFormat.{region_key_format}
 use Rattle.mb_bytes.proofs.Reading.{IsReading}
 use Rattle.mb_layout_edits.proofs.row.key_row_at.Given as goal
 

@@ -1,7 +1,7 @@
 use Rattle.std.proofs.Common.{sym, ap, ◌∙◌, List, ◌++◌, ◌∷◌, [], length, map, take, length-append, arith}
 use Rattle.std.proofs.lemmas.List.{map_more, take_all}
 use Rattle.mb_model.specs.declared.region.RegionKey.{RegionKey}
-use Rattle.mb_model.specs.LayerEvents.{with_use}
+use Rattle.mb_model.specs.machine.LayerEvents.{with_use}
 use Rattle.mb_layout_edits.proofs.Rows.{once_more}
 use Rattle.mb_layout_edits.proofs.row.used_keys.Goals as goal
 

@@ -1,6 +1,6 @@
 use Rattle.std.proofs.Common.{refl}
 use Rattle.mb_format.specs.Combinators.{number_bytes, items}
-use Rattle.mb_model.specs.RegionFormat.{secrets_format}
+use Rattle.mb_model.specs.records.RegionFormat.{secrets_format}
 use Rattle.mb_layout_edits.proofs.stored.no_region.Goals as goal
 
 pub returns : goal.returns

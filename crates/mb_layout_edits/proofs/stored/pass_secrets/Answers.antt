@@ -3,7 +3,7 @@ use Rattle.std.proofs.lemmas.Result.{err_from_is_err_and}
 use Rattle.std.specs.Prelude.{Some}
 use Rattle.std.specs.Int.{w8}
 use Rattle.mb_format.specs.Combinators.{between}
-use Rattle.mb_model.specs.RegionFormat.{secret_format, secrets_format}
+use Rattle.mb_model.specs.records.RegionFormat.{secret_format, secrets_format}
 use Rattle.mb_bytes.proofs.Reading.{led_ok, reading_ends, list_fails_at}
 use Rattle.mb_layout.specs.Uncopied.{secret_in}
 use Rattle.mb_layout_edits.proofs.Walking.{passing_begins, passing_goes_on}

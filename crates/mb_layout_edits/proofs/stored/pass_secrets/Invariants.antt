@@ -1,4 +1,4 @@
-use Rattle.mb_model.specs.RegionFormat.{secret_format}
+use Rattle.mb_model.specs.records.RegionFormat.{secret_format}
 use Rattle.mb_layout_edits.proofs.Walking.{IsPassing}
 use Rattle.mb_layout_edits.proofs.stored.pass_secrets.Given as goal
 

@@ -1,6 +1,6 @@
 use Rattle.std.proofs.Common.{◌∙◌, refl, arith}
 use Rattle.std.proofs.lemmas.Result.{err_from_is_err_and}
-use Rattle.mb_model.specs.RegionFormat.{most_secrets}
+use Rattle.mb_model.specs.records.RegionFormat.{most_secrets}
 use Rattle.mb_model.proofs.RecordFormatLaws.{few_secrets, secrets_exact}
 use Rattle.mb_layout_edits.proofs.Walking.{offsets_ascend}
 use Rattle.mb_layout_edits.proofs.RegionParts.{region_ok, version_fails, secrets_fail, keys_fail, from_start, ok_from_start, secrets_between}

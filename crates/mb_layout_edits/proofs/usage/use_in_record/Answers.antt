@@ -1,5 +1,5 @@
 use Rattle.std.proofs.Common.{sym, ap, ◌∙◌, find, arith}
-use Rattle.mb_model.specs.LayerEvents.{has_number, with_use}
+use Rattle.mb_model.specs.machine.LayerEvents.{has_number, with_use}
 use Rattle.mb_layout_edits.specs.Edits.{region_with_use}
 use Rattle.mb_layout_edits.proofs.RegionParts.{uses_fit}
 use Rattle.mb_layout_edits.proofs.usage.use_in_record.Goals as goal

@@ -1,6 +1,6 @@
 use Rattle.std.proofs.Common.{◌≡◌, ℕ, ◌++◌, List}
 use Rattle.std.specs.Int.{w16, w32, to_be_bytes}
-use Rattle.mb_model.specs.Winternitz.{value_after_count}
+use Rattle.mb_model.specs.signatures.Winternitz.{value_after_count}
 use Rattle.mb_lms.proofs.one_time.chain_end.Given as goal
 
 abbrev pub invariant-loop-n : goal.invariant-loop-n

@@ -1,7 +1,7 @@
 use Rattle.std.proofs.Common.{◌≡◌, ◌-◌, ◌^◌, List, ℕ, subst}
 use Rattle.sha2.specs.Hashers.{Holds256}
-use Rattle.mb_model.specs.Key.{digit_bits}
-use Rattle.mb_model.specs.Winternitz.{coef, value_after_steps, value_at}
+use Rattle.mb_model.specs.signatures.Key.{digit_bits}
+use Rattle.mb_model.specs.signatures.Winternitz.{coef, value_after_steps, value_at}
 use Rattle.mb_lms.proofs.Digits.{ends_begun, ends_grown}
 use Rattle.mb_lms.proofs.one_time.one_time_key.Goals as goal
 

@@ -1,8 +1,8 @@
 use Rattle.std.proofs.Common.{◌++◌}
 use Rattle.std.specs.Int.{w32, to_be_bytes}
 use Rattle.sha2.specs.Hashers.{Holds256}
-use Rattle.mb_model.specs.Key.{digit_bits}
-use Rattle.mb_model.specs.Winternitz.{one_time_key_mark, chain_ends}
+use Rattle.mb_model.specs.signatures.Key.{digit_bits}
+use Rattle.mb_model.specs.signatures.Winternitz.{one_time_key_mark, chain_ends}
 use Rattle.mb_lms.proofs.one_time.one_time_key.Given as goal
 
 abbrev pub invariant-loop-i : goal.invariant-loop-i

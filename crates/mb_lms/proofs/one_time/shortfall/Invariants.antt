@@ -1,6 +1,6 @@
 use Rattle.std.proofs.Common.{◌≡◌, ◌*◌, ◌≤◌}
-use Rattle.mb_model.specs.Key.{digit_bits}
-use Rattle.mb_model.specs.Winternitz.{shortfall}
+use Rattle.mb_model.specs.signatures.Key.{digit_bits}
+use Rattle.mb_model.specs.signatures.Winternitz.{shortfall}
 use Rattle.mb_lms.proofs.one_time.shortfall.Given as goal
 
 abbrev pub invariant-loop-i : goal.invariant-loop-i

@@ -1,5 +1,5 @@
 use Rattle.std.proofs.Common.{◌≡◌, ◌-◌, ◌*◌, drop}
-use Rattle.mb_model.specs.Merkle.{climb}
+use Rattle.mb_model.specs.signatures.Merkle.{climb}
 use Rattle.mb_lms.proofs.tree.climb.Given as goal
 
 abbrev pub invariant-loop-level : goal.invariant-loop-level

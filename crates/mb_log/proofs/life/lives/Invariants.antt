@@ -1,6 +1,6 @@
 -- The figures and the life are those of the entries so far.
 use Rattle.std.proofs.Common.{◌≡◌, take}
-use Rattle.mb_model.specs.Log.{figures_of, entries_of, RuledLog}
+use Rattle.mb_model.specs.owners.Log.{figures_of, entries_of, RuledLog}
 use Rattle.mb_log.specs.KeyLife.{IsLifeOf}
 use Rattle.mb_log.proofs.life.lives.Given as goal
 

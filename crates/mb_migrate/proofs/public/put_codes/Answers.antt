@@ -1,5 +1,5 @@
 use Rattle.std.proofs.lemmas.Result.{err_from_is_err_and}
-use Rattle.mb_model.specs.PublicRecord.{code_format, codes_format}
+use Rattle.mb_model.specs.memories.PublicRecord.{code_format, codes_format}
 use Rattle.mb_bytes.proofs.Putting.{puts_both, puts_stop, puts_stop_later}
 use Rattle.mb_migrate.proofs.public.put_codes.Goals as goal
 

@@ -1,5 +1,5 @@
 use Rattle.std.proofs.Common.{◌≡◌, ◌*◌, ◌+◌, ◌-◌, ap, ◌∙◌, arith, take, drop}
-use Rattle.mb_model.specs.OldFlash.{flash_area}
+use Rattle.mb_model.specs.memories.OldFlash.{flash_area}
 use Rattle.mb_migrate.proofs.stored.flash_area.Goals as goal
 
 pub returns : goal.returns

@@ -2,7 +2,7 @@ use Rattle.std.proofs.Common.{arith}
 use Rattle.mb_format.proofs.Whole.{IsClearWhole-from_exact}
 use Rattle.mb_model.proofs.KeyFormatLaws.{public_key_exact, keyfile_exact}
 use Rattle.mb_model.proofs.EntryFormatLaws.{chain_exact}
-use Rattle.mb_model.specs.Migration.{from_present, from_before}
+use Rattle.mb_model.specs.memories.Migration.{from_present, from_before}
 use Rattle.mb_model_lemmas.proofs.FaultLemmas as faults
 use Rattle.mb_model_laws.proofs.ClearTexts as texts
 use Rattle.mb_model_laws.proofs.inputs.inputs_are_clear.Goals as goal

@@ -1,4 +1,4 @@
-use Rattle.mb_model.specs.OldFlash.{HeldPublic}
+use Rattle.mb_model.specs.memories.OldFlash.{HeldPublic}
 use Rattle.mb_model_lemmas.proofs.FaultLemmas.{one_fault_by, no_fault_by, formed_or_faulty_by, one_state_by}
 use Rattle.mb_model_lemmas.proofs.OldFlashLemmas.{old_holds_one, old_parts_fit}
 use Rattle.mb_model_laws.proofs.meaning.old_images_are_clear.Goals as goal

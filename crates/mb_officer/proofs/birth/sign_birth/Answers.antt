@@ -1,5 +1,5 @@
 use Rattle.std.proofs.Common.{List, ◌++◌, ℕ, arith, ap, ◌∙◌}
-use Rattle.mb_model.specs.EntryFormat.{entry_format}
+use Rattle.mb_model.specs.records.EntryFormat.{entry_format}
 use Rattle.mb_model.proofs.FormatBounds.{entry_short}
 use Rattle.mb_image.proofs.Writing.{writes_never_fail}
 use Rattle.mb_officer.proofs.Births.{birth_signed}

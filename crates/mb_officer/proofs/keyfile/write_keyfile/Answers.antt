@@ -1,6 +1,6 @@
 use Rattle.std.proofs.Common.{rules, ◌≡◌, length, ℕ, List, ◌++◌, take, arith, ap, ◌∙◌}
 use Rattle.std.specs.Int.{w32, to_be_bytes}
-use Rattle.mb_model.specs.KeyFormat.{keyfile_word, key_seed_format, keyfile_format}
+use Rattle.mb_model.specs.records.KeyFormat.{keyfile_word, key_seed_format, keyfile_format}
 use Rattle.mb_format.specs.Combinators.{number_bytes}
 use Rattle.mb_bytes.proofs.InPlace.{joined, whole}
 use Rattle.mb_officer.proofs.keyfile.write_keyfile.Goals as goal

@@ -1,7 +1,7 @@
 use Rattle.std.proofs.Common.{List, ℕ, ◌∷◌, [], subst, sym}
 use Rattle.std.proofs.lemmas.Result.{err_from_is_err_and}
-use Rattle.mb_model.specs.Texts.{IsHex}
-use Rattle.mb_model.specs.OrderLines.{IsOrderLine}
+use Rattle.mb_model.specs.outside.Texts.{IsHex}
+use Rattle.mb_model.specs.chains.OrderLines.{IsOrderLine}
 use Rattle.mb_words.proofs.Parts.{passed}
 use Rattle.mb_officer.proofs.OrderTexts.{line_hex, line_finds}
 use Rattle.mb_officer.proofs.order_line.order_in.Goals as goal

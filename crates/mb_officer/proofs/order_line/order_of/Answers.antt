@@ -1,6 +1,6 @@
 use Rattle.std.proofs.Common.{arith, subst}
 use Rattle.mb_format.specs.Format.{IsBytes}
-use Rattle.mb_model.specs.OrderFormat.{order_format}
+use Rattle.mb_model.specs.records.OrderFormat.{order_format}
 use Rattle.mb_model.proofs.OrderFormatLaws.{order_exact}
 use Rattle.mb_bytes.specs.Reads.{FailsWholeAt}
 use Rattle.mb_command.specs.declared.end.OrderEnd.{OrderEnd}

@@ -1,7 +1,7 @@
 use Rattle.std.proofs.Common.{◌∷◌, [], sym, ◌∙◌, arith}
 use Rattle.std.proofs.lemmas.Bool.{eqb-true, eqb-false}
 use Rattle.std.proofs.lemmas.List.{nil_from_length}
-use Rattle.mb_model.specs.OrderLines.{IsOrderLine}
+use Rattle.mb_model.specs.chains.OrderLines.{IsOrderLine}
 use Rattle.mb_model_lemmas.proofs.OrderLineLemmas.{order_one}
 use Rattle.mb_words.proofs.OneLine.{no_line, first_wrong, second_wrong, none_found}
 use Rattle.mb_officer.proofs.OrderTexts.{order_alone}

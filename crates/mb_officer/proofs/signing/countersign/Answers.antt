@@ -1,7 +1,7 @@
 use Rattle.std.proofs.Common.{List, [], ◌∷◌, length, sym, ap, subst, ◌∙◌, arith, length-append}
 use Rattle.mb_model.specs.declared.order.Countersignature.{Countersignature}
-use Rattle.mb_model.specs.OrderFormat.{order_format}
-use Rattle.mb_model.specs.Signing.{signature_of}
+use Rattle.mb_model.specs.records.OrderFormat.{order_format}
+use Rattle.mb_model.specs.signatures.Signing.{signature_of}
 use Rattle.mb_officer.proofs.Signatures.{countersigned_is, countersigned_allowed, at_most_one}
 use Rattle.mb_officer.proofs.signing.countersign.Goals as goal
 

@@ -1,5 +1,5 @@
 use Rattle.std.proofs.Common.{◌∷◌, ap, ◌∙◌}
-use Rattle.mb_model.specs.Signing.{signature_of}
+use Rattle.mb_model.specs.signatures.Signing.{signature_of}
 use Rattle.mb_officer.proofs.Signatures.{signed_is, signed_allowed}
 use Rattle.mb_officer.proofs.signing.sign_order.Goals as goal
 

@@ -1,8 +1,8 @@
 use Rattle.std.proofs.Common.{List, ℕ, ◌≤◌, ◌∷◌, [], length}
 use Rattle.std.specs.Prelude.{codes}
 use Rattle.std.proofs.lemmas.Result.{err_from_is_err_and}
-use Rattle.mb_model.specs.Texts.{IsHex}
-use Rattle.mb_model.specs.Script.{EndsInHex}
+use Rattle.mb_model.specs.outside.Texts.{IsHex}
+use Rattle.mb_model.specs.chains.Script.{EndsInHex}
 use Rattle.mb_words.proofs.Parts.{passed}
 use Rattle.mb_officer.proofs.Wording.{hex_word}
 use Rattle.mb_officer.proofs.words.read_code.Goals as goal

@@ -1,6 +1,6 @@
 use Rattle.std.proofs.Common.{sym, subst, List, ℕ, ◌++◌}
 use Rattle.std.specs.Prelude.{codes}
-use Rattle.mb_model.specs.Drafts.{SaysTarget}
+use Rattle.mb_model.specs.chains.Drafts.{SaysTarget}
 use Rattle.mb_words.specs.Words.{FindsSome}
 use Rattle.mb_officer.proofs.words.read_demand.Goals as goal
 

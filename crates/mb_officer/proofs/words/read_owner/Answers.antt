@@ -1,5 +1,5 @@
 use Rattle.std.specs.Prelude.{codes}
-use Rattle.mb_model.specs.Key.{key_bytes}
+use Rattle.mb_model.specs.signatures.Key.{key_bytes}
 use Rattle.mb_model.proofs.KeyLemmas.{length-key_bytes}
 use Rattle.mb_officer.proofs.Wording.{hex_word}
 use Rattle.mb_officer.proofs.words.read_owner.Goals as goal

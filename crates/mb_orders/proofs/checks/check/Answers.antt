@@ -1,8 +1,8 @@
 use Rattle.std.proofs.Common.{rules, ◌≡◌, ℕ, List, subst}
 use Prim.{search}
 use Rattle.mb_model.specs.declared.order.Countersignature.{Countersignature}
-use Rattle.mb_model.specs.OrderFormat.{order_body}
-use Rattle.mb_model.specs.Rules.{IsFirstFailing}
+use Rattle.mb_model.specs.records.OrderFormat.{order_body}
+use Rattle.mb_model.specs.owners.Rules.{IsFirstFailing}
 use Rattle.mb_orders.specs.Judging.{IsCountersignedOver}
 use Rattle.mb_orders.proofs.checks.check.Goals as goal
 

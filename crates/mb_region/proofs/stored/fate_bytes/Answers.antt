@@ -1,6 +1,6 @@
 use Rattle.std.proofs.Common.{◌∙◌, arith}
 use Rattle.mb_model.specs.declared.region.Region.{Region}
-use Rattle.mb_model.specs.Meaning.{region_after_fate}
+use Rattle.mb_model.specs.memories.Meaning.{region_after_fate}
 use Rattle.mb_region.proofs.Replaced.{no_bytes_held, record_short, fated_stands, still_stands, bytes_read}
 use Rattle.mb_region.proofs.stored.fate_bytes.Goals as goal
 

@@ -1,5 +1,5 @@
 use Rattle.std.proofs.Common.{◌≡◌, ◌∙◌, sym, arith, true≢false}
-use Rattle.mb_model.specs.Regions.{empty_region}
+use Rattle.mb_model.specs.owners.Regions.{empty_region}
 use Rattle.mb_region.proofs.Replaced.{record_written, stands_written, record_short}
 use Rattle.mb_region.proofs.stored.region_bytes.Goals as goal
 

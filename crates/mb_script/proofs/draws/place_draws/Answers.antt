@@ -1,7 +1,7 @@
 use Rattle.std.proofs.Common.{◌≡◌, ◌≤◌, ◌*◌, length, ap, ◌∙◌, arith}
 use Rattle.std.proofs.Math.ListN.{length-set}
 use Rattle.mb_model.specs.declared.event.Event.TheVariants as event
-use Rattle.mb_model.specs.Script.{commands_in}
+use Rattle.mb_model.specs.chains.Script.{commands_in}
 use Rattle.mb_script.proofs.Drawings.{draws_begin, drawn_count, draw_left, place_one}
 use Rattle.mb_script.proofs.draws.place_draws.Goals as goal
 

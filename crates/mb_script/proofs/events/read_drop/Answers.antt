@@ -1,7 +1,7 @@
 use Rattle.std.proofs.Common.{List, ℕ, ◌++◌}
 use Rattle.std.specs.Prelude.{codes}
 use Rattle.std.proofs.lemmas.Result.{err_from_is_err_and}
-use Rattle.mb_model.specs.Script.{SaysEvent}
+use Rattle.mb_model.specs.chains.Script.{SaysEvent}
 use Rattle.mb_script.specs.Reading.{SaysSecret}
 use Rattle.mb_words.proofs.Parts.{passed}
 use Rattle.mb_script.proofs.LineKinds.{drop_says}

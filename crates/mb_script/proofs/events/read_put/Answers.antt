@@ -1,8 +1,8 @@
 use Rattle.std.proofs.Common.{List, ℕ, ◌++◌, sym, subst}
 use Rattle.std.specs.Prelude.{codes}
 use Rattle.std.proofs.lemmas.Result.{err_from_is_err_and}
-use Rattle.mb_model.specs.Texts.{IsHex}
-use Rattle.mb_model.specs.Script.{SaysEvent, FitsMessage}
+use Rattle.mb_model.specs.outside.Texts.{IsHex}
+use Rattle.mb_model.specs.chains.Script.{SaysEvent, FitsMessage}
 use Rattle.mb_words.proofs.Parts.{passed}
 use Rattle.mb_script.proofs.Parts.{put_name, put_word}
 use Rattle.mb_script.proofs.LineKinds.{put_says}

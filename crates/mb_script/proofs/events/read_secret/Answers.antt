@@ -1,5 +1,5 @@
 use Rattle.std.proofs.Common.{sym, subst, List, ℕ}
-use Rattle.mb_model.specs.Script.{IsName}
+use Rattle.mb_model.specs.chains.Script.{IsName}
 use Rattle.mb_words.proofs.Parts.{clash}
 use Rattle.mb_script.proofs.Parts.{secret_name}
 use Rattle.mb_script.proofs.events.read_secret.Goals as goal

@@ -1,6 +1,6 @@
 use Rattle.std.proofs.Common.{◌∷◌, ◌++◌}
 use Rattle.std.proofs.lemmas.Result.{err_from_is_err_and}
-use Rattle.mb_model.specs.Replies.{standing_word}
+use Rattle.mb_model.specs.chains.Replies.{standing_word}
 use Rattle.mb_bytes.proofs.Putting.{puts_stop, puts_stop_later}
 use Rattle.mb_script.proofs.Written.{puts_after}
 use Rattle.mb_script.proofs.replies.put_layers.Goals as goal

@@ -1,7 +1,7 @@
 use Rattle.std.proofs.Common.{◌∷◌, ◌++◌}
 use Rattle.std.specs.Prelude.{codes}
 use Rattle.std.specs.Fmt.{decimal}
-use Rattle.mb_model.specs.Lines.{hex_word}
+use Rattle.mb_model.specs.chains.Lines.{hex_word}
 use Rattle.mb_script.proofs.Written.{puts_after}
 use Rattle.mb_script.proofs.replies.put_signed.Goals as goal
 

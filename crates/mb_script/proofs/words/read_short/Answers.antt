@@ -1,7 +1,7 @@
 use Rattle.std.proofs.Common.{List, ℕ}
 use Rattle.std.proofs.lemmas.Result.{err_from_is_err_and}
-use Rattle.mb_model.specs.Texts.{IsHex}
-use Rattle.mb_model.specs.Script.{FitsMessage}
+use Rattle.mb_model.specs.outside.Texts.{IsHex}
+use Rattle.mb_model.specs.chains.Script.{FitsMessage}
 use Rattle.mb_words.proofs.Parts.{passed}
 use Rattle.mb_script.proofs.words.read_short.Goals as goal
 

@@ -1,5 +1,5 @@
 use Rattle.std.proofs.Common.{sym, subst, List, ℕ}
-use Rattle.mb_model.specs.Script.{IsName}
+use Rattle.mb_model.specs.chains.Script.{IsName}
 use Rattle.mb_words.proofs.Parts.{clash}
 use Rattle.mb_script.proofs.Parts.{name_word, name_none}
 use Rattle.mb_script.proofs.words.split_name.Goals as goal

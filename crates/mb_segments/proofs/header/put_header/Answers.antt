@@ -1,4 +1,4 @@
-use Rattle.mb_model.specs.HeaderFormat.{header_format}
+use Rattle.mb_model.specs.records.HeaderFormat.{header_format}
 use Rattle.mb_bytes.proofs.Putting.{puts_both}
 use Rattle.mb_segments.proofs.header.put_header.Goals as goal
 

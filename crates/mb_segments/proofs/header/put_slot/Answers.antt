@@ -1,4 +1,4 @@
-use Rattle.mb_model.specs.HeaderFormat.{slot_format}
+use Rattle.mb_model.specs.records.HeaderFormat.{slot_format}
 use Rattle.mb_bytes.proofs.Putting.{puts_both}
 use Rattle.mb_segments.proofs.Spelled.{code_length_spelling}
 use Rattle.mb_segments.proofs.header.put_slot.Goals as goal

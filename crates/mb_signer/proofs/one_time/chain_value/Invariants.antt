@@ -1,6 +1,6 @@
 use Rattle.std.proofs.Common.{◌≡◌, ◌+◌}
-use Rattle.mb_model.specs.Winternitz.{value_after_count}
-use Rattle.mb_model.specs.Signing.{private_value}
+use Rattle.mb_model.specs.signatures.Winternitz.{value_after_count}
+use Rattle.mb_model.specs.signatures.Signing.{private_value}
 use Rattle.mb_signer.proofs.one_time.chain_value.Given as goal
 
 abbrev pub invariant-loop-step : goal.invariant-loop-step

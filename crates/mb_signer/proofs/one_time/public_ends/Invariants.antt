@@ -1,5 +1,5 @@
 use Rattle.std.proofs.Common.{◌≡◌, ◌+◌, ◌*◌, length, take}
-use Rattle.mb_model.specs.Signing.{public_ends}
+use Rattle.mb_model.specs.signatures.Signing.{public_ends}
 use Rattle.mb_signer.proofs.one_time.public_ends.Given as goal
 
 abbrev pub invariant-loop-chain : goal.invariant-loop-chain

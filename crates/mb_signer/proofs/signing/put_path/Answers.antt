@@ -1,5 +1,5 @@
 use Rattle.std.proofs.Common.{rules, ◌≡◌, ◌+◌, ◌*◌, ◌∙◌, take, length, arith}
-use Rattle.mb_model.specs.Signing.{path_from}
+use Rattle.mb_model.specs.signatures.Signing.{path_from}
 use Rattle.mb_signer.proofs.Paths.{path_none, path_next}
 use Rattle.mb_bytes.proofs.InPlace.{begun, grown, whole}
 use Rattle.mb_signer.proofs.signing.put_path.Goals as goal

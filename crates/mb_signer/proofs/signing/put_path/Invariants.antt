@@ -1,6 +1,6 @@
 use Rattle.std.proofs.Common.{◌≡◌, ◌+◌, ◌*◌, ◌++◌, length, take}
 use Rattle.mb_model.specs.declared.key.KeySeed.{KeySeed}
-use Rattle.mb_model.specs.Signing.{path_from}
+use Rattle.mb_model.specs.signatures.Signing.{path_from}
 use Rattle.mb_signer.specs.Tree.{IsTreeOf}
 use Rattle.mb_signer.proofs.signing.put_path.Given as goal
 

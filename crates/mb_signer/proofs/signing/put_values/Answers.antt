@@ -1,5 +1,5 @@
 use Rattle.std.proofs.Common.{rules, ◌≡◌, ◌+◌, ◌*◌, take, length, arith}
-use Rattle.mb_model.specs.Signing.{signed_values}
+use Rattle.mb_model.specs.signatures.Signing.{signed_values}
 use Rattle.mb_signer.proofs.Chains.{signed_none, signed_next}
 use Rattle.mb_bytes.proofs.InPlace.{begun, grown}
 use Rattle.mb_signer.proofs.signing.put_values.Goals as goal

@@ -1,5 +1,5 @@
 use Rattle.std.proofs.Common.{◌≡◌, ◌+◌, ◌*◌, ◌≤◌, ◌++◌, length, take}
-use Rattle.mb_model.specs.Signing.{signed_values}
+use Rattle.mb_model.specs.signatures.Signing.{signed_values}
 use Rattle.mb_signer.proofs.signing.put_values.Given as goal
 
 abbrev pub invariant-loop-chain : goal.invariant-loop-chain

@@ -1,6 +1,6 @@
 use Rattle.std.proofs.Common.{◌≡◌, ℕ, refl, sym, subst}
 use Rattle.std.proofs.lemmas.List.Elements.{All-replicate}
-use Rattle.mb_model.specs.Memory.{IsBlank}
+use Rattle.mb_model.specs.memories.Memory.{IsBlank}
 use Rattle.mb_slot.proofs.Slotted.{on_ok, but_other, agree_besides, other_other}
 use Rattle.mb_slot.proofs.slot.wipe_other.Goals as goal
 

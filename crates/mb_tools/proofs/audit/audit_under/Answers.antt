@@ -1,6 +1,6 @@
 use Rattle.std.proofs.Common.{ℕ, List, Some, None, Err, refl, sym, subst}
 use Rattle.std.proofs.lemmas.Result.{err_from_is_err_and}
-use Rattle.mb_model.specs.Valid.{Valid}
+use Rattle.mb_model.specs.memories.Valid.{Valid}
 use Rattle.mb_model_commands.specs.Inputs.{chain_bytes_input}
 use Rattle.mb_model_commands.specs.AuditCommand.{audit_chain, audit_under}
 use Rattle.mb_model_commands.specs.Commands.{at_first}

@@ -1,5 +1,5 @@
 use Rattle.std.proofs.Common.{Err, sym, subst}
-use Rattle.mb_model.specs.Valid.{Valid}
+use Rattle.mb_model.specs.memories.Valid.{Valid}
 use Rattle.mb_model_commands.specs.ChainCommands.{chain_of}
 use Rattle.mb_model_memory.specs.Storable.{Storable}
 use Rattle.mb_tools.specs.Names.{chain_files}

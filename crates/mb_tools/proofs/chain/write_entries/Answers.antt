@@ -1,6 +1,6 @@
 use Rattle.std.proofs.Common.{ℕ, List, ◌++◌, length, ◌∙◌, ap}
 use Rattle.mb_model.specs.declared.entry.SignedEntry.{SignedEntry}
-use Rattle.mb_model.specs.ChainFormat.{chain_format}
+use Rattle.mb_model.specs.records.ChainFormat.{chain_format}
 use Rattle.mb_model_commands.specs.ChainCommands.{entries_text}
 use Rattle.mb_tools.proofs.ChainLemmas.{entries_written, entries_lack}
 use Rattle.mb_tools.proofs.chain.write_entries.Goals as goal

@@ -1,6 +1,6 @@
 use Rattle.std.proofs.Common.{List, ℕ, Err, refl, ap, subst}
 use Rattle.std.proofs.lemmas.Result.{err_from_is_err_and}
-use Rattle.mb_model.specs.Factory.{IsFactoryImage}
+use Rattle.mb_model.specs.memories.Factory.{IsFactoryImage}
 use Rattle.mb_model_commands.specs.Inputs.{code_input}
 use Rattle.mb_model_commands.specs.Commands.{at_first}
 use Rattle.mb_tools.specs.Names.{factory_files}

@@ -1,6 +1,6 @@
 use Rattle.std.proofs.Common.{Err, refl, ap}
 use Rattle.std.proofs.lemmas.Result.{err_from_is_err_and}
-use Rattle.mb_model.specs.SignedOrders.{IsCountersignable}
+use Rattle.mb_model.specs.machine.SignedOrders.{IsCountersignable}
 use Rattle.mb_model_commands.specs.Inputs.{order_input}
 use Rattle.mb_model_commands.specs.Commands.{at_first}
 use Rattle.mb_tools.specs.Names.{countersign_files}

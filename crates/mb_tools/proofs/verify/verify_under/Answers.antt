@@ -1,6 +1,6 @@
 use Rattle.std.proofs.Common.{ℕ, List, refl, subst}
 use Rattle.std.proofs.lemmas.Result.{err_from_is_err_and}
-use Rattle.mb_model.specs.Acceptance.{Accepts, IsRefused}
+use Rattle.mb_model.specs.chains.Acceptance.{Accepts, IsRefused}
 use Rattle.mb_model_commands.specs.Inputs.{chain_bytes_input}
 use Rattle.mb_model_commands.specs.VerifyCommand.{verify_chain}
 use Rattle.mb_model_commands.specs.Commands.{at_first}

@@ -1,6 +1,6 @@
 use Rattle.std.proofs.Common.{ℕ, List, Some, None, Err, refl, sym, subst}
 use Rattle.std.proofs.lemmas.Result.{err_from_is_err_and}
-use Rattle.mb_model.specs.Valid.{Valid}
+use Rattle.mb_model.specs.memories.Valid.{Valid}
 use Rattle.mb_model_commands.specs.Commands.{at_first}
 use Rattle.mb_model_memory.specs.Storable.{Storable}
 use Rattle.mb_console.specs.Ending.{CarriesOut}

@@ -1,5 +1,5 @@
 use Rattle.std.proofs.Common.{arith}
-use Rattle.mb_model.specs.Layers.{Runnable}
+use Rattle.mb_model.specs.owners.Layers.{Runnable}
 use Rattle.mb_tools_app.specs.Names.{app_files}
 use Rattle.mb_tools_app.proofs.AppLemmas.{layer_may_not_run, layer_runs, run_lacks}
 use Rattle.mb_tools_app.proofs.app.run_stored_code.Goals as goal

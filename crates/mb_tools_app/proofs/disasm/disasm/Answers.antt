@@ -1,6 +1,6 @@
 use Rattle.std.proofs.Common.{ℕ, List, map, refl, ◌∙◌, codes, subst}
 use Rattle.std.proofs.lemmas.Result.{err_from_is_err_and}
-use Rattle.mb_model.specs.Lines.{text_of}
+use Rattle.mb_model.specs.chains.Lines.{text_of}
 use Rattle.mb_model_commands.specs.Commands.{at_first}
 use Rattle.mb_console.specs.Ending.{CarriesOut}
 use Rattle.mb_console.proofs.CommandLemmas.{input_carried_out, read_on}

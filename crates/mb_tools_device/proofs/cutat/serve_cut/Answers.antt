@@ -1,8 +1,8 @@
 use Rattle.std.proofs.Common.{◌≡◌, List, length, arith, inl, inr, refl, sym, ◌∙◌, ap, subst}
 use Rattle.mb_model.specs.declared.event.Event.{Event}
-use Rattle.mb_model.specs.Machine.{opening_world}
+use Rattle.mb_model.specs.machine.Machine.{opening_world}
 use Rattle.mb_board.specs.Calls.{Seen}
-use Rattle.mb_model.specs.Board.{Used, IsLoaded, image_of, use_of, loaded_once_more, having_answered}
+use Rattle.mb_model.specs.outside.Board.{Used, IsLoaded, image_of, use_of, loaded_once_more, having_answered}
 use Rattle.mb_model_commands.specs.Commands.{serve}
 use Rattle.mb_model_commands.specs.RunCommand.{IsServed}
 use Rattle.mb_console.proofs.CommandLemmas.{memory_unloaded, load_goes, serve_goes}

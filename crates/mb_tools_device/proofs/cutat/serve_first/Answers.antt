@@ -1,8 +1,8 @@
 use Rattle.std.proofs.Common.{◌≡◌, true, false, List, inl, length, refl, sym, ◌∙◌, ap, subst, arith, length-append, inr}
 use Rattle.mb_model.specs.declared.event.Answered.{Answered}
-use Rattle.mb_model.specs.Machine.{opening_world}
+use Rattle.mb_model.specs.machine.Machine.{opening_world}
 use Rattle.mb_board.specs.Calls.{Seen}
-use Rattle.mb_model.specs.Board.{Ledger, Used, IsLoaded, image_of, not_used, use_of, having_answered}
+use Rattle.mb_model.specs.outside.Board.{Ledger, Used, IsLoaded, image_of, not_used, use_of, having_answered}
 use Rattle.mb_model_commands.specs.Commands.{at_first, load, rehearse, serve}
 use Rattle.mb_console.specs.Ending.{CarriesOutRest}
 use Rattle.mb_console.proofs.CommandLemmas.{memory_unloaded}

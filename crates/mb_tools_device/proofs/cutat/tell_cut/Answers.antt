@@ -1,6 +1,6 @@
 use Rattle.std.proofs.Common.{◌≡◌, true, false, List, length, sym, ◌∙◌, ap, subst, arith, length-append}
 use Rattle.mb_model.specs.declared.event.Answered.{Answered}
-use Rattle.mb_model.specs.Board.{use_of}
+use Rattle.mb_model.specs.outside.Board.{use_of}
 use Rattle.mb_tools_device.specs.CutCommand.{AnyLacksMemory, LastIsStopped}
 use Rattle.mb_tools_device.proofs.Buffers.{filled_whole}
 use Rattle.mb_tools_device.proofs.CutLemmas.{cut_lacks, cut_unstopped, cut_stopped}

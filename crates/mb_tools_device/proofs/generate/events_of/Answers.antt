@@ -1,6 +1,6 @@
 use Rattle.std.proofs.Common.{◌≤◌, Err, length, sym, ap, ◌∙◌, subst}
-use Rattle.mb_model.specs.Lines.{ReadsLines, TextFailsAtLine}
-use Rattle.mb_model.specs.Script.{IsScript, IsShortNoise}
+use Rattle.mb_model.specs.chains.Lines.{ReadsLines, TextFailsAtLine}
+use Rattle.mb_model.specs.chains.Script.{IsScript, IsShortNoise}
 use Rattle.mb_script.specs.Reading.{ReadsScript}
 use Rattle.mb_model_lemmas.proofs.ScriptLemmas.{IsScript-events}
 use Rattle.mb_model_lemmas.proofs.DrawLemmas.{drawn-length, drawn-script}

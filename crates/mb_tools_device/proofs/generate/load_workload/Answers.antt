@@ -1,9 +1,9 @@
 use Rattle.std.proofs.Common.{◌≡◌, Some, Ok, Err, ◌∙◌, sym, ap, subst, length, length-append, arith, inl, inr}
 use Rattle.std.proofs.lemmas.Result.{err_from_is_err_and}
-use Rattle.mb_model.specs.Acknowledged.{Shows}
-use Rattle.mb_model.specs.Machine.{opening_world}
+use Rattle.mb_model.specs.memories.Acknowledged.{Shows}
+use Rattle.mb_model.specs.machine.Machine.{opening_world}
 use Rattle.mb_board.specs.Calls.{Seen}
-use Rattle.mb_model.specs.Board.{Used, not_used, use_of, having_answered}
+use Rattle.mb_model.specs.outside.Board.{Used, not_used, use_of, having_answered}
 use Rattle.mb_tools_device.specs.Names.{generate_files}
 use Rattle.mb_tools_device.proofs.RunLemmas.{loaded_shows, loaded_between, loaded_once, served_once, answered_count, loaded_use, served_whole}
 use Rattle.mb_tools_device.proofs.GenerateLemmas.{new_state, new_image, none_made, files_not_written, workload_served}

@@ -2,10 +2,10 @@ use Rattle.std.proofs.Common.{◌≡◌, true, false, length, refl, sym, ◌∙�
 use Rattle.std.specs.Prelude.{Any}
 use Rattle.mb_model.specs.declared.reply.Reply.TheVariants as reply
 use Rattle.sha2.specs.Sha256.{sha256}
-use Rattle.mb_model.specs.Lines.{text_of}
-use Rattle.mb_model.specs.Listing.{summary}
-use Rattle.mb_model.specs.Board.{Memory, image_of, use_of}
-use Rattle.mb_model.specs.Meaning.{StandsFor}
+use Rattle.mb_model.specs.chains.Lines.{text_of}
+use Rattle.mb_model.specs.chains.Listing.{summary}
+use Rattle.mb_model.specs.outside.Board.{Memory, image_of, use_of}
+use Rattle.mb_model.specs.memories.Meaning.{StandsFor}
 use Rattle.mb_tools_device.proofs.Buffers.{filled_whole}
 use Rattle.mb_tools_device.proofs.GenerateLemmas.{summary_lacks, summary_told}
 use Rattle.mb_tools_device.proofs.generate.summarise.Goals as goal

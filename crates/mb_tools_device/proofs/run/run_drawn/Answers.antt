@@ -1,7 +1,7 @@
 use Rattle.std.proofs.Common.{refl, ◌∙◌, ap, inl, inr, arith}
-use Rattle.mb_model.specs.Machine.{opening_world}
+use Rattle.mb_model.specs.machine.Machine.{opening_world}
 use Rattle.mb_board.specs.Calls.{Seen}
-use Rattle.mb_model.specs.Board.{Used, not_used, use_of, having_answered}
+use Rattle.mb_model.specs.outside.Board.{Used, not_used, use_of, having_answered}
 use Rattle.mb_model_commands.specs.Commands.{at_first}
 use Rattle.mb_tools_device.specs.Names.{run_files}
 use Rattle.mb_console.proofs.CommandLemmas.{memory_unloaded}

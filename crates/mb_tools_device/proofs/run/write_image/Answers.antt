@@ -1,6 +1,6 @@
 use Rattle.std.proofs.Common.{◌≡◌, length, refl, sym, ◌∙◌, ap, arith, length-append}
-use Rattle.mb_model.specs.Board.{image_of, use_of}
-use Rattle.mb_model.specs.Replies.{replies_text}
+use Rattle.mb_model.specs.outside.Board.{image_of, use_of}
+use Rattle.mb_model.specs.chains.Replies.{replies_text}
 use Rattle.mb_tools_device.specs.Names.{run_files}
 use Rattle.mb_console.proofs.CommandLemmas.{memory_here}
 use Rattle.mb_tools_device.proofs.RunLemmas.{image_written}

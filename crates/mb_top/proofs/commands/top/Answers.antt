@@ -3,7 +3,7 @@ use Rattle.mb_top.specs.Top.{Ends}
 use Rattle.mb_console.specs.Ending.{ended_at}
 use Rattle.mb_top.proofs.Requests.{call_completes}
 use Rattle.mb_top.proofs.commands.top.Goals as goal
-use Rattle.mb_model.specs.Board.{use_of}
+use Rattle.mb_model.specs.outside.Board.{use_of}
 
 pub returns-in-Err-clause-ends : goal.returns-in-Err-clause-ends
 returns-in-Err-clause-ends g c =

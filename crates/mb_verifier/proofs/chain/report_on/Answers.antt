@@ -1,8 +1,8 @@
 use Rattle.std.proofs.Common.{subst, List, ℕ}
 use Rattle.std.proofs.lemmas.Result.{err_from_is_err_and}
 use Rattle.mb_model.specs.declared.entry.SignedEntry.{SignedEntry}
-use Rattle.mb_model.specs.Log.{entries_of}
-use Rattle.mb_model.specs.Acceptance.{IfStatement, IsCurrent, IsRefused}
+use Rattle.mb_model.specs.owners.Log.{entries_of}
+use Rattle.mb_model.specs.chains.Acceptance.{IfStatement, IsCurrent, IsRefused}
 use Rattle.mb_log.specs.KeyLife.{as_entry}
 use Rattle.mb_verifier.specs.Checked.{HasBadEntry}
 use Rattle.mb_verifier.specs.Ends.{chain_refusal_of}

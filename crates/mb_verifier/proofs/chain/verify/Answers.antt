@@ -1,6 +1,6 @@
 use Rattle.std.proofs.Common.{arith}
 use Rattle.mb_format.specs.Format.{IsBytes}
-use Rattle.mb_model.specs.Acceptance.{IsRefused}
+use Rattle.mb_model.specs.chains.Acceptance.{IsRefused}
 use Rattle.mb_verifier.proofs.Verdicts.{each_refused, answer_is_ruled}
 use Rattle.mb_verifier.proofs.chain.verify.Goals as goal
 

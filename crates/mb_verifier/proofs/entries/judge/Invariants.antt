@@ -1,7 +1,7 @@
 -- The entries so far are good, and the figures and the life are theirs.
 use Rattle.std.proofs.Common.{◌≡◌, take}
-use Rattle.mb_model.specs.Log.{figures_of, entries_of}
-use Rattle.mb_model.specs.Acceptance.{AreGood}
+use Rattle.mb_model.specs.owners.Log.{figures_of, entries_of}
+use Rattle.mb_model.specs.chains.Acceptance.{AreGood}
 use Rattle.mb_log.specs.KeyLife.{IsLifeOf}
 use Rattle.mb_verifier.proofs.entries.judge.Given as goal
 

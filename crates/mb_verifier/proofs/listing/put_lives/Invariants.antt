@@ -1,7 +1,7 @@
 use Rattle.std.proofs.Common.{◌≡◌, ◌++◌, take}
 use Rattle.std.specs.Prelude.{flat_map}
-use Rattle.mb_model.specs.Lines.{text_of}
-use Rattle.mb_model.specs.Listing.{configuration_lines}
+use Rattle.mb_model.specs.chains.Lines.{text_of}
+use Rattle.mb_model.specs.chains.Listing.{configuration_lines}
 use Rattle.mb_verifier.proofs.listing.put_lives.Given as goal
 
 abbrev pub invariant-loop-item : goal.invariant-loop-item

@@ -1,8 +1,8 @@
 use Rattle.std.proofs.Common.{ap, ◌∙◌, ◌++◌, List, ℕ}
 use Rattle.std.specs.Global.{Vec}
 use Rattle.mb_model.specs.declared.state.Configuration.{Configuration}
-use Rattle.mb_model.specs.Lines.{text_of}
-use Rattle.mb_model.specs.Listing.{configuration_lines}
+use Rattle.mb_model.specs.chains.Lines.{text_of}
+use Rattle.mb_model.specs.chains.Listing.{configuration_lines}
 use Rattle.std.specs.Prelude.{flat_map}
 use Rattle.mb_verifier.proofs.Listed.{listing_whole}
 use Rattle.mb_verifier.proofs.listing.write_listing.Goals as goal

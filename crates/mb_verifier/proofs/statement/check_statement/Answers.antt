@@ -1,5 +1,5 @@
 use Rattle.std.proofs.Common.{sym, refl, ◌∙◌}
-use Rattle.mb_model.specs.Log.{entries_of}
+use Rattle.mb_model.specs.owners.Log.{entries_of}
 use Rattle.mb_log.proofs.KeyLives.{figures_number}
 use Rattle.mb_verifier.proofs.Stating.{alive_is}
 use Rattle.mb_verifier.proofs.statement.check_statement.Goals as goal

@@ -1,6 +1,6 @@
 use Rattle.std.proofs.Common.{List, ℕ, [], subst}
 use Rattle.std.specs.Prelude.{◌↔◌, IsTrue}
-use Rattle.mb_model.specs.Merkle.{Verifies}
+use Rattle.mb_model.specs.signatures.Merkle.{Verifies}
 use Rattle.mb_verifier.proofs.Stating.{pieces_are}
 use Rattle.mb_verifier.proofs.statement.states.Goals as goal
 

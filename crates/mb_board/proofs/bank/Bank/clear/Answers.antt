@@ -1,6 +1,6 @@
 use Rattle.std.proofs.Common.{length, ap, ◌∙◌}
 use Rattle.std.proofs.lemmas.List.{length-replicate}
-use Rattle.mb_model.specs.Board.{zeros}
+use Rattle.mb_model.specs.outside.Board.{zeros}
 use Rattle.mb_board.proofs.Sectors.{same-marked}
 use Rattle.mb_board.proofs.bank.Bank.clear.Goals as goal
 

@@ -1,5 +1,5 @@
 use Rattle.std.proofs.Common.{◌*◌, arith, sym}
-use Rattle.mb_model.specs.Board.{erased_bytes}
+use Rattle.mb_model.specs.outside.Board.{erased_bytes}
 use Rattle.mb_model.proofs.Places.{length-erased}
 use Rattle.mb_board.proofs.Fillings.{torn_write}
 use Rattle.mb_board.proofs.bank.Bank.erase_torn.Goals as goal

@@ -1,5 +1,5 @@
 use Rattle.std.proofs.Common.{◌*◌, ap, ◌∙◌}
-use Rattle.mb_model.specs.Board.{memory_with_bytes, erased_bytes}
+use Rattle.mb_model.specs.outside.Board.{memory_with_bytes, erased_bytes}
 use Rattle.mb_model.proofs.Places.{length-erased}
 use Rattle.mb_board.specs.Cuts.{torn_by}
 use Rattle.mb_board.specs.Shown.{BankContents, BoardShown}

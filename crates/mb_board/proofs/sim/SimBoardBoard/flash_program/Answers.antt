@@ -1,5 +1,5 @@
 use Rattle.std.proofs.Common.{ap, refl, ◌∙◌}
-use Rattle.mb_model.specs.Board.{memory_with_bytes}
+use Rattle.mb_model.specs.outside.Board.{memory_with_bytes}
 use Rattle.mb_board.specs.Cuts.{torn_by}
 use Rattle.mb_board.specs.Shown.{BankContents, BoardShown}
 use Rattle.mb_board.proofs.Fillings.{length-torn_by}

@@ -1,6 +1,6 @@
 use Rattle.std.proofs.Common.{◌++◌, ◌-◌, ◌∙◌, sym, ap, subst, arith, take, List, ℕ}
 use Rattle.mb_format.specs.Format.{IsBytes}
-use Rattle.mb_model.specs.OrderFormat.{order_format}
+use Rattle.mb_model.specs.records.OrderFormat.{order_format}
 use Rattle.mb_command.specs.Beginnings.{CanBecome, FailsHowever}
 use Rattle.mb_command.proofs.Feeding.{taken_whole, fails_whole, becomes_unfailed}
 use Rattle.mb_command.proofs.begun.Begun.take_in.Goals as goal

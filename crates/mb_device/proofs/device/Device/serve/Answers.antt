@@ -1,8 +1,8 @@
 use Rattle.std.proofs.Common.{◌≡◌, ◌∙◌, Some, sym, ap, subst, arith, length}
-use Rattle.mb_model.specs.Board.{Memory, Held, Ledger, Meter, IsLoaded, AreBytes, memory_after, stops_by_answer}
+use Rattle.mb_model.specs.outside.Board.{Memory, Held, Ledger, Meter, IsLoaded, AreBytes, memory_after, stops_by_answer}
 use Rattle.mb_model.specs.declared.event.Event.{Event}
-use Rattle.mb_model.specs.Clean.{Clean}
-use Rattle.mb_model.specs.Spared.{SparesSectors}
+use Rattle.mb_model.specs.memories.Clean.{Clean}
+use Rattle.mb_model.specs.memories.Spared.{SparesSectors}
 use Rattle.mb_boot.specs.Booting.{IsQuiet}
 use Rattle.mb_device.specs.Stepping.{IfBoot}
 use Rattle.mb_board.specs.Calls.{held_by}

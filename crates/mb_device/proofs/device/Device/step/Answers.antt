@@ -3,7 +3,7 @@ use Rattle.mb_model.specs.declared.event.Event.{Event}
 use Rattle.mb_model.specs.declared.event.Event.TheVariants as event
 use Rattle.mb_model.specs.declared.reply.Reply.TheVariants as reply
 use Rattle.mb_model.specs.declared.state.State.{State}
-use Rattle.mb_model.specs.Board.{Held}
+use Rattle.mb_model.specs.outside.Board.{Held}
 use Rattle.mb_board.specs.Calls.{held_by, held_in}
 use Rattle.mb_device_orders.specs.Obeying.{LeavesDeviceKey}
 use Rattle.mb_device.specs.Sound.{IsSoundDevice, taken, Steps}

@@ -1,5 +1,5 @@
 use Rattle.std.proofs.Common.{ap, length, arith}
-use Rattle.mb_model.specs.WrittenImage.{written_image}
+use Rattle.mb_model.specs.memories.WrittenImage.{written_image}
 use Rattle.mb_model_lemmas.proofs.WrittenImages.{length-image}
 use Rattle.mb_bytes.proofs.Putting.{length_items}
 use Rattle.mb_image.proofs.Writing.{puts_never_fail}

@@ -4,11 +4,12 @@ use Rattle.std.proofs.lemmas.List.Elements.{All-drop}
 use Rattle.mb_model.specs.declared.event.Event.{Event}
 use Rattle.mb_model.specs.declared.event.Event.TheVariants as event
 use Rattle.mb_model.specs.declared.reply.Reply.TheVariants as reply
-use Rattle.mb_model.specs.Memory.{IsBlank}
-use Rattle.mb_model.specs.Board.{Memory, Held, Ledger, IsLoaded, held_at_load, phase_at, power_after, memory_after}
-use Rattle.mb_model.specs.Meaning.{is_dead}
-use Rattle.mb_model.specs.Machine.{World, off, machine_step}
-use Rattle.mb_model.specs.Acknowledged.{Shows, MayAnswer}
+use Rattle.mb_model.specs.memories.Memory.{IsBlank}
+use Rattle.mb_model.specs.outside.Board.{Memory, Held, Ledger, IsLoaded, held_at_load, phase_at, power_after}
+use Rattle.mb_model.specs.outside.Board.{memory_after}
+use Rattle.mb_model.specs.memories.Meaning.{is_dead}
+use Rattle.mb_model.specs.machine.Machine.{World, off, machine_step}
+use Rattle.mb_model.specs.memories.Acknowledged.{Shows, MayAnswer}
 use Rattle.mb_board.specs.Cuts.{Armed, cut_after, is_armed}
 use Rattle.mb_test_rules.proofs.tests.boards.answer_off.Goals as goal
 

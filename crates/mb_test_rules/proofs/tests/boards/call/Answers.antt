@@ -1,5 +1,5 @@
 use Rattle.std.proofs.Common.{length, ap, ◌∙◌, arith}
-use Rattle.mb_model.specs.Board.{Memory}
+use Rattle.mb_model.specs.outside.Board.{Memory}
 use Rattle.mb_board.specs.Reach.{in_first_area}
 use Rattle.mb_board.proofs.TornLemmas.{torn_length}
 use Rattle.mb_test_rules.proofs.tests.boards.call.Goals as goal

@@ -1,7 +1,7 @@
 use Rattle.std.proofs.Common.{Some, ap, ◌∙◌}
 use Rattle.std.proofs.lemmas.List.{length-replicate}
 use Rattle.mb_model.specs.declared.event.Event.{Event}
-use Rattle.mb_model.specs.Board.{zeros, memory_after}
+use Rattle.mb_model.specs.outside.Board.{zeros, memory_after}
 use Rattle.mb_test_rules.proofs.tests.boards.copy_tampered.Goals as goal
 
 pub copy_image-requires-clause-loaded : goal.copy_image-requires-clause-loaded

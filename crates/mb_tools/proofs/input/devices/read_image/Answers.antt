@@ -1,6 +1,6 @@
 use Rattle.std.proofs.Common.{subst}
 use Rattle.std.specs.Prelude.{IfSome}
-use Rattle.mb_model.specs.Faults.{HasFault}
+use Rattle.mb_model.specs.memories.Faults.{HasFault}
 use Rattle.mb_image.specs.Ends.{fault_of}
 use Rattle.mb_tools.proofs.ImageLemmas.{image_stops, image_stored}
 use Rattle.mb_tools.proofs.input.devices.read_image.Goals as goal

@@ -1,6 +1,6 @@
 use Rattle.std.proofs.Common.{List, ℕ, subst}
 use Rattle.std.specs.Prelude.{IfSome}
-use Rattle.mb_model.specs.Migration.{IsMigrated, MeansTheSame, CannotMigrate}
+use Rattle.mb_model.specs.memories.Migration.{IsMigrated, MeansTheSame, CannotMigrate}
 use Rattle.mb_image.specs.Ends.{fault_of}
 use Rattle.mb_tools.proofs.MigrateLemmas.{old_image_stops}
 use Rattle.mb_tools.proofs.input.devices.read_old_image.Goals as goal

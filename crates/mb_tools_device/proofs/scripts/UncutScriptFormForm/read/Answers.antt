@@ -1,7 +1,7 @@
 use Rattle.std.proofs.Common.{List, ℕ, inr, refl, subst}
 use Rattle.mb_model.specs.declared.event.Event.{Event}
-use Rattle.mb_model.specs.Lines.{ReadsLines}
-use Rattle.mb_model.specs.Script.{IsScript}
+use Rattle.mb_model.specs.chains.Lines.{ReadsLines}
+use Rattle.mb_model.specs.chains.Script.{IsScript}
 use Rattle.mb_script.specs.Reading.{IsLineOf}
 use Rattle.mb_model_lemmas.proofs.ScriptLemmas.{IsScript-events}
 use Rattle.mb_tools_device.specs.CutCommand.{AreUncut}

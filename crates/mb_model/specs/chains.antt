@@ -1,0 +1,9 @@
+pub mod Attach
+pub mod Acceptance
+pub mod DeviceChains
+pub mod Lines
+pub mod Script
+pub mod Replies
+pub mod Drafts
+pub mod OrderLines
+pub mod Listing

@@ -1,0 +1,68 @@
+-- The line of each reply. Does what is printed tell one reply from another?
+use Rattle.std.specs.Prelude.{ℕ, ◌==◌, List, [], ◌∷◌, codes, flat_map, Option, None, Some, IsSome, unwrap_or}
+use Rattle.std.specs.Prelude.{if◌then◌else◌}
+use Rattle.std.specs.Fmt.{decimal}
+use Rattle.mb_model.specs.declared.event.Answered.{Answered}
+use Rattle.mb_model.specs.declared.reply.Reply.{Reply}
+use Rattle.mb_model.specs.declared.reply.Reply.TheVariants as reply
+use Rattle.mb_model.specs.declared.reply.Standing.{Standing}
+use Rattle.mb_model.specs.declared.reply.Standing.TheVariants as stands
+use Rattle.mb_model.specs.outside.Texts.{line_with_lf}
+use Rattle.mb_model.specs.chains.Lines.{spaced_words, hex_word}
+
+-- the word for how a layer stands
+abbrev pub standing_word : Standing → List ℕ
+standing_word stands.Unowned = codes "unowned"
+standing_word stands.Unreliable = codes "unreliable"
+standing_word stands.Reliable = codes "reliable"
+standing_word stands.Runnable = codes "runnable"
+
+-- the words for the number of a refusal; no refusal has any other number
+abbrev pub refusal_words : ℕ → Option (List ℕ)
+refusal_words number =
+    if number == 1 then Some (codes "off")
+    else if number == 2 then Some (codes "phase")
+    else if number == 3 then Some (codes "zeroised")
+    else if number == 4 then Some (codes "layer")
+    else if number == 5 then Some (codes "full")
+    else if number == 6 then Some (codes "key")
+    else if number == 7 then Some (codes "spent")
+    else if number == 10 then Some (codes "text")
+    else if number == 11 then Some (codes "target")
+    else if number == 12 then Some (codes "state")
+    else if number == 13 then Some (codes "signature")
+    else if number == 14 then Some (codes "countersignature")
+    else if number == 15 then Some (codes "log full")
+    else if number == 16 then Some (codes "keys full")
+    else None
+
+-- Every reply has a line, except a refusal whose number has no words.
+abbrev pub HasLine : Reply → Type 0
+HasLine (reply.Refused number) = IsSome (refusal_words number)
+HasLine _ = Unit {0}
+
+-- the line of a reply
+abbrev pub reply_line : Reply → List ℕ
+reply_line reply.Booted = codes "booted"
+reply_line reply.Off = codes "off"
+reply_line reply.Tampered = codes "tampered"
+reply_line reply.Armed = codes "armed"
+reply_line (reply.At layer) = spaced_words (codes "at" ∷ decimal layer ∷ [])
+reply_line (reply.Done number length) = spaced_words (codes "done" ∷ decimal number ∷ decimal length ∷ [])
+reply_line reply.Kept = codes "kept"
+reply_line reply.Dropped = codes "dropped"
+reply_line (reply.Value value) = spaced_words (codes "value" ∷ hex_word value ∷ [])
+reply_line reply.Absent = codes "absent"
+reply_line (reply.Signed key index statement) =
+    spaced_words (codes "signed" ∷ decimal key ∷ decimal index ∷ hex_word statement ∷ [])
+reply_line (reply.Status serial number length one two three) =
+    spaced_words (codes "status" ∷ hex_word serial ∷ decimal number ∷ decimal length
+    ∷ standing_word one ∷ standing_word two ∷ standing_word three ∷ [])
+reply_line (reply.Refused number) =
+    spaced_words (codes "refused" ∷ decimal number ∷ unwrap_or (refusal_words number) [] ∷ [])
+reply_line reply.Stopped = codes "stopped"
+reply_line reply.NoMemory = codes "no memory"
+
+-- what is printed of answered events: the line of each reply
+abbrev pub replies_text : List Answered → List ℕ
+replies_text answered = flat_map (λ each. line_with_lf (reply_line each.reply)) answered

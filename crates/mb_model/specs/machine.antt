@@ -1,0 +1,11 @@
+pub mod Refusals
+pub mod SignedTexts
+pub mod OrderChecks
+pub mod OrderEffects
+pub mod OrderStep
+pub mod SignedOrders
+pub mod LayerEvents
+pub mod Machine
+pub mod Fates
+pub mod Work
+pub mod Runs

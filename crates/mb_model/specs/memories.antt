@@ -1,0 +1,16 @@
+pub mod Memory
+pub mod StoredLog
+pub mod Sectors
+pub mod Flash
+pub mod Valid
+pub mod Meaning
+pub mod Faults
+pub mod PublicRecord
+pub mod OldFlash
+pub mod Clean
+pub mod WrittenFlash
+pub mod WrittenImage
+pub mod Migration
+pub mod Spared
+pub mod Acknowledged
+pub mod Factory

@@ -1,0 +1,4 @@
+pub mod Key
+pub mod Winternitz
+pub mod Merkle
+pub mod Signing
