@@ -59,7 +59,7 @@ kept_by false false view draw outgoing none = refl
 device_stays : (state : State) (order : Order) (draw : List ℕ) → outgoing_by (view_of state) (names_next (fact_of state.layers order order.act)) ≡ None → (bodies_for state order draw).device ≡ state.device
 unfolding bodies_by
 device_stays state order draw none =
-    kept_by (succession_is_due (view_of state) (names_next (fact_of state.layers order order.act))) (names_next (fact_of state.layers order order.act)) (view_of state) draw _ none
+    kept_by (succession_is_due (view_of state).uses (names_next (fact_of state.layers order order.act))) (names_next (fact_of state.layers order order.act)) (view_of state) draw _ none
 
 -- the root that commits has the same device key, and none gives way
 pub record KeepsDeviceKey (state : State) (root : Root) : Type 0 where

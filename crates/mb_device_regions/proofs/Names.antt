@@ -14,8 +14,8 @@ use Rattle.mb_format.proofs.Fields.{same_bytes-true}
 use Rattle.mb_model.specs.declared.region.Region.{Region}
 use Rattle.mb_model.specs.declared.region.Secret.{Secret}
 use Rattle.mb_model.specs.declared.reply.Reply.TheVariants as reply
-use Rattle.mb_model.specs.machine.LayerEvents.{has_name, with_secret, value_reply}
-use Rattle.mb_device_regions.specs.Secrets.{IsKeptRegion, is_full_for, IsPut, IsDropped}
+use Rattle.mb_model.specs.machine.LayerEvents.{has_name, with_secret, value_reply, is_full_for}
+use Rattle.mb_device_regions.specs.Secrets.{IsKeptRegion, IsPut, IsDropped}
 
 -- ---- a test that one element of a list passes
 

@@ -9,7 +9,7 @@ use Rattle.mb_model.specs.declared.reply.Reply.TheVariants as reply
 use Rattle.mb_model.specs.declared.state.State.{State}
 use Rattle.mb_model.specs.outside.Board.{Memory}
 use Rattle.mb_model.specs.owners.Layers.{Runnable}
-use Rattle.mb_model.specs.machine.LayerEvents.{Outcome, has_name, value_reply, put_event, get_event, drop_event}
+use Rattle.mb_model.specs.machine.LayerEvents.{Outcome, has_name, value_reply, put_event, get_event, drop_event, is_full_for}
 use Rattle.mb_model.specs.owners.Log.{entries_of, number_of}
 use Rattle.mb_model.specs.owners.Regions.{region_of, with_region}
 use Rattle.mb_model.specs.declared.reply.Refusal.TheVariants.{RegionFull}
@@ -29,7 +29,7 @@ use Rattle.mb_format.specs.Combinators.{limit}
 use Rattle.std.specs.Int.{w32}
 use Rattle.mb_device_regions.specs.declared.end.NotPut.{NotPut}
 use Rattle.mb_device_regions.specs.declared.end.NotPut.TheVariants.{Full, NoMemory}
-use Rattle.mb_device_regions.specs.Secrets.{IsKeptRegion, is_full_for, region_with_secret, IsPut, IsDropped, PutOf, PutsInto, secret_of}
+use Rattle.mb_device_regions.specs.Secrets.{IsKeptRegion, region_with_secret, IsPut, IsDropped, PutOf, PutsInto, secret_of}
 
 -- an answer is to the outcome that an event has
 pub answered_as : {outcome known : Outcome} {answer : Reply} {before after : Memory} → outcome ≡ known → IsAnswered known answer before after → IsAnswered outcome answer before after

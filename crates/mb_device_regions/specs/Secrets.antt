@@ -1,11 +1,10 @@
 -- How secrets are put into a region and dropped from it. Is a secret of another name ever lost?
-use Rattle.std.specs.Prelude.{◌≡◌, ◌≢◌, ℕ, nat_le, Bool, true, false, not, ◌&&◌, List, length, AllPairs}
+use Rattle.std.specs.Prelude.{◌≡◌, ◌≢◌, ℕ, Bool, true, false, List, AllPairs}
 use Rattle.std.specs.Prelude.{Result, Ok, Err, Option, Some, None}
 use Rattle.std.specs.List.{list_any}
-use Rattle.mb_model.specs.declared.limits.TheConstants.{SECRET_LIMIT}
 use Rattle.mb_model.specs.declared.region.Region.{Region}
 use Rattle.mb_model.specs.declared.region.Secret.{Secret}
-use Rattle.mb_model.specs.machine.LayerEvents.{has_name, with_secret}
+use Rattle.mb_model.specs.machine.LayerEvents.{has_name, with_secret, is_full_for}
 use Rattle.mb_model_memory.specs.Storable.{IsStorableRegion}
 use Rattle.mb_model_lemmas.specs.RegionLaws.{without_secret}
 use Rattle.mb_device_regions.specs.declared.end.NotPut.{NotPut}
@@ -15,10 +14,6 @@ use Rattle.mb_device_regions.specs.declared.end.NotPut.TheVariants.{Full, NoMemo
 pub record IsKeptRegion (region : Region) : Type 0 where
   pub storable : IsStorableRegion region
   pub names : AllPairs (λ a b. a.name ≢ b.name) region.secrets
-
--- the region has no secret of this name, and as many as it can have
-abbrev pub is_full_for : List ℕ → Region → Bool
-is_full_for name region = not (list_any (has_name name) region.secrets) && nat_le SECRET_LIMIT (length region.secrets)
 
 -- the region with the secret in place of the one that has its name, or after the others
 abbrev pub region_with_secret : Secret → Region → Region

@@ -9,12 +9,11 @@ use Rattle.mb_model.specs.declared.state.View.{View}
 use Rattle.mb_model.specs.declared.state.Fact.{Fact}
 use Rattle.mb_model.specs.declared.stored.Outgoing.{Outgoing}
 use Rattle.mb_model.specs.owners.Log.{keys_in, keys_made_by}
-use Rattle.mb_model.specs.machine.OrderChecks.{succession_is_due}
+use Rattle.mb_model.specs.machine.OrderChecks.{succession_is_due, needed_with}
 use Rattle.mb_model.specs.machine.OrderEffects.{names_next, entry_of, succession_entry, device_after, uses_after}
 use Rattle.mb_model.specs.machine.Work.{ready_by, first_by, key_by, outgoing_by, bodies_by}
 use Rattle.mb_model_lemmas.proofs.LogLemmas.{made-push}
 use Rattle.mb_lms.specs.declared.hash_count.TheConstants.{TREE_HASHES}
-use Rattle.mb_log.specs.Additions.{needed_with}
 
 pub bodies_made : (draw : List ℕ) (view ready : View) (fact : Fact) (names : Bool) (none items entries : List Entry) (own : Entry) (device : KeySeed) (uses : ℕ) (outgoing : Option Outgoing) (key : Option RegionKey)
     → names ≡ names_next fact → ready ≡ ready_by view names draw
@@ -40,4 +39,4 @@ succession_by true view draw before after two cost = omega (arith, cost)
 succession_by false view draw before after two cost = absurd (two refl)
 
 pub succession_counted : (view : View) (next : Bool) (draw : List ℕ) (before after : ℕ) → (needed_with view.uses next ≡ 1 → ⊥) → after ≤ before + TREE_HASHES → after ≤ before + keys_made_by (first_by view next draw) * TREE_HASHES
-succession_counted view next draw before after two cost = succession_by (succession_is_due view next) view draw before after two cost
+succession_counted view next draw before after two cost = succession_by (succession_is_due view.uses next) view draw before after two cost

@@ -1,13 +1,10 @@
--- How many entries a fact adds. Does the log have room for them, and are the counts of the device in their ranges?
-use Rattle.std.specs.Prelude.{ℕ, ◌+◌, ◌≤◌, ◌==◌, Bool, not, ◌&&◌, if◌then◌else◌}
+-- When entries can be added. Does the log have room for them, and are the counts of the device in their ranges?
+use Rattle.std.specs.Prelude.{ℕ, ◌+◌, ◌≤◌}
 use Rattle.mb_model.specs.declared.limits.TheConstants.{LAST_INDEX, ENTRY_LIMIT}
 use Rattle.mb_model.specs.declared.state.View.{View}
 use Rattle.mb_model.specs.declared.state.Fact.{Fact}
+use Rattle.mb_model.specs.machine.OrderChecks.{needed_with}
 use Rattle.mb_model.specs.machine.OrderEffects.{names_next}
-
--- how many entries are appended
-abbrev pub needed_with : ℕ → Bool → ℕ
-needed_with uses next = if uses == LAST_INDEX && not next then 2 else 1
 
 -- the log has room for the entries of the fact
 abbrev pub HasRoomFor : View → Fact → Type 0

@@ -6,7 +6,8 @@ ghost use Rattle.mb_model.specs.owners.Log.{keys_in, keys_made_by};
 ghost use Rattle.mb_model.specs.signatures.Signing.{public_of};
 ghost use Rattle.mb_model.specs.machine.OrderEffects.{names_next, next_key, next_device_key, entry_of, device_after, uses_after};
 ghost use Rattle.mb_model.specs.machine.Work.{ready_by, first_by, key_by, outgoing_by, bodies_by};
-ghost use Rattle.mb_log.specs.Additions.{needed_with, HasRoomFor, IsInRange};
+ghost use Rattle.mb_model.specs.machine.OrderChecks.needed_with;
+ghost use Rattle.mb_log.specs.Additions.{HasRoomFor, IsInRange};
 ghost use Rattle.mb_signer.specs.Benches.{HasTree};
 ghost use Rattle.mb_lms.specs.declared.hash_count.TheConstants.{TREE_HASHES};
 

@@ -45,7 +45,7 @@ fact_renews layers order (act.NewKey kind) = refl
 pub view_ready : (state : State) (order : Order) (draw : List ℕ)
     → ready_by (view_of state) (names_next (fact_of state.layers order order.act)) draw ≡ view_of (ready_for state order draw)
 view_ready state order draw =
-    ap (λ b. if succession_is_due (view_of state) b then after_succession (view_of state) draw else view_of state) (fact_renews state.layers order order.act)
+    ap (λ b. if succession_is_due (view_of state).uses b then after_succession (view_of state) draw else view_of state) (fact_renews state.layers order order.act)
     ∙ elim (needs_succession (view_of state) order) as (λ b. (if b then after_succession (view_of state) draw else view_of state) ≡ view_of (if b then state_after_succession state draw else state)) [
       | false ↦ refl
       | true ↦ sym (view_after state draw)
@@ -114,4 +114,4 @@ unfolding bodies_by
 entries_are state order draw =
     ap (λ (v : View). first_by (view_of state) (names_next (fact_of state.layers order order.act)) draw ++ entry_of v (fact_of state.layers order order.act) draw ∷ []) (view_ready state order draw)
     ∙ ap (λ (x : Layers). first_by (view_of state) (names_next (fact_of state.layers order order.act)) draw ++ entry_of (view_of (ready_for state order draw)) (fact_of x order order.act) draw ∷ []) (sym (ready_layers state order draw))
-    ∙ ap (λ b. (if succession_is_due (view_of state) b then succession_entry (view_of state) draw ∷ [] else []) ++ entry_of (view_of (ready_for state order draw)) (fact_of (ready_for state order draw).layers order order.act) draw ∷ []) (fact_renews state.layers order order.act)
+    ∙ ap (λ b. (if succession_is_due (view_of state).uses b then succession_entry (view_of state) draw ∷ [] else []) ++ entry_of (view_of (ready_for state order draw)) (fact_of (ready_for state order draw).layers order order.act) draw ∷ []) (fact_renews state.layers order order.act)

@@ -7,6 +7,7 @@ use Rattle.mb_model.specs.declared.limits.TheConstants.{SECRET_LIMIT, KEY_USES}
 use Rattle.mb_model.specs.declared.entry.Statement.{Statement}
 use Rattle.mb_model.specs.declared.region.Secret.{Secret}
 use Rattle.mb_model.specs.declared.region.RegionKey.{RegionKey}
+use Rattle.mb_model.specs.declared.region.Region.{Region}
 use Rattle.mb_model.specs.declared.state.State.{State}
 use Rattle.mb_model.specs.declared.reply.Reply.{Reply}
 use Rattle.mb_model.specs.declared.reply.Reply.TheVariants as reply
@@ -34,12 +35,16 @@ with_secret new secrets =
     then map (λ old. if has_name new.name old then new else old) secrets
     else secrets ++ new ∷ []
 
+-- the region has no secret of this name, and as many as it can have
+abbrev pub is_full_for : List ℕ → Region → Bool
+is_full_for name region = not (list_any (has_name name) region.secrets) && nat_le SECRET_LIMIT (length region.secrets)
+
 -- a secret is kept with the current configuration number, unless its name is new and the region is full
 unfoldable pub put_event : ℕ → List ℕ → List ℕ → State → Outcome
 put_event layer name value state =
     let region = region_of state layer in
     let new : Secret = record { name = name; value = value; born = number_of (entries_of state.log) } in
-    if not (list_any (has_name name) region.secrets) && nat_le SECRET_LIMIT (length region.secrets)
+    if is_full_for name region
     then (refusal_reply RegionFull, state)
     else (reply.Kept, with_region state layer (record region { secrets = with_secret new region.secrets }))
 

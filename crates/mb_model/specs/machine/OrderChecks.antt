@@ -64,16 +64,21 @@ abbrev pub IsCountersigned : View → Order → Countersignature → Type 0
 IsCountersigned view order by =
     IsSignedBy (layer_of view.layers by.layer).owner (countersigned_text by.layer (order_body order)) by.signature
 
--- The last index of a device key signs only an entry that names the next key: a succession is due before any other.
-abbrev pub succession_is_due : View → Bool → Bool
-succession_is_due view names_next = view.uses == LAST_INDEX && not names_next
+-- The last index of a device key signs only an entry that names the next key: with so many uses, a succession is due
+-- before any other.
+abbrev pub succession_is_due : ℕ → Bool → Bool
+succession_is_due uses names_next = uses == LAST_INDEX && not names_next
 
 abbrev pub needs_succession : View → Order → Bool
-needs_succession view order = succession_is_due view (renews (change_by order) order.layer)
+needs_succession view order = succession_is_due view.uses (renews (change_by order) order.layer)
+
+-- how many entries are appended with this one: the succession too, if it is due
+abbrev pub needed_with : ℕ → Bool → ℕ
+needed_with uses names_next = if succession_is_due uses names_next then 2 else 1
 
 -- how many entries the order appends
 abbrev pub entries_needed : View → Order → ℕ
-entries_needed view order = if needs_succession view order then 2 else 1
+entries_needed view order = needed_with view.uses (renews (change_by order) order.layer)
 
 abbrev pub LogHasRoom : View → Order → Type 0
 LogHasRoom view order = view.length + entries_needed view order ≤ ENTRY_LIMIT

@@ -32,11 +32,11 @@ after_succession view draw = record view {
 
 -- the view with which the device key has an index for the fact's own entry
 abbrev pub ready_by : View → Bool → List ℕ → View
-ready_by view next draw = if succession_is_due view next then after_succession view draw else view
+ready_by view next draw = if succession_is_due view.uses next then after_succession view draw else view
 
 -- the entries before the fact's own: a succession, if one is due
 abbrev pub first_by : View → Bool → List ℕ → List Entry
-first_by view next draw = if succession_is_due view next then succession_entry view draw ∷ [] else []
+first_by view next draw = if succession_is_due view.uses next then succession_entry view draw ∷ [] else []
 
 -- the key that a fact makes in a region
 abbrev pub key_by : View → Fact → List ℕ → Option RegionKey
@@ -47,7 +47,9 @@ key_by view (fact.NewKey layer kind) draw = Some (key_made view kind draw)
 -- signs with
 abbrev pub outgoing_by : View → Bool → Option Outgoing
 outgoing_by view next =
-    if succession_is_due view next || next then Some (record { seed = view.device; uses = view.uses + 1 }) else None
+    if succession_is_due view.uses next || next
+    then Some (record { seed = view.device; uses = view.uses + 1 })
+    else None
 
 -- all that a fact adds to a device: its entries, the device key as it leaves it, and the key of a region
 unfoldable pub bodies_by : View → Fact → List ℕ → Bodies

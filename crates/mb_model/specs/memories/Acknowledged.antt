@@ -54,7 +54,7 @@ pub record LeavesMemory (each : Answered) : Type 0 where
   pub untold : may_have_written each.reply ≡ false
   pub untampered : each.event ≢ Tamper
 
--- The answer leaves a memory that is clean as it was: it tells of no change, or the event is a boot.
+-- At this answer a clean memory is left as it was: the reply tells of no change, or the event is a boot.
 abbrev pub LeavesCleanMemory : Answered → Type 0
 LeavesCleanMemory each = LeavesMemory each ⊎ (each.event ≡ Boot)
 

@@ -1,9 +1,11 @@
 //! The keys of levels.
 
 ghost use Rattle.std.specs.Prelude.{◌<◌, ◌^◌};
+ghost use Rattle.mb_hss.specs.declared.limits.TheConstants.{LEVEL_LIMIT};
 
 use super::{endorse, key_of, maker_at, public_of, root_bytes};
 use hex::FromHex;
+use mb_hss::LEVEL_LIMIT;
 use mb_lms::key_bytes;
 use mb_model::KeySeed;
 use std::alloc::Global;
@@ -58,7 +60,7 @@ const LEVELS: &[(u8, u64, &str, &str)] = &[
 /// The public key that the maker shows of a level and a prefix. That of level 0 is the maker's own; another stands
 /// before the last signature of what a maker with that level as its last signs with the prefix's first number.
 fn shown_key(alloc: Global, level: u8, prefix: u64) -> Result<[u8; 56], Fail>
-    requires level { level < 8 }
+    requires level { level < LEVEL_LIMIT }
     requires prefix { prefix < 2 ^ 40 }
 {
     let mut maker = maker_at(level + 1, 32 * prefix)?;
@@ -79,7 +81,7 @@ fn is_shown(
     identifier: &str,
     seed: &str,
 ) -> Result<bool, Fail> {
-    if level >= 8 || prefix >= 1 << 40 {
+    if level >= LEVEL_LIMIT || prefix >= 1 << 40 {
         return Ok(false);
     }
     let seed = KeySeed {
