@@ -1,7 +1,7 @@
 -- Formats that are read exactly are clear, and what is spelled at an offset is spelled part by part.
-use Rattle.std.proofs.Common.{◌≡◌, ℕ, ◌+◌, ◌⊎◌, inl, inr, List, ◌++◌, length, take, drop, Result, Ok, Err, refl, sym, ap, ◌∙◌, take-append-drop, arith}
+use Rattle.std.proofs.Common.{◌≡◌, ℕ, ◌+◌, ◌-◌, ◌⊎◌, inl, inr, List, [], ◌++◌, length, take, drop, Result, Ok, Err, refl, sym, ap, ◌∙◌, take-append-drop, arith}
 use Rattle.std.proofs.lemmas.Bool.{cases_lt}
-use Rattle.std.proofs.lemmas.List.{get_or_append_left, get_or-drop, get_or_past}
+use Rattle.std.proofs.lemmas.List.{get_or_append_left, get_or-append_right, get_or-drop, get_or_past}
 use Rattle.mb_format.specs.Format.{IsBytes, IsOffset, SpelledAt, Format, IsClear, SpellsSome, FailsSomewhere}
 use Rattle.mb_format.specs.Reading.{IsExact}
 
@@ -9,6 +9,16 @@ abbrev pub done : {V : Type 0} → V → Result V ℕ
 done x = Ok x
 
 -- ---- bytes and offsets
+
+pub IsBytes-none : IsBytes []
+IsBytes-none i = omega (arith, get_or_past {X = ℕ} [] i 0 (omega arith))
+
+pub IsBytes-append : (bytes more : List ℕ) → IsBytes bytes → IsBytes more → IsBytes (bytes ++ more)
+IsBytes-append bytes more h g i =
+    elim (cases_lt i (length bytes)) [
+      | inl lt ↦ rw (get_or_append_left bytes more 0 i lt) (h i)
+      | inr le ↦ rw (get_or-append_right bytes more (length bytes) i 0 refl le) (g (i - length bytes))
+    ]
 
 pub IsBytes-drop : (n : ℕ) (bytes : List ℕ) → IsBytes bytes → IsBytes (drop n bytes)
 IsBytes-drop n bytes h i = rw get_or-drop (h (n + i))
