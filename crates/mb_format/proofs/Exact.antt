@@ -1,5 +1,5 @@
 -- Formats that are read exactly are clear, and what is spelled at an offset is spelled part by part.
-use Rattle.std.proofs.Common.{◌≡◌, ℕ, ◌+◌, ◌-◌, ◌⊎◌, inl, inr, List, [], ◌++◌, length, take, drop, Result, Ok, Err, refl, sym, ap, ◌∙◌, take-append-drop, arith}
+use Rattle.std.proofs.Common.{◌≡◌, ℕ, zero, suc, ◌+◌, ◌-◌, ◌<◌, ◌⊎◌, inl, inr, List, [], ◌∷◌, ◌++◌, length, take, drop, replicate, Result, Ok, Err, refl, sym, ap, ◌∙◌, take-append-drop, arith}
 use Rattle.std.proofs.lemmas.Bool.{cases_lt}
 use Rattle.std.proofs.lemmas.List.{get_or_append_left, get_or-append_right, get_or-drop, get_or_past}
 use Rattle.mb_format.specs.Format.{IsBytes, IsOffset, SpelledAt, Format, IsClear, SpellsSome, FailsSomewhere}
@@ -19,6 +19,15 @@ IsBytes-append bytes more h g i =
       | inl lt ↦ rw (get_or_append_left bytes more 0 i lt) (h i)
       | inr le ↦ rw (get_or-append_right bytes more (length bytes) i 0 refl le) (g (i - length bytes))
     ]
+
+pub IsBytes-cons : (byte : ℕ) (bytes : List ℕ) → byte < 256 → IsBytes bytes → IsBytes (byte ∷ bytes)
+IsBytes-cons byte bytes lt h zero = lt
+IsBytes-cons byte bytes lt h (suc i) = h i
+
+pub IsBytes-replicate : (n byte : ℕ) → byte < 256 → IsBytes (replicate n byte)
+IsBytes-replicate zero byte lt i = IsBytes-none i
+IsBytes-replicate (suc n) byte lt zero = lt
+IsBytes-replicate (suc n) byte lt (suc i) = IsBytes-replicate n byte lt i
 
 pub IsBytes-drop : (n : ℕ) (bytes : List ℕ) → IsBytes bytes → IsBytes (drop n bytes)
 IsBytes-drop n bytes h i = rw get_or-drop (h (n + i))

@@ -1,11 +1,11 @@
 -- The example is read exactly, is short, and is read of a few bytes; and how values are worked out.
-use Rattle.std.proofs.Common.{◌≡◌, ℕ, zero, suc, true, ltb, List, [], ◌∷◌, ◌++◌, Some, refl, arith, lit<, lit≤, rules}
+use Rattle.std.proofs.Common.{◌≡◌, ℕ, zero, suc, true, ltb, List, [], ◌∷◌, ◌++◌, Some, Err, refl, arith, lit<, lit≤, rules}
 use Rattle.std.proofs.lemmas.Bool.{ltb-true}
 use Rattle.std.specs.Int.{w8, w16, w32}
 use Rattle.std.specs.List.{AllByRecursion}
-use Rattle.mb_format.specs.Format.{IsBytes, IsOffset, SpelledAt, IsShort, FailsWhole}
+use Rattle.mb_format.specs.Format.{IsBytes, IsOffset, SpelledAt, Format, IsShort, FailsWhole}
 use Rattle.mb_format.specs.Combinators.{items}
-use Rattle.mb_format.specs.Reading.{IsExact, IsLocal, raw_at, number_at}
+use Rattle.mb_format.specs.Reading.{IsExact, IsLocal, reads_whole, raw_at, number_at}
 use Rattle.mb_format.specs.Examples.{Choice, Word, Text, Tag, word_tag, text_tag, tag_rows, tag_byte, tag_of, word_in, text_in, choice_body, choice, sample, sample_into, sample_parts, short_bytes, short_sample, mistagged_bytes}
 use Rattle.mb_format.proofs.Rules.{exactly}
 use Rattle.mb_format.proofs.Fields.{IsTable, wide8, wide16, wide32, number_exact}
@@ -72,6 +72,10 @@ pub are_bytes : (bytes : List ℕ) → AllByRecursion (λ b. ltb b 256 ≡ true)
 are_bytes [] h i = omega arith
 are_bytes (b ∷ bytes) h zero = ltb-true _ _ h.0
 are_bytes (b ∷ bytes) h (suc i) = are_bytes bytes h.1 i
+
+-- bytes fail where reading them fails
+pub fails_at : {A : Type 0} {f : Format A} → IsExact f → (bytes : List ℕ) (place : ℕ) → AllByRecursion (λ b. ltb b 256 ≡ true) bytes → reads_whole f bytes ≡ Err place → FailsWhole f bytes place
+fails_at exact bytes place small e = (IsExactWhole-from_exact exact).fails bytes place (are_bytes bytes small) e
 
 start_of : (bytes : List ℕ) → AllByRecursion (λ b. ltb b 256 ≡ true) bytes → IsOffset bytes 0
 start_of bytes h = record { are_bytes = are_bytes bytes h; within = omega arith }

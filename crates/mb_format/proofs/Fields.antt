@@ -226,7 +226,8 @@ in_range_gives least most n a e =
         let same : n ≡ a = cc in
         rw (← same) ((ltb-false _ _ l, ltb-false _ _ h), refl)
 
-in_range_again : (least most n : ℕ) → least ≤ n → n ≤ most → in_range least most n ≡ Some n
+-- what is in the range is given again
+pub in_range_again : (least most n : ℕ) → least ≤ n → n ≤ most → in_range least most n ≡ Some n
 in_range_again least most n low high = rw (le-ltb n least low, le-ltb most n high) refl
 
 pub between_field : {w : Width} {least most : ℕ} → IsWide w → most < limit w → IsField (between w least most)
