@@ -1,10 +1,10 @@
 -- Bytes are the items of one list, or fail at one offset.
 use Rattle.std.proofs.Common.{◌≡◌, ◌<◌, ◌+◌, ℕ, List, [], ◌∷◌, ◌++◌, length, drop, Option, Some, None, refl, sym, ap, subst, ◌∙◌, append_assoc, length-append, drop_at, drop-drop, arith, true≢false, is_some}
+use Rattle.std.proofs.lemmas.Option.{same_Some}
 use Rattle.mb_format.specs.Format.{IsOffset, SpelledAt, IsClear}
 use Rattle.mb_format.specs.Combinators.{times, items}
 use Rattle.mb_format.proofs.Exact.{IsClear-from_exact, after_offset}
 use Rattle.mb_format.proofs.Whole.{at_start, whole_spelled, IsClearWhole-from_exact}
-use Rattle.mb_model_lemmas.proofs.Splits.{some_same}
 use Rattle.mb_fleet.specs.declared.item.Item.{Item}
 use Rattle.mb_fleet.specs.ItemFormat.{item_format, AreItems}
 use Rattle.mb_fleet.specs.Laws.{ItemsAreClear, FleetInputsAreClear}
@@ -94,7 +94,7 @@ steps_whole bytes listed are = steps_of bytes 0 listed (length bytes) (whole_spe
 pub items_are_clear : ItemsAreClear
 items_are_clear = record {
   one_list = λ bytes a b are x y. (one_way bytes 0 a b (length bytes) (length bytes) None None (at_start bytes are) (steps_whole bytes a x) refl (steps_whole bytes b y) refl).0;
-  one_offset = λ bytes p q are x y. some_same p q (one_way bytes 0 x.listed y.listed x.after y.after (Some p) (Some q) (at_start bytes are)
+  one_offset = λ bytes p q are x y. same_Some p q (one_way bytes 0 x.listed y.listed x.after y.after (Some p) (Some q) (at_start bytes are)
       (steps_of bytes 0 x.listed x.after x.spelled) (x.more, x.fails) (steps_of bytes 0 y.listed y.after y.spelled) (y.more, y.fails)).1;
   never_both = λ bytes listed offset are x y. true≢false (sym (ap is_some (one_way bytes 0 listed y.listed (length bytes) y.after None (Some offset) (at_start bytes are)
       (steps_whole bytes listed x) refl (steps_of bytes 0 y.listed y.after y.spelled) (y.more, y.fails)).1));

@@ -2,6 +2,7 @@
 use Rattle.std.proofs.Common.{◌≡◌, ◌≢◌, ◌<◌, ◌≤◌, ◌⊎◌, inl, inr, ℕ, zero, suc, Bool, true, false, List, [], ◌∷◌, ◌++◌, length, take, Option, Some, None, refl, sym, ap, subst, ◌∙◌, arith}
 use Rattle.std.specs.Prelude.{slice_get, if◌then◌else◌}
 use Rattle.std.specs.List.{AllByRecursion}
+use Rattle.std.proofs.lemmas.Option.{same_Some}
 use Rattle.mb_format.specs.Format.{IsBytes, Spells, IsClearWhole}
 use Rattle.mb_format.specs.Combinators.{same_bytes}
 use Rattle.mb_format.proofs.Fields.{same_bytes-refl, same_bytes-true}
@@ -13,7 +14,6 @@ use Rattle.mb_model.specs.owners.Log.{entries_of}
 use Rattle.mb_model.specs.records.ChainFormat.{chain_format}
 use Rattle.mb_model.specs.chains.Acceptance.{ChainRefusal, bad_form, bad_signature, bad_order, breaks_rules, key_unknown, bad_statement, wrong_number, key_ended, AreGood, IsRefused}
 use Rattle.mb_model.proofs.EntryFormatLaws.{chain_exact}
-use Rattle.mb_model_lemmas.proofs.Splits.{some_same}
 use Rattle.mb_model_lemmas.proofs.ChainLemmas.{one_refusal}
 use Rattle.mb_model_lemmas.proofs.LineLemmas.{cons_same}
 use Rattle.mb_verifier.specs.Entries.{IsOfEntries}
@@ -75,7 +75,7 @@ with_other zero (x ∷ xs) (y ∷ ys) equal in_x in_y differ = here (same_bytes 
     here true is = absurd (differ (ap (λ (z : List ℕ). Some z) (same_bytes-true x y is)))
     here false is = rw is refl
 with_other (suc n) (x ∷ xs) (y ∷ ys) equal in_x in_y differ =
-    let one : x ≡ y = some_same x y (ap first_item equal) in
+    let one : x ≡ y = same_Some x y (ap first_item equal) in
     let same_here : same_bytes x y ≡ true = ap (same_bytes x) (sym one) ∙ same_bytes-refl x in
     rw (same_here, with_other n xs ys (ap later_items equal) (omega (arith, in_x)) (omega (arith, in_y)) differ) refl
 
@@ -244,7 +244,7 @@ row_same a b serial number code hashes =
     ∙ ap (λ (h : List (List ℕ)). record { serial = b.serial; number = b.number; code = b.code; hashes = h }) hashes
 
 one_row : (log : List Entry) (a b : Row) → IsRowOf log a → IsRowOf log b → a ≡ b
-one_row log a b x y = row_same a b (some_same a.serial b.serial (sym x.serial ∙ y.serial)) (x.number ∙ sym y.number) (x.code ∙ sym y.code) (x.hashes ∙ sym y.hashes)
+one_row log a b x y = row_same a b (same_Some a.serial b.serial (sym x.serial ∙ y.serial)) (x.number ∙ sym y.number) (x.code ∙ sym y.code) (x.hashes ∙ sym y.hashes)
 
 shown_once : (maker : PublicKey) (bytes : List ℕ) (a b : Row) → IsBytes bytes → IsShown maker bytes a → IsShown maker bytes b → a ≡ b
 shown_once maker bytes a b are x y =

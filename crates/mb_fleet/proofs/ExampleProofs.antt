@@ -3,6 +3,7 @@ use Rattle.std.proofs.Common.{◌≡◌, ◌<◌, ◌+◌, ℕ, List, [], ◌∷
 use Rattle.std.specs.Prelude.{replicate}
 use Rattle.std.specs.List.{AllByRecursion}
 use Rattle.std.specs.Fmt.{digits}
+use Rattle.std.proofs.lemmas.Option.{same_Some}
 use Rattle.mb_format.specs.Format.{Format, Spells, FailsWhole}
 use Rattle.mb_format.specs.Combinators.{number_bytes, items, times}
 use Rattle.mb_format.specs.Reading.{IsExact, reads_whole, raw_at, number_at}
@@ -14,7 +15,6 @@ use Rattle.mb_model.specs.chains.Lines.{text_of}
 use Rattle.mb_model.specs.records.ChainFormat.{chain_format}
 use Rattle.mb_model.specs.chains.Acceptance.{bad_form}
 use Rattle.mb_model.proofs.EntryFormatLaws.{chain_exact}
-use Rattle.mb_model_lemmas.proofs.Splits.{some_same}
 use Rattle.mb_fleet.specs.declared.row.Row.{Row}
 use Rattle.mb_fleet.specs.declared.item.Item.{Item}
 use Rattle.mb_fleet.specs.declared.item.Item.TheVariants.{Show, Codes}
@@ -111,7 +111,7 @@ shown_examples = record {
     equal = refl;
     in_a = lit≤ tt;
     in_b = lit≤ tt;
-    differ = λ e. before_differs (replicate 32 6) (replicate 32 7) refl (some_same (replicate 32 6) (replicate 32 7) e);
+    differ = λ e. before_differs (replicate 32 6) (replicate 32 7) refl (same_Some (replicate 32 6) (replicate 32 7) e);
   }) refl refl;
   no_chain = no_chain;
 }

@@ -3,6 +3,7 @@ use Rattle.std.proofs.Common.{◌≡◌, ◌≢◌, ◌<◌, ℕ, List, [], ◌�
 use Rattle.std.specs.Prelude.{◌⊎◌, zero, suc, All, Contains, map, slice_get}
 use Rattle.std.proofs.lemmas.List.{map-append}
 use Rattle.std.proofs.lemmas.List.Elements.{All-head, All-tail, All-contains, Contains-append_left, Contains-append_right, Contains-append_cases}
+use Rattle.std.proofs.lemmas.Option.{same_Some}
 use Rattle.mb_format.proofs.Whole.{IsClearWhole-from_exact}
 use Rattle.mb_model.specs.declared.entry.Entry.{Entry}
 use Rattle.mb_model.specs.declared.entry.SignedEntry.{SignedEntry}
@@ -14,7 +15,6 @@ use Rattle.mb_model.specs.owners.Log.{entries_of, serial_of}
 use Rattle.mb_model.specs.memories.Valid.{EachFollows}
 use Rattle.mb_model.proofs.EntryFormatLaws.{chain_exact}
 use Rattle.mb_model_lemmas.proofs.ChainLemmas.{honest_is_front}
-use Rattle.mb_model_lemmas.proofs.Splits.{some_same}
 use Rattle.mb_verifier.specs.Entries.{IsOfEntries}
 use Rattle.mb_model_histories.specs.KeyLaws.{Collide}
 use Rattle.mb_model_histories.proofs.KeyLemmas.{same_or_collide}
@@ -429,7 +429,7 @@ row_same a b serial number code hashes =
     ∙ ap (λ (h : List (List ℕ)). record { serial = b.serial; number = b.number; code = b.code; hashes = h }) hashes
 
 log_row : (log : List Entry) (a b : Row) → IsRowOf log a → IsRowOf log b → a ≡ b
-log_row log a b x y = row_same a b (some_same a.serial b.serial (sym x.serial ∙ y.serial)) (x.number ∙ sym y.number) (x.code ∙ sym y.code) (x.hashes ∙ sym y.hashes)
+log_row log a b x y = row_same a b (same_Some a.serial b.serial (sym x.serial ∙ y.serial)) (x.number ∙ sym y.number) (x.code ∙ sym y.code) (x.hashes ∙ sym y.hashes)
 
 shown_once : (maker : PublicKey) (bytes : List ℕ) (a b : Row) → IsBytes bytes → IsShown maker bytes a → IsShown maker bytes b → a ≡ b
 shown_once maker bytes a b are x y =

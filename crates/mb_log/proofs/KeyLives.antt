@@ -3,6 +3,7 @@ use Rattle.std.proofs.Common.{◌≡◌, ℕ, List, [], ◌∷◌, ◌++◌, Boo
 use Rattle.std.specs.Prelude.{Result, Ok, Err, OnOk, ◌==◌, not, ◌&&◌, if◌then◌else◌}
 use Rattle.std.specs.Option.{option_map}
 use Rattle.std.proofs.lemmas.Bool.Decides.{eqb_tells}
+use Rattle.std.proofs.lemmas.Option.{same_Some}
 use Rattle.mb_model.specs.declared.key.PublicKey.{PublicKey}
 use Rattle.mb_model.specs.declared.order.KeyKind.{KeyKind}
 use Rattle.mb_model.specs.declared.entry.Entry.{Entry}
@@ -12,7 +13,7 @@ use Rattle.mb_model.specs.owners.Log.{figures_of, number_of, layers_of, last_of,
 use Rattle.mb_model.specs.owners.Lives.{ends_keys, configuration, configurations_opened_by, lives_of}
 use Rattle.mb_model.specs.chains.Acceptance.{KeyEntry, key_in, key_of, is_alive}
 use Rattle.mb_model_lemmas.proofs.ReaderLemmas.{no_lives_unmade, first_sight, first_lives, first_alive, stays_made, stays_alive, lives_on}
-use Rattle.mb_model_lemmas.proofs.Splits.{some_same, none_is_some}
+use Rattle.mb_model_lemmas.proofs.Splits.{none_is_some}
 use Rattle.mb_log.specs.declared.life.BornKey.{BornKey}
 use Rattle.mb_log.specs.declared.life.Life.{Life}
 use Rattle.mb_model.specs.declared.state.Figures.{Figures}
@@ -131,7 +132,7 @@ goes_on before entry n life next born ruled was is number_is born_is alive_is li
           alive_is
           ∙ ap (λ b. b && on) flag
           ∙ sym (stays_alive before entry n made ruled named)
-          ∙ ap (λ (m : KeyEntry). is_alive (before ++ entry ∷ []) n m.layer) (some_same made other (sym still ∙ e));
+          ∙ ap (λ (m : KeyEntry). is_alive (before ++ entry ∷ []) n m.layer) (same_Some made other (sym still ∙ e));
       lives =
           lives_are
           ∙ ap (λ cs. cs ++ (if life.alive && on then configurations_opened_by born.layer entry else [])) is.lives

@@ -3,8 +3,7 @@ use Rattle.std.proofs.Common.{◌≡◌, ◌<◌, ◌+◌, ℕ, List, [], length
 use Rattle.std.specs.Option.{option_or}
 use Rattle.mb_model.specs.declared.entry.SignedEntry.{SignedEntry}
 use Rattle.mb_model.specs.owners.Log.{entries_of, last_of, serial_in, serial_of}
-use Rattle.mb_model_lemmas.proofs.LogLemmas.{entries_more}
-use Rattle.mb_model_lemmas.proofs.ValidLogs.{serial_of-push}
+use Rattle.mb_model_lemmas.proofs.LogLemmas.{entries_more, serial_of-push}
 
 pub serial_none : serial_of [] ≡ None
 unfolding serial_of last_of

@@ -2,6 +2,7 @@
 use Rattle.std.proofs.Common.{◌≡◌, ℕ, zero, suc, ◌≤◌, List, [], ◌∷◌, length, take, inl, inr, Option, Some, true, sym, ap, ◌∙◌, arith}
 use Rattle.std.specs.Prelude.{◌⊎◌, codes, slice_index}
 use Rattle.std.proofs.lemmas.Bool.{false≢true}
+use Rattle.std.proofs.lemmas.Option.{same_Some}
 use Rattle.mb_model.specs.outside.Board.{loaded_once_more, having_answered}
 use Rattle.mb_model_commands.specs.Outside.{Outside, count_after_call, read_once, FailsToRead, by_fault, by_absence}
 use Rattle.mb_model_commands.specs.Commands.{Command, read, find, either_command, load, serve, rehearse, write, print, refuse, lack, Input, Output, Past, Ended, end_seen_from, InputEnds, input_is_too_long, input_is_faulty, input_is_not_read, memory_lacks, PrintEnds, text_is_printed, text_is_not_printed, CommandEnds, HasInputsFor}
@@ -14,7 +15,7 @@ use Rattle.mb_model_commands.specs.VerifyCommand.{verify}
 use Rattle.mb_model_commands.specs.ChainCommands.{chain, attach}
 use Rattle.mb_model_commands.specs.AuditCommand.{audit}
 use Rattle.mb_model_commands.specs.GenerateCommand.{generate}
-use Rattle.mb_model_lemmas.proofs.Splits.{some_same, none_is_some}
+use Rattle.mb_model_lemmas.proofs.Splits.{none_is_some}
 use Rattle.mb_model_lemmas.proofs.LineLemmas.{cons_none}
 use Rattle.mb_model_examples.specs.CommandCounterExamples.{StatusCounterExamples, CommandCounterExamples, FileCounterExamples, HostCounterExamples}
 
@@ -119,7 +120,7 @@ other_text : (past : Past) (e : Ended) → e.before.printed ≡ Some [] → e.af
     → CommandEnds (print (codes "a")) past e → ⊥
 unfolding CommandEnds
 other_text past e before after done (inl (text_is_printed prints same status)) =
-    let texts = some_same (codes "b") (codes "a") (sym after ∙ prints.adds [] before) in
+    let texts = same_Some (codes "b") (codes "a") (sym after ∙ prints.adds [] before) in
     omega (arith, ap (λ (bytes : List ℕ). slice_index bytes 0) texts)
 other_text past e before after done (inl (text_is_not_printed mid fails stops)) = omega (arith, done, stops.status_is)
 other_text past e before after done (inr wants) = omega (arith, done, wants.stops.status_is)
@@ -139,7 +140,7 @@ not_written past e text output files now done seven before after empty (inl ends
 not_written past e text output files now done seven before after empty (inr (inl it)) =
     let stays = print_leaves text (record past { wrote = true }) (end_seen_from it.0 e) done it.2 in
     let held = it.1.holds now (sym stays ∙ after) in
-    cons_none 7 [] (some_same [] output.bytes (sym empty ∙ held) ∙ seven)
+    cons_none 7 [] (same_Some [] output.bytes (sym empty ∙ held) ∙ seven)
 not_written past e text output files now done seven before after empty (inr (inr wants)) = omega (arith, done, wants.stops.status_is)
 
 pub commands : (past : Past) (e : Ended) (text : List ℕ) → CommandCounterExamples past e text
@@ -172,8 +173,8 @@ other_front (suc part) e = omega (arith, ap (λ (bytes : List ℕ). slice_index 
 pub hosts : (before after : Outside) (name bytes : List ℕ) → HostCounterExamples before after name bytes
 hosts before after name bytes = record {
   too_long = λ long has. omega (arith, long, has.fits);
-  other_bytes = λ files told empty has. cons_none 7 [] (some_same [] (7 ∷ []) (sym empty ∙ has.held files told));
+  other_bytes = λ files told empty has. cons_none 7 [] (same_Some [] (7 ∷ []) (sym empty ∙ has.held files told));
   no_byte = λ high has. omega (arith, high, has.are_bytes 0);
   uncounted = counted name before after;
-  other_text = λ nothing printed fails. other_front fails.part (some_same (codes "b") (take fails.part (codes "a")) (sym printed ∙ fails.adds [] nothing));
+  other_text = λ nothing printed fails. other_front fails.part (same_Some (codes "b") (take fails.part (codes "a")) (sym printed ∙ fails.adds [] nothing));
 }

@@ -3,6 +3,7 @@ use Rattle.std.proofs.Common.{◌≡◌, ◌≢◌, ℕ, zero, suc, ◌<◌, Lis
 use Rattle.std.specs.Prelude.{All, Contains, is_some, slice_index, Result, Ok, Err}
 use Rattle.std.proofs.lemmas.Bool.{false≢true}
 use Rattle.std.proofs.lemmas.List.Elements.{All-nil, All-cons, All-from_recursion}
+use Rattle.std.proofs.lemmas.Option.{same_Some}
 use Rattle.mb_format.specs.Format.{Spells}
 use Rattle.mb_format.specs.Combinators.{items}
 use Rattle.mb_format.specs.Reading.{raw_at, number_at}
@@ -36,11 +37,11 @@ use Rattle.mb_model.specs.machine.Runs.{IsSignedAt, HasInCharge}
 use Rattle.mb_model.proofs.OrderFormatLaws.{order_exact}
 use Rattle.mb_model_commands.specs.Inputs.{Image}
 use Rattle.mb_model_lemmas.proofs.AliveLemmas.{alive_is_listed}
-use Rattle.mb_model_lemmas.proofs.FateLemmas.{pairs_head}
 use Rattle.mb_model_lemmas.proofs.LineLemmas.{cons_same, cons_none}
 use Rattle.mb_model_lemmas.proofs.OrderLemmas.{passes_fail_nothing, refused_order_leaves}
 use Rattle.mb_model_lemmas.proofs.RefusalLemmas.{machine_is_whole}
-use Rattle.mb_model_lemmas.proofs.Splits.{some_same, none_is_some, All-split}
+use Rattle.mb_model_lemmas.proofs.Splits.{none_is_some, All-split}
+use Rattle.mb_model_lemmas.proofs.ListLemmas.{pairs_head}
 use Rattle.mb_model_examples.specs.RuleExamples.{officer, at_birth, with_two, with_three, nobody, by_two, three_renewed, life}
 use Rattle.mb_model_examples.specs.Device.{signed_with, seed_of, token, key_one, after_uses}
 use Rattle.mb_model_examples.specs.RunCounterExamples.{OrderCounterExamples, RefusalCounterExamples, StepCounterExamples, RunCounterExamples, ServedCounterExamples, booted, turned_off, LogCounterExamples, ChargeCounterExamples, stated_at, IndexCounterExamples, betrayed_life, AliveCounterExamples, RegionCounterExamples}
@@ -175,7 +176,7 @@ pub logs : LogCounterExamples
 logs = record {
   shortened = λ earlier later shorter goes.
       let comes = goes later refl in
-      let first = ap (λ (state : State). length state.log) (some_same earlier comes.0 comes.1) in
+      let first = ap (λ (state : State). length state.log) (same_Some earlier comes.0 comes.1) in
       omega (arith, shorter, first, ap length comes.2.1, length-append comes.0.log comes.2.0);
   rewritten = λ birth other differs begins. differs (cons_same other birth [] begins.0 begins.1).0;
   revived = λ state goes. absurd (grind (arith, (goes state refl).1));

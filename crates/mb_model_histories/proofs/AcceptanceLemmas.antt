@@ -5,6 +5,7 @@ use Rattle.std.specs.Int.{w32, to_be_bytes}
 use Rattle.std.specs.Option.{option_or}
 use Rattle.std.proofs.lemmas.Bool.{cases_lt}
 use Rattle.std.proofs.lemmas.List.{map-append}
+use Rattle.std.proofs.lemmas.Option.{same_Some}
 use Rattle.mb_model.specs.declared.entry.Entry.{Entry}
 use Rattle.mb_model.specs.declared.entry.Entry.TheVariants.{Birth, Change, NewKey, Succession}
 use Rattle.mb_model.specs.declared.entry.SignedEntry.{SignedEntry}
@@ -30,14 +31,13 @@ use Rattle.mb_model.specs.memories.Valid.{IsValidState, Valid}
 use Rattle.mb_model.proofs.KeyLemmas.{same_parts, word_same}
 use Rattle.mb_model_lemmas.proofs.ChainLemmas.{honest_is_front}
 use Rattle.mb_model_lemmas.proofs.LineLemmas.{cons_same}
-use Rattle.mb_model_lemmas.proofs.LogLemmas.{layers_of-push, number_of-push, number_of-append, number_of-le-length, length-entries_of, RuledLog-front}
+use Rattle.mb_model_lemmas.proofs.LogLemmas.{layers_of-push, number_of-push, number_of-append, number_of-le-length, length-entries_of, RuledLog-front, serial_on, layers_on}
 use Rattle.mb_model_lemmas.proofs.PresentLemmas.{alive_lives_now}
-use Rattle.mb_model_lemmas.proofs.ReaderLemmas.{stays_made, flagged_lives}
+use Rattle.mb_model_lemmas.proofs.ReaderLemmas.{stays_made, flagged_lives, made_on}
 use Rattle.mb_model_lemmas.proofs.RefusalLemmas.{awake_state}
-use Rattle.mb_model_lemmas.proofs.Splits.{some_same}
-use Rattle.mb_model_lemmas.proofs.ValidLogs.{serial_of-push}
 use Rattle.mb_model_lemmas.proofs.ValidStates.{valid_is_ruled}
 use Rattle.mb_model_lemmas.proofs.ValidSteps.{run_valid}
+use Rattle.mb_model_lemmas.proofs.ListLemmas.{front_of}
 use Rattle.mb_model_runs.proofs.BirthLemmas.{key_of-split}
 use Rattle.mb_model_runs.proofs.GrowthLemmas.{logs_grow}
 use Rattle.mb_model_runs.proofs.KeyLemmas.{upper_of, key_lives}
@@ -45,73 +45,10 @@ use Rattle.mb_model_runs.proofs.SignedSteps.{step_signs}
 use Rattle.mb_model_histories.specs.Histories.{ComesAfter}
 use Rattle.mb_model_histories.specs.AcceptanceLaws.{SignsBetween, HonestStatement, WasMade}
 use Rattle.mb_model_histories.proofs.HistoryLemmas.{runs_lead}
-use Rattle.mb_model_histories.proofs.SinceLemmas.{front_of}
 use Rattle.mb_model_histories.proofs.StepLemmas.{awake_phase}
 use Rattle.mb_model_histories.proofs.TargetLemmas.{serials_stay}
 
 -- ---- more entries
-
--- what the log says of a key, it says with more entries too
-pub made_on : (rest front : List Entry) (n : ℕ) (made : KeyEntry) → RuledLog (front ++ rest) → key_of front n ≡ Some made → key_of (front ++ rest) n ≡ Some made
-made_on [] front n made ruled is = ap (λ log. key_of log n) (append-nil front) ∙ is
-made_on (entry ∷ rest) front n made ruled is =
-    let more : List Entry = front ++ entry ∷ [] in
-    let whole : more ++ rest ≡ front ++ entry ∷ rest = append_assoc front (entry ∷ []) rest in
-    let longer : RuledLog (more ++ rest) = subst RuledLog (sym whole) ruled in
-    let now : key_of more n ≡ Some made = stays_made front entry n made (RuledLog-front more rest longer) is in
-    ap (λ log. key_of log n) (sym whole) ∙ made_on rest more n made longer now
-
-no_birth : (before : List Entry) (entry : Entry) → before ≢ [] → Ruled (figures_of before) entry → serial_in entry ≡ None
-no_birth [] entry some ruled = absurd (some refl)
-no_birth (x ∷ xs) (Birth version serial key layers) some ruled = absurd (omega (arith, ruled.0))
-no_birth (x ∷ xs) (Change version position number kind layer cosigned layers kept next) some ruled = refl
-no_birth (x ∷ xs) (NewKey position number key_number layer kind key) some ruled = refl
-no_birth (x ∷ xs) (Succession position key) some ruled = refl
-
-no_layers : (entry : Entry) → serial_in entry ≡ None → is_change entry ≡ false → layers_in entry ≡ None
-no_layers (Birth version serial key layers) no_serial quiet = absurd (grind (arith, no_serial))
-no_layers (Change version position number kind layer cosigned layers kept next) no_serial quiet = absurd (grind (arith, quiet))
-no_layers (NewKey position number key_number layer kind key) no_serial quiet = refl
-no_layers (Succession position key) no_serial quiet = refl
-
-pub some_more : (front : List Entry) (entry : Entry) → front ++ entry ∷ [] ≢ []
-some_more front entry none = absurd (omega (arith, ap length none, length-append front (entry ∷ [])))
-
-ruled_next : (front rest : List Entry) (entry : Entry) → RuledLog (front ++ entry ∷ rest) → Ruled (figures_of front) entry
-ruled_next front rest entry ruled = ruled front entry rest refl
-
--- the serial is that of the first entry
-pub serial_on : (rest front : List Entry) (serial : List ℕ) → front ≢ [] → RuledLog (front ++ rest) → serial_of front ≡ Some serial → serial_of (front ++ rest) ≡ Some serial
-serial_on [] front serial some ruled is = ap serial_of (append-nil front) ∙ is
-serial_on (entry ∷ rest) front serial some ruled is =
-    let more : List Entry = front ++ entry ∷ [] in
-    let whole : more ++ rest ≡ front ++ entry ∷ rest = append_assoc front (entry ∷ []) rest in
-    let none : serial_in entry ≡ None = no_birth front entry some (ruled_next front rest entry ruled) in
-    let now : serial_of more ≡ Some serial = serial_of-push front entry ∙ ap (λ (o : Option (List ℕ)). option_or o (serial_of front)) none ∙ is in
-    ap serial_of (sym whole) ∙ serial_on rest more serial (some_more front entry) (subst RuledLog (sym whole) ruled) now
-
-one_if : Bool → ℕ
-one_if b = if b then 1 else 0
-
-quiet_if : (b : Bool) → one_if b ≡ 0 → b ≡ false
-unfolding one_if
-quiet_if true e = absurd (omega (arith, e))
-quiet_if false e = refl
-
--- entries without a change leave the layers
-layers_on : (rest front : List Entry) → front ≢ [] → RuledLog (front ++ rest) → number_of (front ++ rest) ≡ number_of front → layers_of (front ++ rest) ≡ layers_of front
-unfolding one_if
-layers_on [] front some ruled same = ap layers_of (append-nil front)
-layers_on (entry ∷ rest) front some ruled same =
-    let more : List Entry = front ++ entry ∷ [] in
-    let whole : more ++ rest ≡ front ++ entry ∷ rest = append_assoc front (entry ∷ []) rest in
-    let counted : number_of more ≡ number_of front + one_if (is_change entry) = number_of-push front entry in
-    let total : number_of (front ++ entry ∷ rest) ≡ number_of more + number_of rest = ap number_of (sym whole) ∙ number_of-append more rest in
-    let quiet : is_change entry ≡ false = quiet_if (is_change entry) (omega (arith, same, counted, total)) in
-    let still : number_of (more ++ rest) ≡ number_of more = ap number_of whole ∙ omega (arith, same, counted, total) in
-    let none : layers_in entry ≡ None = no_layers entry (no_birth front entry some (ruled_next front rest entry ruled)) quiet in
-    ap layers_of (sym whole) ∙ layers_on rest more (some_more front entry) (subst RuledLog (sym whole) ruled) still
-    ∙ layers_of-push front entry ∙ ap (λ (o : Option Layers). unwrap_or o (layers_of front)) none
 
 -- of two prefixes of a log with as many changes the layers are the same
 same_layers : (log a b x y : List Entry) → RuledLog log → log ≡ a ++ x → log ≡ b ++ y → a ≢ [] → b ≢ [] → number_of a ≡ number_of b → layers_of a ≡ layers_of b
@@ -166,7 +103,7 @@ region_in_control here layer n index message bytes (Err refusal) next state is w
     absurd (grind (arith, clash))
 region_in_control here layer n index message bytes (Ok on) next state is was e =
     let parts = not_refused (nat_lt layer on.0) (is_runnable on.1.layers layer) n index bytes _ (sign_event layer n message on.1) on.1 (sym (ap (λ (t : Told). t.0) e)) in
-    let same : on.1 ≡ state = some_same on.1 state (sym (awake_state here.phase here.state on is) ∙ was) in
+    let same : on.1 ≡ state = same_Some on.1 state (sym (awake_state here.phase here.state on is) ∙ was) in
     record {
       level = on.0;
       runs = subst (λ (s : State). Runnable s.layers layer) same parts.1;
@@ -193,7 +130,7 @@ key_of_layer : (here after : World) (layer n index : ℕ) (message bytes : List 
     → IsOfLayer state layer n
 key_of_layer here after layer n index message bytes state valid step was =
     let signs = step_signs here (Sign layer n message) n index bytes after step in
-    let same : signs.state ≡ state = some_same signs.state state (sym signs.was ∙ was) in
+    let same : signs.state ≡ state = same_Some signs.state state (sym signs.was ∙ was) in
     let at : signs.L ≡ layer = layer_asked signs.L layer n n signs.message message (sym signs.asked) in
     let here_valid : IsValidState signs.state = subst IsValidState (sym same) valid in
     let key = signs.signs.key in
@@ -245,7 +182,7 @@ accepted_statements_were_made maker bytes n report accepts statement first last 
     let some_chain : chain ≢ [] = made_some chain n made accepts.named in
     let named_in_log : key_of log n ≡ Some made = ap (λ es. key_of es n) front.1 ∙ made_on front.0 chain n made chain_ruled accepts.named in
     let serial_in_log : serial_of log ≡ Some serial.0 = ap serial_of front.1 ∙ serial_on front.0 chain serial.0 some_chain chain_ruled serial.1 in
-    let serial_is : serial.0 ≡ live.serial = some_same serial.0 live.serial (sym serial_in_log ∙ live_valid.serial) in
+    let serial_is : serial.0 ≡ live.serial = same_Some serial.0 live.serial (sym serial_in_log ∙ live_valid.serial) in
     -- the moment
     let at : SignsBetween first last n (statement_text serial.0 n statement.number statement.message) = not_forged made serial.0 named_in_log serial_in_log serial.2 in
     let this : Answered = record { event = Sign at.layer n at.message; reply = reply.Signed n at.index at.bytes } in
@@ -254,7 +191,7 @@ accepted_statements_were_made maker bytes n report accepts statement first last 
     let later = runs_lead at.after last live at.later is in
     let onwards : Run at.here (this ∷ later.0) last = (at.after, at.step, later.1) in
     let grown = logs_grow at.here (this ∷ later.0) last onwards live is in
-    let one : grown.0 ≡ at.state = some_same grown.0 at.state (sym grown.1 ∙ at.is) in
+    let one : grown.0 ≡ at.state = same_Some grown.0 at.state (sym grown.1 ∙ at.is) in
     let begins : BeginsWith live.log at.state.log = subst (λ (s : State). BeginsWith live.log s.log) one grown.2 in
     let split : log ≡ entries_of at.state.log ++ entries_of begins.0 = ap entries_of begins.1 ∙ map-append (λ (s : SignedEntry). s.entry) at.state.log begins.0 in
     -- the text
@@ -265,7 +202,7 @@ accepted_statements_were_made maker bytes n report accepts statement first last 
     -- the key and its layer
     let own : IsOfLayer at.state at.layer n = key_of_layer at.here at.after at.layer n at.index at.message at.bytes at.state state_valid at.step at.is in
     let own_in_log : key_of log n ≡ Some own.made = ap (λ es. key_of es n) split ∙ made_on (entries_of begins.0) (entries_of at.state.log) n own.made (subst RuledLog split ruled) own.named in
-    let one_key : own.made ≡ made = some_same own.made made (sym own_in_log ∙ named_in_log) in
+    let one_key : own.made ≡ made = same_Some own.made made (sym own_in_log ∙ named_in_log) in
     let reported : made.layer ≡ report.layer = ap (λ (r : Report). r.layer) (sym accepts.report_is) in
     let layer : at.layer ≡ report.layer = sym own.layer_is ∙ ap (λ (k : KeyEntry). k.layer) one_key ∙ reported in
     let upper : IsTrue (is_upper made.layer) = subst (λ m. IsTrue (is_upper m)) (layer ∙ sym reported) own.upper in

@@ -35,18 +35,17 @@ use Rattle.mb_model.specs.machine.OrderEffects.{own_entry}
 use Rattle.mb_model.specs.memories.Valid.{EachFollows, IsValidState, Valid}
 use Rattle.mb_model_lemmas.proofs.ChainLemmas.{accepted_is_ruled, good_is_ruled, honest_is_front}
 use Rattle.mb_model_lemmas.proofs.LineLemmas.{cons_same}
-use Rattle.mb_model_lemmas.proofs.LogLemmas.{length-entries_of, RuledLog-front}
+use Rattle.mb_model_lemmas.proofs.LogLemmas.{length-entries_of, RuledLog-front, serial_on}
 use Rattle.mb_model_lemmas.proofs.OwnEntries.{appends_own}
 use Rattle.mb_model_lemmas.proofs.ReaderLemmas.{lives_on, no_lives_unmade}
 use Rattle.mb_model_lemmas.proofs.ValidStates.{follows_is_ruled}
 use Rattle.mb_model_lemmas.proofs.ValidSteps.{run_valid}
+use Rattle.mb_model_lemmas.proofs.ListLemmas.{contains_none, front_of}
 use Rattle.mb_model_histories.specs.AgreementLaws.{IsPrefixOf, AreOfOnePast, HonestChainsAgree, OwnChainsAreHonest, ReplayedImagesPart, HonestChainsTellOfOneDevice, NothingIsOfNoDevice, HonestAmongOneIsHonest, LivesBeginWith, UnruledLivesMayNot, ShortenedChainsListLess}
 use Rattle.mb_model_histories.specs.PowerLaws.{SmoothRun, power_off}
 use Rattle.mb_model_histories.specs.RepairLaws.{CanBeGiven, plain_order, power_on, answered_done}
-use Rattle.mb_model_histories.proofs.AcceptanceLemmas.{serial_on}
 use Rattle.mb_model_histories.proofs.ObeyedLemmas.{and_false}
 use Rattle.mb_model_histories.proofs.RepairLemmas.{layer_one_can_be_loaded}
-use Rattle.mb_model_histories.proofs.SinceLemmas.{contains_none, front_of}
 
 -- ---- chains of one device
 

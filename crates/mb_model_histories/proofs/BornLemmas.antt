@@ -2,6 +2,7 @@
 use Rattle.std.proofs.Common.{◌≡◌, ◌<◌, ℕ, List, [], ◌∷◌, ◌++◌, length, inl, inr, Some, refl, sym, ap, ◌∙◌, subst, arith, length-append}
 use Rattle.std.specs.Prelude.{All}
 use Rattle.std.proofs.lemmas.List.Elements.{All-nil, All-cons, All-head, All-tail, All-weaker}
+use Rattle.std.proofs.lemmas.Option.{same_Some}
 use Rattle.mb_model.specs.declared.entry.SignedEntry.{SignedEntry}
 use Rattle.mb_model.specs.declared.event.Answered.{Answered}
 use Rattle.mb_model.specs.declared.key.KeySeed.{KeySeed}
@@ -20,11 +21,10 @@ use Rattle.mb_model.specs.chains.Script.{IsScriptEvent}
 use Rattle.mb_model.specs.signatures.Signing.{public_of}
 use Rattle.mb_model.specs.machine.SignedTexts.{entry_text}
 use Rattle.mb_model.specs.memories.Valid.{Follows, IsValidState}
-use Rattle.mb_model_lemmas.proofs.FactoryLemmas.{birth_is_valid, factory_is_well_formed}
+use Rattle.mb_model_lemmas.proofs.FactoryLemmas.{birth_is_valid, factory_is_well_formed, only_entry}
 use Rattle.mb_model_lemmas.proofs.HeldSegments.{segments_parts_fit}
 use Rattle.mb_model_lemmas.proofs.LineLemmas.{cons_same}
 use Rattle.mb_model_lemmas.proofs.SignatureLemmas.{signature_verifies}
-use Rattle.mb_model_lemmas.proofs.Splits.{some_same}
 use Rattle.mb_model_memory.proofs.StorableMemories.{stands_storable_by}
 use Rattle.mb_model_memory.specs.Storable.{Storable}
 use Rattle.mb_model_runs.proofs.StatementLemmas.{statements_stay_accepted}
@@ -48,7 +48,7 @@ module _ (maker : KeySeed) (index : ℕ) (owner : PublicKey) (code noise : List 
   pub born_of_their_maker : (runs : List (List Answered)) (live : State) → index < 32 → History (Some (state_at_birth maker index owner code noise)) runs (Some live) → IsBornOf (public_of maker) live.log
   born_of_their_maker runs live left history first rest split =
       let grown = logs_grow_over_histories (Some (state_at_birth maker index owner code noise)) runs live history in
-      let same : state_at_birth maker index owner code noise ≡ grown.0 = some_same (state_at_birth maker index owner code noise) grown.0 grown.1 in
+      let same : state_at_birth maker index owner code noise ≡ grown.0 = same_Some (state_at_birth maker index owner code noise) grown.0 grown.1 in
       let log : grown.0.log ≡ birth ∷ [] = ap (λ (s : State). s.log) (sym same) ∙ birth_log in
       let whole : birth ∷ grown.2.0 ≡ first ∷ rest = ap (λ (l : List SignedEntry). l ++ grown.2.0) (sym log) ∙ sym grown.2.1 ∙ split in
       let one : birth ≡ first = (cons_same birth first grown.2.0 rest whole).0 in
@@ -112,12 +112,6 @@ unsigned_birth = record { entry = birth_entry (public_of no_seed) [] []; signatu
 unsigned_state : State
 unsigned_state = record (state_at_birth no_seed 0 (public_of no_seed) [] []) { log = unsigned_birth ∷ [] }
 
-only_first : (own signed : SignedEntry) (before rest : List SignedEntry) → own ∷ [] ≡ before ++ signed ∷ rest → Follows (figures_of []) own → Follows (figures_of (entries_of before)) signed
-only_first own signed [] rest split follows =
-    let same : own ≡ signed = cc in
-    subst (Follows (figures_of [])) same follows
-only_first own signed (first ∷ before) rest split follows = absurd (omega (arith, ap length split, length-append before (signed ∷ rest)))
-
 unsigned_follows : Follows (figures_of []) unsigned_birth
 unfolding unsigned_birth state_at_birth entry_signed_by
 unsigned_follows = record {
@@ -131,7 +125,7 @@ unfolding unsigned_birth unsigned_state state_at_birth entry_signed_by
 unsigned_is_valid =
     let born : IsValidState (state_at_birth no_seed 0 (public_of no_seed) [] []) = birth_is_valid no_seed 0 (public_of no_seed) [] [] in
     record {
-      log = λ before signed rest split. only_first unsigned_birth signed before rest split unsigned_follows;
+      log = λ before signed rest split. only_entry unsigned_birth signed before rest split unsigned_follows;
       layers = born.layers;
       codes = born.codes;
       serial = born.serial;

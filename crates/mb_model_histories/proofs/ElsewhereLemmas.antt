@@ -21,15 +21,16 @@ use Rattle.mb_model.specs.owners.Regions.{region_of}
 use Rattle.mb_model.specs.machine.SignedTexts.{statement_text}
 use Rattle.mb_model.specs.signatures.Signing.{public_of, signature_of}
 use Rattle.mb_model.specs.memories.Valid.{IsValidState, Valid}
-use Rattle.mb_model_lemmas.proofs.FateLemmas.{pairs_head}
 use Rattle.mb_model_lemmas.proofs.ReaderLemmas.{living_is_flagged}
 use Rattle.mb_model_lemmas.proofs.SignatureLemmas.{signature_verifies}
 use Rattle.mb_model_lemmas.proofs.Splits.{All-split}
 use Rattle.mb_model_lemmas.proofs.ValidStates.{valid_is_ruled}
+use Rattle.mb_model_lemmas.proofs.ListLemmas.{pairs_head}
 use Rattle.mb_model_runs.specs.StatementLaws.{key_entry_of}
 use Rattle.mb_model_runs.proofs.BirthLemmas.{log_is_good, key_of-split}
 use Rattle.mb_model_runs.proofs.KeyLemmas.{key_lives}
 use Rattle.mb_model_runs.proofs.SpentLemmas.{Goes, indices_increase}
+use Rattle.mb_model_runs.proofs.StatementLemmas.{stated_by}
 use Rattle.mb_model_histories.specs.AcceptanceLaws.{WasMade, whole_chain, StatementsMayBeMadeElsewhere}
 use Rattle.mb_model_histories.proofs.AgreementLemmas.{own_chains_are_honest}
 use Rattle.mb_model_histories.proofs.HistoryLemmas.{pairs_back, run_on, runs_lead}
@@ -43,9 +44,6 @@ key_named state layer key valid within =
     let alive = key_lives state layer key valid within in
     ap (λ (log : List Entry). key_of log key.number) alive.split
     ∙ key_of-split alive.before alive.position alive.number key.number layer key.kind (public_of key.seed) alive.later (subst RuledLog alive.split (valid_is_ruled state valid))
-
-stated_by : (o : Option (List ℕ)) (serial : List ℕ) (P : List ℕ → Type 0) → o ≡ Some serial → P serial → IsSomeAnd o P
-stated_by o serial P is holds = subst (λ (p : Option (List ℕ)). IsSomeAnd p P) (sym is) holds
 
 -- the key signed it, in the last configuration, and is alive
 pub statement_current : (state : State) (layer : ℕ) (key : RegionKey) (message : List ℕ) → IsValidState state → Contains (region_of state layer).keys key → key.uses < 32

@@ -13,9 +13,9 @@ use Rattle.mb_model.specs.machine.Machine.{Phase, off, ratchet, World, opening_w
 use Rattle.mb_model.specs.machine.Machine.{Run}
 use Rattle.mb_model.specs.machine.Runs.{BeginsWith, IsSignedAt, SignsStatementsOnce, SignsAfterUses}
 use Rattle.mb_model.specs.memories.Valid.{Valid}
-use Rattle.mb_model_lemmas.proofs.FateLemmas.{pairs_head, pairs_tail}
 use Rattle.mb_model_lemmas.proofs.Splits.{none_is_some}
 use Rattle.mb_model_lemmas.proofs.ValidSteps.{run_valid}
+use Rattle.mb_model_lemmas.proofs.ListLemmas.{pairs_head, pairs_tail, All-front, All-back, All-without, pairs_without}
 use Rattle.mb_model_runs.proofs.GrowthLemmas.{begins_same, begins_on, logs_grow}
 use Rattle.mb_model_runs.proofs.SignedSteps.{step_signs}
 use Rattle.mb_model_runs.proofs.SpentLemmas.{Goes, indices_increase, indices_start}
@@ -135,26 +135,6 @@ module _ (start : World) (P : List Answered → Type 0)
       without before gap.pause (next ++ all_answered runs) (subst P (append_assoc (before ++ gap.pause) next (all_answered runs)) later)
 
 -- ---- indices
-
-pub All-back : {X : Type 0} (P : X → Type 0) (xs ys : List X) → All P (xs ++ ys) → All P ys
-All-back P [] ys all = all
-All-back P (x ∷ xs) ys all = All-back P xs ys (All-tail P x (xs ++ ys) all)
-
-pub All-front : {X : Type 0} (P : X → Type 0) (xs ys : List X) → All P (xs ++ ys) → All P xs
-All-front P [] ys all = All-nil P
-All-front P (x ∷ xs) ys all = All-cons P x xs (All-head P x (xs ++ ys) all) (All-front P xs ys (All-tail P x (xs ++ ys) all))
-
-All-without : {X : Type 0} (P : X → Type 0) (xs gap ys : List X) → All P (xs ++ gap ++ ys) → All P (xs ++ ys)
-All-without P xs gap ys all = All-append P xs ys (All-front P xs gap (All-front P (xs ++ gap) ys all)) (All-back P (xs ++ gap) ys all)
-
-pub pairs_back : {X : Type 0} (R : X → X → Type 0) (xs ys : List X) → AllPairs R (xs ++ ys) → AllPairs R ys
-pairs_back R [] ys all = all
-pairs_back R (x ∷ xs) ys all = pairs_back R xs ys (pairs_tail R x (xs ++ ys) all)
-
-pairs_without : {X : Type 0} (R : X → X → Type 0) (xs gap ys : List X) → AllPairs R (xs ++ gap ++ ys) → AllPairs R (xs ++ ys)
-pairs_without R [] gap ys all = pairs_back R gap ys all
-pairs_without R (x ∷ xs) gap ys all =
-    AllPairs-cons R x (xs ++ ys) (All-without (R x) xs gap ys (pairs_head R x (xs ++ gap ++ ys) all)) (pairs_without R xs gap ys (pairs_tail R x (xs ++ gap ++ ys) all))
 
 pairs_silent : (xs ys : List Answered) → AllPairs Goes xs → All Unsigned ys → AllPairs Goes (xs ++ ys)
 pairs_silent [] [] all none = all

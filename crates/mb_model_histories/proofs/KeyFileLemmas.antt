@@ -3,6 +3,7 @@ use Rattle.std.proofs.Common.{◌≡◌, ◌≢◌, ◌<◌, ◌≤◌, ◌⊎�
 use Rattle.std.specs.Prelude.{◌==◌, if◌then◌else◌, All, AllPairs}
 use Rattle.std.proofs.lemmas.List.Elements.{All-nil, All-cons, All-head}
 use Rattle.std.proofs.lemmas.List.Kept.{AllPairs-cons}
+use Rattle.std.proofs.lemmas.Option.{same_Some}
 use Rattle.mb_format.specs.Format.{Spells, IsClearWhole}
 use Rattle.mb_format.proofs.Whole.{IsClearWhole-from_exact}
 use Rattle.mb_model.specs.declared.order.Order.{Order}
@@ -18,8 +19,7 @@ use Rattle.mb_model_commands.specs.Commands.{Input, Command, read, write, print,
 use Rattle.mb_model_commands.specs.Inputs.{key_input, draft_input, order_input}
 use Rattle.mb_model_commands.specs.Outside.{Outside, read_once, FailsToRead, by_fault, by_absence}
 use Rattle.mb_model_commands.specs.Sign.{CountersignNames, index_text, use_index, sign_by, sign_draft, sign, countersign_by, countersign_order, countersign}
-use Rattle.mb_model_lemmas.proofs.FateLemmas.{pairs_head}
-use Rattle.mb_model_lemmas.proofs.Splits.{some_same}
+use Rattle.mb_model_lemmas.proofs.ListLemmas.{pairs_head}
 use Rattle.mb_model_histories.specs.KeyFileLaws.{Files, LeavesKey, nothing_is_written, key_is_not_written, index_is_used, SigningUsesUpItsIndex, CountersigningUsesUpItsIndex, KeyCommand, by_sign, by_countersign, key_name_of, out_name_of, EndsSo, KeyCall, NothingIsSignedWithoutAnIndex, CallsInTurn, indices_used, IndicesInTurnDiffer, OldKeysSignAgain}
 
 -- ---- ends without a write
@@ -55,7 +55,7 @@ ButFor name before after = (other : List ℕ) → other ≢ name → after other
 
 same_files : (before after : Files) (o p : Option Files) → o ≡ Some before → p ≡ Some after → p ≡ o → (name : List ℕ) → after name ≡ before name
 same_files before after o p is_before is_after same name =
-    let equal : after ≡ before = some_same after before (sym is_after ∙ same ∙ is_before) in
+    let equal : after ≡ before = same_Some after before (sym is_after ∙ same ∙ is_before) in
     ap (λ (f : Files). f name) equal
 
 -- ---- the key is used
@@ -67,12 +67,12 @@ out_left : (name text line : List ℕ) (role_of : Role) (between after : Files) 
 unfolding CommandEnds
 out_left name text line role_of between after ending is_between is_after (inl ends) =
     let kept = ends.fails.others between is_between in
-    let same : after ≡ kept.0 = some_same after kept.0 (sym is_after ∙ stopped_files _ 5 _ _ ends.stops ∙ kept.1) in
+    let same : after ≡ kept.0 = same_Some after kept.0 (sym is_after ∙ stopped_files _ 5 _ _ ends.stops ∙ kept.1) in
     (λ other apart. ap (λ (f : Files). f other) same ∙ kept.2 other apart, inr ends.stops.status_is)
 out_left name text line role_of between after ending is_between is_after (inr (inl (mid, writes, rest))) =
     let kept = writes.others between is_between in
     let printed : ending.after.files ≡ mid.files = printed_files text (record at_first { wrote = true }) (end_seen_from mid ending) refl rest in
-    let same : after ≡ kept.0 = some_same after kept.0 (sym is_after ∙ printed ∙ kept.1) in
+    let same : after ≡ kept.0 = same_Some after kept.0 (sym is_after ∙ printed ∙ kept.1) in
     (λ other apart. ap (λ (f : Files). f other) same ∙ kept.2 other apart, inl (ap (λ (f : Files). f name) same ∙ writes.holds kept.0 kept.1))
 out_left name text line role_of between after ending is_between is_after (inr (inr wants)) = absurd (true≢false wants.first)
 
@@ -86,7 +86,7 @@ module _ (key_name out_name : List ℕ) (key : Keyfile) (Made : Order → Type 0
   unfolding CommandEnds use_index
   use_leaves order ending made left is_before is_after (inl ends) =
       let kept = ends.fails.others before is_before in
-      let same : after ≡ kept.0 = some_same after kept.0 (sym is_after ∙ stopped_files _ 5 at_first _ ends.stops ∙ kept.1) in
+      let same : after ≡ kept.0 = same_Some after kept.0 (sym is_after ∙ stopped_files _ 5 at_first _ ends.stops ∙ kept.1) in
       key_is_not_written (λ name other. ap (λ (f : Files). f name) same ∙ kept.2 name other) ends.stops.status_is
   use_leaves order ending made left is_before is_after (inr (inr wants)) =
       nothing_is_written (same_files before after ending.before.files ending.after.files is_before is_after (stopped_files _ 6 at_first ending wants.stops))
@@ -118,7 +118,7 @@ key_clear = IsClearWhole-from_exact keyfile_exact
 one_key : (name bytes found : List ℕ) (key value : Keyfile) (outside : Outside) (files : Files) → outside.files ≡ Some files → files name ≡ Some bytes → Spells keyfile_format bytes key
     → HasRead outside name found → Spells keyfile_format found value → value ≡ key
 one_key name bytes found key value outside files is holds spelled has other =
-    let same : found ≡ bytes = some_same found bytes (sym (has.held files is) ∙ holds) in
+    let same : found ≡ bytes = same_Some found bytes (sym (has.held files is) ∙ holds) in
     key_clear.one_value found value key has.are_bytes other (subst (λ b. Spells keyfile_format b key) (sym same) spelled)
 
 -- what is read after the key, and then done
@@ -205,7 +205,7 @@ one_call key_name found left call = by (call_leaves key_name found left call).1
     spelled_so : (bytes : List ℕ) (key : Keyfile) → call.after key_name ≡ Some bytes → Spells keyfile_format bytes key → left ≡ key
     spelled_so bytes key holds spelled =
         key_clear.one_value call.left_bytes left key call.are_bytes call.then_spelled
-        (subst (λ b. Spells keyfile_format b key) (some_same bytes call.left_bytes (sym holds ∙ call.then_holds)) spelled)
+        (subst (λ b. Spells keyfile_format b key) (same_Some bytes call.left_bytes (sym holds ∙ call.then_holds)) spelled)
 
     by : {Made : Order → Type 0} → LeavesKey key_name (out_name_of call.command) found Made call.before call.after call.ending.status
         → ((left ≡ found) × ((name : List ℕ) → name ≢ key_name → call.after name ≡ call.before name)) ⊎ (left ≡ keyfile_after_use found)

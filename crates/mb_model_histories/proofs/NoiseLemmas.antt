@@ -7,6 +7,7 @@ use Rattle.std.proofs.lemmas.List.{length-map, map-append, append_assoc, reverse
 use Rattle.std.proofs.lemmas.List.Elements.{All-head, All-tail, All-nil, All-cons}
 use Rattle.std.proofs.lemmas.List.Sums.{sum_by-cons, take_while-cons}
 use Rattle.std.proofs.Math.Seq.{take-append_seam}
+use Rattle.std.proofs.lemmas.Option.{same_Some}
 use Rattle.mb_model.specs.declared.entry.Entry.{Entry}
 use Rattle.mb_model.specs.declared.entry.Entry.TheVariants.{Birth, Change, NewKey, Succession}
 use Rattle.mb_model.specs.declared.entry.SignedEntry.{SignedEntry}
@@ -52,7 +53,6 @@ use Rattle.mb_model.specs.signatures.Signing.{signature_of, randomizer_of, signe
 use Rattle.mb_model.specs.machine.SignedTexts.{entry_text}
 use Rattle.mb_model_lemmas.proofs.LineLemmas.{cons_same}
 use Rattle.mb_model_lemmas.proofs.SignatureLemmas.{length-signature_of}
-use Rattle.mb_model_lemmas.proofs.Splits.{some_same}
 use Rattle.mb_model_lemmas.proofs.ValidRegions.{filter-map}
 use Rattle.mb_model_histories.specs.NoiseLaws.{no_key, no_public_key, keyless_entry, keyless_signed, keyless_key, keyless_region, keyless_state, keyless_world, keyless_reply, undrawn_event, is_new_key, makes_key, NoiseMattersToKeysAlone, DrawsChangeSignaturesAlone, DrawsMatterToNewKeysAlone, DrawsMakeTheDeviceKey}
 use Rattle.mb_model_histories.specs.PowerLaws.{HasOwnAnswer}
@@ -614,7 +614,7 @@ module _ (state twin : State) (same : Twins state twin) (layer : ℕ) where
   signed_alike message None (Some other) equal = absurd (grind (arith, equal))
   signed_alike message (Some one) None equal = absurd (grind (arith, equal))
   signed_alike message (Some one) (Some other) equal =
-      let keyless : keyless_key one ≡ keyless_key other = some_same (keyless_key one) (keyless_key other) equal in
+      let keyless : keyless_key one ≡ keyless_key other = same_Some (keyless_key one) (keyless_key other) equal in
       let number : one.number ≡ other.number = ap (λ (k : RegionKey). k.number) keyless in
       let uses : one.uses ≡ other.uses = ap (λ (k : RegionKey). k.uses) keyless in
       let signed : Reply = reply.Signed one.number one.uses (statement_format.spelling (statement_of state one message)) in
@@ -653,7 +653,7 @@ paired : (one other : Option State) → option_map keyless_state one ≡ option_
 paired None None same = both_dead
 paired None (Some twin) same = absurd (grind (arith, same))
 paired (Some state) None same = absurd (grind (arith, same))
-paired (Some state) (Some twin) same = both_alive (some_same (keyless_state state) (keyless_state twin) same)
+paired (Some state) (Some twin) same = both_alive (same_Some (keyless_state state) (keyless_state twin) same)
 
 unpaired : {one other : Option State} → TwinStates one other → option_map keyless_state one ≡ option_map keyless_state other
 unpaired both_dead = refl

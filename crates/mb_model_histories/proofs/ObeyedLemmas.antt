@@ -16,7 +16,7 @@ use Rattle.mb_model.specs.machine.OrderChecks.{IsSigned, needs_succession, view_
 use Rattle.mb_model.specs.machine.OrderEffects.{code_after, codes_after, cosigners_of, layers_after, state_after_succession, state_after_change, state_after_new_key, state_after_act, state_after_order, ready_for, own_entry, log_with, fact_of}
 use Rattle.mb_model.specs.owners.Rules.{kind_of, change_of, admits, layer_from_order, layer_after, after}
 use Rattle.mb_model_lemmas.proofs.OwnEntries.{appends_own}
-use Rattle.mb_model_lemmas.proofs.ValidOrders.{own_layer}
+use Rattle.mb_model_lemmas.proofs.ValidOrders.{own_layer, each_number}
 use Rattle.mb_model_histories.specs.ObeyedOrders.{Becomes, stays, is_ordered, is_distrusted}
 use Rattle.mb_model_histories.specs.OwnerLaws.{code_of}
 
@@ -90,20 +90,6 @@ unfolding state_after_order
 ordered_layers state order draw =
     act_layers (ready_for state order draw) order order.act draw
     ∙ ap (λ (layers : Layers). layers_after layers (fact_of layers order order.act)) (ready_layers (needs_succession (view_of state) order) state draw)
-
--- what holds of 1, 2 and 3, and of what is no number of a layer, holds of each number
-each_number : (P : ℕ → Type 0) (m : ℕ) → P 1 → P 2 → P 3 → (is_layer_number m ≡ false → P m) → P m
-each_number P m one two three other =
-    (elim (m == 1) as (λ b. (m == 1) ≡ b → P m) [
-      | true ↦ λ e. let same : 1 ≡ m = grind (arith, e) in subst P same one
-      | false ↦ λ e. (elim (m == 2) as (λ b. (m == 2) ≡ b → P m) [
-        | true ↦ λ f. let same : 2 ≡ m = grind (arith, f) in subst P same two
-        | false ↦ λ f. (elim (m == 3) as (λ b. (m == 3) ≡ b → P m) [
-          | true ↦ λ g. let same : 3 ≡ m = grind (arith, g) in subst P same three
-          | false ↦ λ g. other (grind (arith, e, f, g))
-        ]) refl
-      ]) refl
-    ]) refl
 
 -- a number of no layer stands for a layer without an owner
 no_layer : (layers : Layers) (m : ℕ) → is_layer_number m ≡ false → layer_of layers m ≡ layer_without_owner

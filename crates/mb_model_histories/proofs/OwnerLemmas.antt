@@ -1,6 +1,7 @@
 -- Owners stay, but by their own order.
 use Rattle.std.proofs.Common.{◌≡◌, ◌≢◌, ◌<◌, ◌≤◌, ◌⊎◌, ℕ, List, [], ◌∷◌, length, inl, inr, Option, None, Some, true, false, refl, sym, ap, ◌∙◌, subst, arith}
 use Rattle.std.specs.Prelude.{Contains, IsTrue, IsSome, is_some}
+use Rattle.std.proofs.lemmas.Option.{same_Some}
 use Rattle.mb_model.specs.declared.event.Answered.{Answered}
 use Rattle.mb_model.specs.declared.event.Event.{Event}
 use Rattle.mb_model.specs.declared.key.PublicKey.{PublicKey}
@@ -27,15 +28,16 @@ use Rattle.mb_model.specs.machine.SignedTexts.{order_text, IsSignedBy}
 use Rattle.mb_model.specs.memories.Valid.{IsValidState, Valid}
 use Rattle.mb_model_lemmas.proofs.RegionLemmas.{at_upper}
 use Rattle.mb_model_lemmas.proofs.RuleLemmas.{ruled_are_layers}
-use Rattle.mb_model_lemmas.proofs.Splits.{some_same}
 use Rattle.mb_model_lemmas.proofs.ValidLogs.{named_is_some}
 use Rattle.mb_model_lemmas.proofs.ValidStates.{valid_is_ruled, region_is_valid}
+use Rattle.mb_model_lemmas.proofs.ListLemmas.{contains_none}
+use Rattle.mb_model_runs.proofs.StatementLemmas.{some_log}
 use Rattle.mb_model_histories.specs.Histories.{ComesAfter, in_this_run, in_a_later_run}
 use Rattle.mb_model_histories.specs.ObeyedOrders.{ObeysAt, KeepsAllButRegions, Becomes, stays, is_ordered, is_distrusted}
 use Rattle.mb_model_histories.specs.OwnerLaws.{code_of, ObeyedOrdersAreLogged, GaveUp, NobodyOwnsBeforeTheBirth}
 use Rattle.mb_model_histories.proofs.HistoryLemmas.{lives_before, runs_lead}
 use Rattle.mb_model_histories.proofs.ObeyedLemmas.{ordered_longer, ordered_becomes, ordered_code}
-use Rattle.mb_model_histories.proofs.SinceLemmas.{contains_none, secret_upper}
+use Rattle.mb_model_histories.proofs.SinceLemmas.{secret_upper}
 use Rattle.mb_model_histories.proofs.StepLemmas.{Keeps, keeps, obeys, step_comes}
 
 -- ---- one step
@@ -61,7 +63,7 @@ done_is_obeyed here next this number size step =
 pub orders_change_their_layer : (here next : World) (this : Event) (order : Order) (after : State) (layer : ℕ) (obeyed : ObeysAt here this next order) → next.state ≡ Some after
     → Becomes obeyed.before order layer (layer_of after.layers layer)
 orders_change_their_layer here next this order after layer obeyed now =
-    let same : state_after_order obeyed.before order obeyed.draw ≡ after = some_same (state_after_order obeyed.before order obeyed.draw) after (sym obeyed.is ∙ now) in
+    let same : state_after_order obeyed.before order obeyed.draw ≡ after = same_Some (state_after_order obeyed.before order obeyed.draw) after (sym obeyed.is ∙ now) in
     subst (λ (s : State). Becomes obeyed.before order layer (layer_of s.layers layer)) same (ordered_becomes obeyed.before order obeyed.draw layer obeyed.passes.signature)
 
 -- ---- owners
@@ -140,7 +142,7 @@ gave_later first mid last this layer owner step gave = record {
 stay_over_run : (first last : World) (answered : List Answered) (a b : State) (layer : ℕ) (owner : PublicKey) → Run first answered last → first.state ≡ Some a → last.state ≡ Some b
     → (layer_of a.layers layer).owner ≡ Some owner → ((layer_of b.layers layer).owner ≡ Some owner) ⊎ ((2 ≤ layer) × GaveUp first last layer owner)
 stay_over_run first last [] a b layer owner run is_a is_b owned =
-    let same : a ≡ b = some_same a b (sym is_a ∙ sym (ap (λ (w : World). w.state) run) ∙ is_b) in
+    let same : a ≡ b = same_Some a b (sym is_a ∙ sym (ap (λ (w : World). w.state) run) ∙ is_b) in
     inl (subst (λ (s : State). (layer_of s.layers layer).owner ≡ Some owner) same owned)
 stay_over_run first last (this ∷ rest) a b layer owner run is_a is_b owned =
     let between = lives_before run.0 last rest b run.2 is_b in
@@ -154,7 +156,7 @@ stay_over_run first last (this ∷ rest) a b layer owner run is_a is_b owned =
       | inl kept ↦ go_on (ap (λ (s : State). (layer_of s.layers layer).owner) kept ∙ owned)
       | inr ordered ↦
           let by : ObeysAt first this.event run.0 ordered.0 = ordered.1 in
-          let same : a ≡ by.before = some_same a by.before (sym is_a ∙ by.was) in
+          let same : a ≡ by.before = same_Some a by.before (sym is_a ∙ by.was) in
           let own : (layer_of by.before.layers layer).owner ≡ Some owner = ap (λ (s : State). (layer_of s.layers layer).owner) (sym same) ∙ owned in
           elim (owner_after by.before ordered.0 layer (layer_of mid.layers layer) owner (orders_change_their_layer first run.0 this.event ordered.0 mid layer by between.1) own by.passes.condition by.passes.signature) [
             | inl still ↦ go_on still
@@ -172,14 +174,10 @@ some_owner : (o : Option PublicKey) → IsSome o → (owner : PublicKey) × (o �
 some_owner None is = absurd (grind (arith, is))
 some_owner (Some owner) is = (owner, refl)
 
--- the log of a valid state has a birth
-pub log_begins : (state : State) → IsValidState state → entries_of state.log ≢ []
-log_begins state valid e = named_is_some (entries_of state.log) (public_of state.device) valid.device (ap length e)
-
 -- a valid device has an owner of layer 1
 valid_owned : (state : State) → IsValidState state → IsSome state.layers.one.owner
 valid_owned state valid =
-    let are : IsLayers (layers_of (entries_of state.log)) = ruled_are_layers (entries_of state.log) (valid_is_ruled state valid) (log_begins state valid) in
+    let are : IsLayers (layers_of (entries_of state.log)) = ruled_are_layers (entries_of state.log) (valid_is_ruled state valid) (some_log state valid) in
     subst (λ (layers : Layers). IsSome layers.one.owner) (sym valid.layers) are.owned
 
 pub owner_of_layer_one_stays : (first last : World) (a b : State) → Valid first.state → ComesAfter last first → first.state ≡ Some a → last.state ≡ Some b
@@ -196,7 +194,7 @@ owner_of_layer_one_stays first last a b valid after is_a is_b =
 pub orders_leave_other_code : (here next : World) (this : Event) (order : Order) (after : State) (layer : ℕ) (obeyed : ObeysAt here this next order) → next.state ≡ Some after → layer ≢ order.layer
     → code_of after.codes layer ≡ code_of obeyed.before.codes layer
 orders_leave_other_code here next this order after layer obeyed now other =
-    let same : state_after_order obeyed.before order obeyed.draw ≡ after = some_same (state_after_order obeyed.before order obeyed.draw) after (sym obeyed.is ∙ now) in
+    let same : state_after_order obeyed.before order obeyed.draw ≡ after = same_Some (state_after_order obeyed.before order obeyed.draw) after (sym obeyed.is ∙ now) in
     subst (λ (s : State). code_of s.codes layer ≡ code_of obeyed.before.codes layer) same (ordered_code obeyed.before order obeyed.draw layer other)
 
 -- ---- what excludes the other
@@ -204,8 +202,8 @@ orders_leave_other_code here next this order after layer obeyed now other =
 pub obeyed_orders_are_logged : ObeyedOrdersAreLogged
 obeyed_orders_are_logged here next this order before after by was is =
     let left : State = state_after_order by.before order by.draw in
-    let sooner : by.before ≡ before = some_same by.before before (sym by.was ∙ was) in
-    let later : left ≡ after = some_same left after (sym by.is ∙ is) in
+    let sooner : by.before ≡ before = same_Some by.before before (sym by.was ∙ was) in
+    let later : left ≡ after = same_Some left after (sym by.is ∙ is) in
     let longer : length by.before.log < length left.log = ordered_longer by.before order by.draw in
     let short : length by.before.log ≡ length before.log = ap (λ (s : State). length s.log) sooner in
     let long : length left.log ≡ length after.log = ap (λ (s : State). length s.log) later in
@@ -219,7 +217,7 @@ unborn layer upper = at_upper (λ m. (layer_of (layers_of []) m).owner ≡ None)
 pub nobody_owns_before_the_birth : NobodyOwnsBeforeTheBirth
 nobody_owns_before_the_birth state layer secret valid within same =
     let upper : IsTrue (is_upper layer) = secret_upper state layer secret within in
-    let are : IsLayers (layers_of (entries_of state.log)) = ruled_are_layers (entries_of state.log) (valid_is_ruled state valid) (log_begins state valid) in
+    let are : IsLayers (layers_of (entries_of state.log)) = ruled_are_layers (entries_of state.log) (valid_is_ruled state valid) (some_log state valid) in
     let each : IsLayer (layer_of (layers_of (entries_of state.log)) layer) =
     at_upper (λ m. IsLayer (layer_of (layers_of (entries_of state.log)) m)) layer upper are.two are.three in
     let own : IsLayer (layer_of state.layers layer) = subst (λ (layers : Layers). IsLayer (layer_of layers layer)) (sym valid.layers) each in

@@ -1,6 +1,7 @@
 -- What a `get` reads: a secret of its region that its layer has admitted ever since.
 use Rattle.std.proofs.Common.{◌≡◌, ℕ, List, [], ◌∷◌, Option, None, Some, Bool, true, false, refl, sym, ap, subst, arith}
 use Rattle.std.specs.Prelude.{Result, Ok, Err, not, nat_lt, ◌||◌, find, if◌then◌else◌, Contains, zero, suc, cond}
+use Rattle.std.proofs.lemmas.Option.{same_Some}
 use Rattle.mb_format.proofs.Fields.{same_bytes-true}
 use Rattle.mb_model.specs.declared.entry.Entry.{Entry}
 use Rattle.mb_model.specs.declared.entry.Entry.TheVariants.{Change}
@@ -20,22 +21,10 @@ use Rattle.mb_model.specs.owners.Regions.{empty_region, region_of, AdmittedSince
 use Rattle.mb_model.specs.owners.Rules.{Admits}
 use Rattle.mb_model.specs.memories.Valid.{Valid}
 use Rattle.mb_model_lemmas.proofs.RefusalLemmas.{awake_state}
-use Rattle.mb_model_lemmas.proofs.Splits.{some_same}
+use Rattle.mb_model_lemmas.proofs.ListLemmas.{found_is}
 use Rattle.mb_model_histories.specs.OwnerLaws.{ReadsSecret, InvalidStatesReadMore}
 use Rattle.mb_model_histories.proofs.SinceLemmas.{secret_admitted}
 use Rattle.mb_model_histories.proofs.StepLemmas.{awake_phase}
-
-found_is : {X : Type 0} (p : X → Bool) (xs : List X) (x : X) → find p xs ≡ Some x → Contains xs x × (p x ≡ true)
-found_is p [] x e = absurd (grind (arith, e))
-found_is {X} p (y ∷ ys) x e = by (p y) refl e (found_is p ys x)
-  where
-    by : (b : Bool) → p y ≡ b → cond b (Some y) (find p ys) ≡ Some x → (find p ys ≡ Some x → Contains ys x × (p x ≡ true)) → Contains (y ∷ ys) x × (p x ≡ true)
-    by true is e more =
-        let same : y ≡ x = cc in
-        ((0, omega arith, cc), subst (λ z. p z ≡ true) same is)
-    by false is e more =
-        let at = more e in
-        ((suc at.0.0, omega (arith, at.0.1), at.0.2), at.1)
 
 value_found : (found : Option Secret) (value : List ℕ) → value_reply found ≡ reply.Value value → (secret : Secret) × (found ≡ Some secret) × (secret.value ≡ value)
 value_found None value e = absurd (grind (arith, e))
@@ -121,7 +110,7 @@ left_unadmitted admitted =
 left_unread : ReadsSecret left_world 2 [] [] → ⊥
 unfolding left_world left_state left_secret
 left_unread reads =
-    let same : reads.state ≡ left_state = some_same reads.state left_state (sym reads.is) in
+    let same : reads.state ≡ left_state = same_Some reads.state left_state (sym reads.is) in
     let within : Contains (left_secret ∷ []) reads.secret = subst (λ (s : State). Contains (region_of s 2).secrets reads.secret) same reads.within in
     let one : left_secret ≡ reads.secret = only_one left_secret reads.secret within in
     left_unadmitted (subst (λ (s : Secret). AdmittedSince (given_up ∷ []) s.born 2) (sym one) (subst (λ (s : State). AdmittedSince (entries_of s.log) reads.secret.born 2) same reads.admitted))

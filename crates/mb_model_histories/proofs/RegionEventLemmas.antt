@@ -2,6 +2,7 @@
 use Rattle.std.proofs.Common.{◌≡◌, ◌≢◌, ◌⊎◌, ℕ, ◌+◌, List, inl, inr, length, Option, None, Some, Bool, true, false, refl, sym, ap, ◌∙◌, subst, arith}
 use Rattle.std.specs.Prelude.{◌==◌, Result, Ok, Err, not, nat_lt, nat_le, ◌&&◌, ◌||◌, find, if◌then◌else◌}
 use Rattle.std.specs.List.{list_any}
+use Rattle.std.proofs.lemmas.Option.{same_Some}
 use Rattle.mb_model.specs.declared.event.Event.{Event}
 use Rattle.mb_model.specs.declared.event.Event.TheVariants as event
 use Rattle.mb_model.specs.declared.order.Order.{Order}
@@ -19,7 +20,7 @@ use Rattle.mb_model.specs.machine.OrderStep.{OrderStep, spells_none, fails_check
 use Rattle.mb_model.specs.machine.Refusals.{refusal_reply}
 use Rattle.mb_model.specs.owners.Regions.{empty_region, region_of, with_region}
 use Rattle.mb_model_lemmas.proofs.RefusalLemmas.{awake_state}
-use Rattle.mb_model_lemmas.proofs.Splits.{some_same, none_is_some}
+use Rattle.mb_model_lemmas.proofs.Splits.{none_is_some}
 use Rattle.mb_model_histories.specs.ObeyedOrders.{ObeysAt, layer_asked, ActsOnRegion}
 use Rattle.mb_model_histories.specs.OwnerLaws.{RegionsChangeByTheirLayer}
 use Rattle.mb_model_histories.proofs.StepLemmas.{awake_phase, obeyed_there}
@@ -84,7 +85,7 @@ abbrev Regional : World → Event → ℕ → Option State → Type 0
 Regional here this layer after = (before now : State) → here.state ≡ Some before → after ≡ Some now → (region_of now layer ≡ region_of before layer) ⊎ ActsOnRegion here this layer
 
 regional_same : (here : World) (this : Event) (layer : ℕ) (after : Option State) → after ≡ here.state → Regional here this layer after
-regional_same here this layer after same before now was is = inl (ap (λ (s : State). region_of s layer) (some_same now before (sym is ∙ same ∙ was)))
+regional_same here this layer after same before now was is = inl (ap (λ (s : State). region_of s layer) (same_Some now before (sym is ∙ same ∙ was)))
 
 -- the event may be answered: no layer above is in control, and the layer may run
 acts : (here : World) (this : Event) (layer : ℕ) (on : ℕ × State) (past runs : Bool) → layer_asked this ≡ Some layer → running_state_in here ≡ Ok on → nat_lt layer on.0 ≡ past → is_runnable on.1.layers layer ≡ runs
@@ -122,8 +123,8 @@ region_regional : (here : World) (this : Event) (layer other : ℕ) (does : Stat
     → ((state : State) → Replaces other state (does state).1) → Regional here this layer (region_event here other does on).1.state
 region_regional here this layer other does (Err refusal) asked is each = regional_same here this layer here.state refl
 region_regional here this layer other does (Ok on) asked is each = λ before now was now_is.
-    let one : on.1 ≡ before = some_same on.1 before (sym (awake_state here.phase here.state on is) ∙ was) in
-    let last : (on_region on.0 other does on.1).1 ≡ now = some_same (on_region on.0 other does on.1).1 now now_is in
+    let one : on.1 ≡ before = same_Some on.1 before (sym (awake_state here.phase here.state on is) ∙ was) in
+    let last : (on_region on.0 other does on.1).1 ≡ now = same_Some (on_region on.0 other does on.1).1 now now_is in
     subst (λ (s : State). (region_of now layer ≡ region_of s layer) ⊎ ActsOnRegion here this layer) one
     (subst (λ (s : State). (region_of s layer ≡ region_of on.1 layer) ⊎ ActsOnRegion here this layer) last
     (answered here this layer other on (nat_lt other on.0) (is_runnable on.1.layers other) does asked is refl refl (each on.1)))

@@ -2,6 +2,7 @@
 use Rattle.std.proofs.Common.{◌≡◌, ◌≢◌, ◌<◌, ◌≤◌, ℕ, ◌-◌, List, [], ◌∷◌, length, inl, inr, None, Some, Bool, true, false, refl, sym, ap, subst, ◌∙◌, arith}
 use Rattle.std.specs.Prelude.{◌==◌, All, IsTrue, is_some, not, ◌&&◌, if◌then◌else◌}
 use Rattle.std.proofs.lemmas.List.Elements.{All-nil, All-cons}
+use Rattle.std.proofs.lemmas.Option.{same_Some}
 use Rattle.mb_format.specs.Combinators.{items}
 use Rattle.mb_format.specs.Format.{Spells}
 use Rattle.mb_model.proofs.OrderFormatLaws.{form_listed, given_allowed}
@@ -41,10 +42,10 @@ use Rattle.mb_model.specs.machine.SignedTexts.{order_text, IsSignedBy}
 use Rattle.mb_model.specs.memories.Valid.{IsValidState}
 use Rattle.mb_model_lemmas.proofs.RuleLemmas.{ruled_are_layers}
 use Rattle.mb_model_lemmas.proofs.SignatureLemmas.{length-signature_of}
-use Rattle.mb_model_lemmas.proofs.Splits.{some_same}
 use Rattle.mb_model_lemmas.proofs.ValidStates.{valid_is_ruled}
 use Rattle.mb_model_runs.specs.OfficerLaws.{IsRightlySigned, IsRightlyCountersigned, PassesTheRest}
 use Rattle.mb_model_runs.proofs.OfficerLemmas.{right_signature, right_order_obeyed}
+use Rattle.mb_model_runs.proofs.StatementLemmas.{some_log}
 use Rattle.mb_model_histories.specs.Histories.{in_this_run}
 use Rattle.mb_model_histories.specs.ObeyedOrders.{ObeysAt, Becomes, stays, is_ordered, is_distrusted}
 use Rattle.mb_model_histories.specs.OwnerLaws.{OwnersCanGiveUp}
@@ -52,7 +53,7 @@ use Rattle.mb_model_histories.specs.TargetLaws.{PlainLoadsAreFree, NamedLoadsPas
 use Rattle.mb_model_histories.specs.RepairLaws.{EachLiveDeviceComesToLayerOne, BootsCanBeTriedAgain, DeadDevicesNeverBoot, CanBeLoaded, plain_order, CanBeGiven, HasKeyOf, LayerOneCanAlwaysBeLoaded, LayersCanAlwaysBeRecovered, LayersCanAlwaysBeGiven, OneEntryIsNotEnough, WasRecovered, OnlyTheOwnerBeneathRecovers}
 use Rattle.mb_model_histories.proofs.HistoryLemmas.{lives_before, runs_lead}
 use Rattle.mb_model_histories.proofs.ObeyedLemmas.{and_false, ordered_own}
-use Rattle.mb_model_histories.proofs.OwnerLemmas.{log_begins, only_orders_change, orders_change_their_layer, step_before}
+use Rattle.mb_model_histories.proofs.OwnerLemmas.{only_orders_change, orders_change_their_layer, step_before}
 
 -- ---- layer 1
 
@@ -191,7 +192,7 @@ one_entry state keyfile targets payload = ap (λ (b : Bool). if b then 2 else 1)
 
 one_may_be_loaded : (state : State) (keyfile : Keyfile) → IsValidState state → HasKeyOf state 1 keyfile → Condition state.layers (Some Load) 1
 one_may_be_loaded state keyfile valid has =
-    let are : IsLayers (layers_of (entries_of state.log)) = ruled_are_layers (entries_of state.log) (valid_is_ruled state valid) (log_begins state valid) in
+    let are : IsLayers (layers_of (entries_of state.log)) = ruled_are_layers (entries_of state.log) (valid_is_ruled state valid) (some_log state valid) in
     let reliable : IsTrue state.layers.one.reliable = subst (λ (layers : Layers). IsTrue layers.one.reliable) (sym valid.layers) are.reliable in
     let owned : is_owned state.layers 1 ≡ true = ap is_some has.owns in
     grind (arith, owned, reliable)
@@ -334,7 +335,7 @@ recovered_first first mid last this rest layer order by run repair = record {
 recovered_over_run : (first last : World) (answered : List Answered) (a b : State) (layer : ℕ) → Run first answered last → first.state ≡ Some a → last.state ≡ Some b
     → (layer_of a.layers layer).reliable ≡ false → (layer_of b.layers layer).reliable ≡ true → WasRecovered first last layer
 recovered_over_run first last [] a b layer run is_a is_b was now =
-    let same : a ≡ b = some_same a b (sym is_a ∙ sym (ap (λ (w : World). w.state) run) ∙ is_b) in
+    let same : a ≡ b = same_Some a b (sym is_a ∙ sym (ap (λ (w : World). w.state) run) ∙ is_b) in
     absurd (clashes _ _ was now (ap (λ (s : State). (layer_of s.layers layer).reliable) (sym same)))
 recovered_over_run first last (this ∷ rest) a b layer run is_a is_b was now =
     let between = lives_before run.0 last rest b run.2 is_b in
@@ -349,7 +350,7 @@ recovered_over_run first last (this ∷ rest) a b layer run is_a is_b was now =
           | inl kept ↦ absurd (clashes _ _ was turned (ap (λ (s : State). (layer_of s.layers layer).reliable) kept))
           | inr ordered ↦
               let obeyed : ObeysAt first this.event run.0 ordered.0 = ordered.1 in
-              let same : a ≡ obeyed.before = some_same a obeyed.before (sym is_a ∙ obeyed.was) in
+              let same : a ≡ obeyed.before = same_Some a obeyed.before (sym is_a ∙ obeyed.was) in
               let own : (layer_of obeyed.before.layers layer).reliable ≡ false = ap (λ (s : State). (layer_of s.layers layer).reliable) (sym same) ∙ was in
               let repair = repair_after obeyed.before ordered.0 layer (layer_of mid.layers layer) (orders_change_their_layer first run.0 this.event ordered.0 mid layer obeyed is_mid)
               own turned obeyed.passes.condition obeyed.passes.signature in

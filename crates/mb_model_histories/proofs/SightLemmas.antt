@@ -2,6 +2,7 @@
 use Rattle.std.proofs.Common.{◌≡◌, ℕ, ◌+◌, List, [], inl, inr, length, Option, None, Some, Bool, true, false, refl, sym, ap, subst, ◌∙◌, arith, ◌∷◌}
 use Rattle.std.specs.Prelude.{◌⊎◌, ◌==◌, not, nat_lt, nat_le, ◌&&◌, ◌||◌, find, filter, Result, Ok, Err, if◌then◌else◌}
 use Rattle.std.specs.List.{list_any}
+use Rattle.std.proofs.lemmas.Option.{same_Some}
 use Rattle.mb_model.specs.declared.event.Event.{Event}
 use Rattle.mb_model.specs.declared.event.Event.TheVariants as event
 use Rattle.mb_model.specs.declared.region.Region.{Region}
@@ -20,7 +21,6 @@ use Rattle.mb_model.specs.machine.Machine.{Phase, off, dead, ratchet, World, Tol
 use Rattle.mb_model.specs.machine.Refusals.{refusal_reply}
 use Rattle.mb_model.specs.owners.Regions.{empty_region, region_of, with_region}
 use Rattle.mb_model_lemmas.proofs.RefusalLemmas.{awake_state}
-use Rattle.mb_model_lemmas.proofs.Splits.{some_same}
 use Rattle.mb_model_histories.specs.SightLaws.{without_region_two, WhatIsBeneathIsOutOfSight, OutOfSightInRuns, LayerTwoSeesItsRegion}
 use Rattle.mb_model_histories.proofs.ChangeLemmas.{Commutes, Agrees, with_value, step_seen, region_changed, put_changed}
 use Rattle.mb_model_histories.proofs.StepLemmas.{awake_phase}
@@ -219,7 +219,7 @@ abbrev TwoStays : Option State → Option State → Type 0
 TwoStays first second = (before after : State) → first ≡ Some before → second ≡ Some after → after.two ≡ before.two
 
 two_same : (o : Option State) → TwoStays o o
-two_same o before after was is = ap (λ (s : State). s.two) (some_same after before (sym is ∙ was))
+two_same o before after was is = ap (λ (s : State). s.two) (same_Some after before (sym is ∙ was))
 
 either_two : (b : Bool) (x y : Outcome) (two : Region) → x.1.two ≡ two → y.1.two ≡ two → (if b then x else y).1.two ≡ two
 either_two true x y two first second = first
@@ -273,8 +273,8 @@ module _ (world : World) (at : world.phase ≡ ratchet 3) where
       → ((layer == 2) ≡ false → (state : State) → (does state).1.two ≡ state.two) → TwoStays world.state (region_event world layer does on).1.state
   region_two layer does (Err refusal) is each = two_same world.state
   region_two layer does (Ok on) is each = λ before after was becomes.
-      let from : before ≡ on.1 = some_same before on.1 (sym was ∙ awake_state world.phase world.state on is) in
-      let to : after ≡ (on_region on.0 layer does on.1).1 = some_same after _ (sym becomes) in
+      let from : before ≡ on.1 = same_Some before on.1 (sym was ∙ awake_state world.phase world.state on is) in
+      let to : after ≡ (on_region on.0 layer does on.1).1 = same_Some after _ (sym becomes) in
       ap (λ (s : State). s.two) to ∙ barred_two on.0 layer does on.1 (on_third on is) (λ other. each other on.1) ∙ sym (ap (λ (s : State). s.two) from)
 
   command_two : (text draw : List ℕ) (on : Result (ℕ × State) Refusal) (answer : Reply) (next : World) → running_state_in world ≡ on

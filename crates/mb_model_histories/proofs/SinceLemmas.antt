@@ -4,6 +4,7 @@ use Rattle.std.specs.Prelude.{◌==◌, ◌&&◌, nat_lt, Contains, IsTrue, unwr
 use Rattle.std.proofs.lemmas.Bool.{cases_lt}
 use Rattle.std.proofs.lemmas.List.Elements.{All-contains}
 use Rattle.std.proofs.lemmas.List.Sums.{sum_by-append}
+use Rattle.std.proofs.lemmas.List.{nil_from_length}
 use Rattle.mb_model.specs.declared.entry.Entry.{Entry}
 use Rattle.mb_model.specs.declared.entry.Entry.TheVariants.{Birth, Change, NewKey, Succession}
 use Rattle.mb_model.specs.declared.key.PublicKey.{PublicKey}
@@ -25,6 +26,7 @@ use Rattle.mb_model_lemmas.proofs.LineLemmas.{cons_same}
 use Rattle.mb_model_lemmas.proofs.LogLemmas.{layers_of-push, number_of-append}
 use Rattle.mb_model_lemmas.proofs.RegionLemmas.{at_upper, layer_of-after}
 use Rattle.mb_model_lemmas.proofs.ValidStates.{valid_is_ruled, region_is_valid}
+use Rattle.mb_model_lemmas.proofs.ListLemmas.{contains_none, front_of}
 
 -- ---- one entry
 
@@ -64,10 +66,6 @@ change_owner old new kind k layer cosigned kept upper rightly admitted =
     ∙ ap (λ (l : Layer). l.owner) (layer_of-after old kind k cosigned (layer_of new k) layer upper)
     ∙ owner_changed (layer == k) (nat_lt layer k) (admits old kind k cosigned layer) (layer_of old layer) (layer_of new k) own
 
-nil_from_length : (log : List Entry) → length log ≡ 0 → log ≡ []
-nil_from_length [] e = refl
-nil_from_length (x ∷ xs) e = absurd (omega (arith, e))
-
 -- at the birth an upper layer has no owner, as before it
 birth_owner : (before : List Entry) (layers : Layers) (layer : ℕ) → IsTrue (is_upper layer) → before ≡ [] → AreFirst layers → (layer_of layers layer).owner ≡ owner_by before layer
 unfolding layers_of last_of
@@ -106,9 +104,6 @@ module _ (log : List Entry) (layer since : ℕ) (upper : IsTrue (is_upper layer)
 
 -- ---- secrets and keys
 
-pub contains_none : {X : Type 0} (x : X) → Contains [] x → ⊥
-contains_none x within = omega (arith, within.1)
-
 -- a region that holds anything is that of an upper layer
 upper_of : {X : Type 0} (items : Region → List X) (state : State) (layer : ℕ) (x : X) → items empty_region ≡ [] → Contains (items (region_of state layer)) x → IsTrue (is_upper layer)
 upper_of items state layer x none within = by (layer == 2) (layer == 3) refl refl within
@@ -120,9 +115,6 @@ upper_of items state layer x none within = by (layer == 2) (layer == 3) refl ref
 
 pub secret_upper : (state : State) (layer : ℕ) (secret : Secret) → Contains (region_of state layer).secrets secret → IsTrue (is_upper layer)
 secret_upper state layer secret within = upper_of (λ (r : Region). r.secrets) state layer secret refl within
-
-pub key_upper : (state : State) (layer : ℕ) (key : RegionKey) → Contains (region_of state layer).keys key → IsTrue (is_upper layer)
-key_upper state layer key within = upper_of (λ (r : Region). r.keys) state layer key refl within
 
 pub secret_admitted : (state : State) (layer : ℕ) (secret : Secret) → IsValidState state → Contains (region_of state layer).secrets secret → AdmittedSince (entries_of state.log) secret.born layer
 secret_admitted state layer secret valid within =
@@ -137,15 +129,6 @@ pub secrets_keep_their_owner : (state : State) (layer : ℕ) (before rest : List
 secrets_keep_their_owner state layer before rest secret valid within split late =
     owner_since (entries_of state.log) layer secret.born (secret_upper state layer secret within) (valid_is_ruled state valid) (secret_admitted state layer secret valid within) rest before split late
     ∙ owner_now state layer valid
-
--- of two fronts of a list the longer begins with the shorter
-pub front_of : (a b x y : List Entry) → a ++ x ≡ b ++ y → length a ≤ length b → (more : List Entry) × (b ≡ a ++ more)
-front_of [] b x y e long = (b, refl)
-front_of (p ∷ a) [] x y e long = absurd (omega (arith, long))
-front_of (p ∷ a) (q ∷ b) x y e long =
-    let both = cons_same p q (a ++ x) (b ++ y) e in
-    let more = front_of a b x y both.1 (omega (arith, long)) in
-    (more.0, ap (λ h. h ∷ b) (sym both.0) ∙ ap (λ t. p ∷ t) more.1)
 
 keys_made-append : (log rest : List Entry) → keys_made_by (log ++ rest) ≡ keys_made_by log + keys_made_by rest
 unfolding keys_made_by

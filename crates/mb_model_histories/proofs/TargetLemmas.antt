@@ -4,6 +4,7 @@ use Rattle.std.specs.Prelude.{◌==◌, ◌&&◌, not, All, Contains, IsTrue, Re
 use Rattle.std.proofs.lemmas.Bool.{cases_lt}
 use Rattle.std.proofs.lemmas.List.Elements.{All-nil, All-cons, All-contains, All-weaker}
 use Rattle.std.proofs.lemmas.List.Sums.{sum_by-append, sum_by-cons}
+use Rattle.std.proofs.lemmas.Option.{same_Some}
 use Rattle.mb_format.specs.Format.{Spells}
 use Rattle.mb_model.specs.declared.event.Answered.{Answered}
 use Rattle.mb_model.specs.declared.event.Event.{Event}
@@ -32,9 +33,9 @@ use Rattle.mb_model.specs.machine.OrderStep.{OrderStep, is_obeyed}
 use Rattle.mb_model.specs.owners.Rules.{kind_of, change_of, is_load, layer_from_order, loaded_layer, signing_layer}
 use Rattle.mb_model.specs.owners.Rules.{Condition}
 use Rattle.mb_model.specs.machine.SignedTexts.{order_text, countersigned_text, IsSignedBy}
-use Rattle.mb_model_lemmas.proofs.Splits.{some_same}
 use Rattle.mb_model_runs.proofs.GrowthLemmas.{logs_grow}
 use Rattle.mb_model_runs.proofs.KeptByRuns.{IsKept, run_kept}
+use Rattle.mb_model_runs.proofs.OfficerLemmas.{runs_first}
 use Rattle.mb_model_histories.specs.Histories.{History, all_answered, ComesAfter}
 use Rattle.mb_model_histories.specs.ObeyedOrders.{ObeysAt, Becomes, stays, is_ordered, is_distrusted}
 use Rattle.mb_model_histories.specs.TargetLaws.{IsFreeLoad, FreeLoadsPassAgain, IsFilledFor, OneFreeLoadFillsTheLog}
@@ -48,7 +49,7 @@ use Rattle.mb_model_histories.proofs.StepLemmas.{Keeps, keeps, obeys, step_comes
 run_long : (first last : World) (answered : List Answered) (a b : State) → Run first answered last → first.state ≡ Some a → last.state ≡ Some b → length a.log ≤ length b.log
 run_long first last answered a b run is_a is_b =
     let grown = logs_grow first answered last run b is_b in
-    let same : grown.0 ≡ a = some_same grown.0 a (sym grown.1 ∙ is_a) in
+    let same : grown.0 ≡ a = same_Some grown.0 a (sym grown.1 ∙ is_a) in
     let whole : length b.log ≡ length grown.0.log + length grown.2.0 = ap length grown.2.1 ∙ length-append grown.0.log grown.2.0 in
     let start : length grown.0.log ≡ length a.log = ap (λ (s : State). length s.log) same in
     omega (arith, whole, start)
@@ -273,9 +274,6 @@ unfolding next
 free_loads_pass_again state order draw free has_room = passes_again state order draw free.passes free.load free.free has_room
 
 -- ---- and fill the log
-
-runs_first : (here : World) (state : State) → here.phase ≡ ratchet 1 → here.state ≡ Some state → running_state_in here ≡ Ok (1, state)
-runs_first here state at was = ap (λ (p : Phase). running_state p here.state) at ∙ ap (running_state (ratchet 1)) was
 
 -- the log has no room for an order that needs this many entries
 filled_for : (state : State) (order : Order) → 128 < length state.log + entries_needed (view_of state) order → IsFilledFor order state

@@ -2,6 +2,7 @@
 use Rattle.std.proofs.Common.{◌≡◌, ◌<◌, ◌≤◌, ℕ, List, [], ◌∷◌, ◌++◌, length, Option, Some, Bool, true, false, refl, sym, ap, ◌∙◌, subst, arith}
 use Rattle.std.specs.Prelude.{All, Contains, IsTrue, is_some, if◌then◌else◌}
 use Rattle.std.proofs.lemmas.List.Elements.{All-nil, All-cons, All-append, Contains-append_right}
+use Rattle.std.proofs.lemmas.Option.{same_Some}
 use Rattle.mb_model.specs.declared.entry.Chain.{Chain}
 use Rattle.mb_model.specs.declared.entry.Statement.{Statement}
 use Rattle.mb_model.specs.declared.event.Answered.{Answered}
@@ -39,13 +40,14 @@ use Rattle.mb_model.specs.memories.Valid.{IsValidState, Valid}
 use Rattle.mb_model_lemmas.proofs.FactoryLemmas.{birth_is_valid}
 use Rattle.mb_model_lemmas.proofs.RuleLemmas.{ruled_are_layers}
 use Rattle.mb_model_lemmas.proofs.SignatureLemmas.{public_sized}
-use Rattle.mb_model_lemmas.proofs.Splits.{some_same}
 use Rattle.mb_model_lemmas.proofs.ValidStates.{valid_is_ruled}
+use Rattle.mb_model_lemmas.proofs.ListLemmas.{All-front, All-back}
 use Rattle.mb_model_memory.proofs.StorableChains.{bare_allowed, statement_of-allowed}
 use Rattle.mb_model_memory.proofs.StorableSteps.{run_keeps_storable}
 use Rattle.mb_model_memory.specs.Storable.{Storable, IsStorableState}
 use Rattle.mb_model_runs.specs.StatementLaws.{key_entry_of}
 use Rattle.mb_model_runs.proofs.BirthLemmas.{log_is_good}
+use Rattle.mb_model_runs.proofs.StatementLemmas.{some_log}
 use Rattle.mb_model_histories.specs.AcceptanceLaws.{HonestStatement, whole_chain}
 use Rattle.mb_model_histories.specs.Histories.{History, all_answered, ComesAfter, in_this_run, in_a_later_run}
 use Rattle.mb_model_histories.specs.PowerLaws.{power_off}
@@ -54,9 +56,9 @@ use Rattle.mb_model_histories.specs.UseLaws.{Beginning, CanBegin, state_begun, C
 use Rattle.mb_model_histories.proofs.AgreementLemmas.{smooth_is_run}
 use Rattle.mb_model_histories.proofs.BornLemmas.{birth_storable, born_of_their_maker}
 use Rattle.mb_model_histories.proofs.ElsewhereLemmas.{key_named, statement_current, log_is_honest}
-use Rattle.mb_model_histories.proofs.HistoryLemmas.{All-front, All-back, histories_stay_valid}
+use Rattle.mb_model_histories.proofs.HistoryLemmas.{histories_stay_valid}
 use Rattle.mb_model_histories.proofs.ObeyedLemmas.{ordered_few}
-use Rattle.mb_model_histories.proofs.OwnerLemmas.{log_begins, owner_of_layer_one_stays}
+use Rattle.mb_model_histories.proofs.OwnerLemmas.{owner_of_layer_one_stays}
 use Rattle.mb_model_histories.proofs.RepairLemmas.{ActAllowed, can_be_given_with, two_or_one, layers_can_be_given, layers_can_be_recovered}
 use Rattle.mb_model_histories.proofs.ReplayLemmas.{signed_bytes, signed_state, running_world, boot_step, sign_step}
 use Rattle.mb_model_histories.proofs.StepLemmas.{Keeps, keeps, obeys, step_comes}
@@ -131,7 +133,7 @@ new_key_allowed = record { layered = (omega arith, omega arith); spelled = tt }
 -- layer 1 of a valid state is reliable
 one_reliable : (state : State) → IsValidState state → IsTrue state.layers.one.reliable
 one_reliable state valid =
-    let are : IsLayers (layers_of (entries_of state.log)) = ruled_are_layers (entries_of state.log) (valid_is_ruled state valid) (log_begins state valid) in
+    let are : IsLayers (layers_of (entries_of state.log)) = ruled_are_layers (entries_of state.log) (valid_is_ruled state valid) (some_log state valid) in
     subst (λ (layers : Layers). IsTrue layers.one.reliable) (sym valid.layers) are.reliable
 
 two_runs : (layers : Layers) → IsTrue layers.one.reliable → layers.two.reliable ≡ true → is_runnable layers 2 ≡ true
@@ -298,7 +300,7 @@ module _ (maker : PublicKey) (first : World) (state : State) (key : RegionKey) (
   unfolding statement_of
   signs_it made serial named serial_is verifies =
       let serial_in : serial_of (entries_of state.log) ≡ Some serial = subst (λ log. serial_of (entries_of log) ≡ Some serial) same_log serial_is in
-      let same : serial ≡ state.serial = some_same serial state.serial (sym serial_in ∙ valid.serial) in
+      let same : serial ≡ state.serial = same_Some serial state.serial (sym serial_in ∙ valid.serial) in
       record {
         here = here;
         after = there;

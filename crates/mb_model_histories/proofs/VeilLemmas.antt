@@ -4,6 +4,7 @@ use Rattle.std.specs.Prelude.{not, nat_lt, ◌||◌, find, map, cond, All, optio
 use Rattle.std.specs.List.{list_any}
 use Rattle.std.proofs.lemmas.List.{length-map, map-append}
 use Rattle.std.proofs.lemmas.List.Elements.{All-head, All-tail, All-map, All-weaker}
+use Rattle.std.proofs.lemmas.Simd.{map-map}
 use Rattle.mb_format.proofs.Fields.{same_bytes-true}
 use Rattle.mb_model.specs.declared.event.Answered.{Answered}
 use Rattle.mb_model.specs.declared.event.Event.{Event}
@@ -293,10 +294,6 @@ pub asked_values_are_seen : AskedValuesAreSeen
 asked_values_are_seen hidden world next other layer name value answer is x y = asked_at hidden world.armed world.phase world.state next other layer name value answer is x y
 
 -- ---- two runs that differ in what is hidden
-
-map-map : {A B C : Type 0} (g : B → C) (f : A → B) (xs : List A) → map g (map f xs) ≡ map (λ x. g (f x)) xs
-map-map g f [] = refl
-map-map g f (x ∷ xs) = ap (λ list. g (f x) ∷ list) (map-map g f xs)
 
 brings_veiled : (hidden : HiddenSecrets) (this : Event) → BringsBytes this → BringsBytes (veiled_event hidden this)
 brings_veiled hidden event.Boot are = tt

@@ -19,6 +19,7 @@ use Rattle.mb_model.specs.owners.Log.{figures_of, keys_in, layers_of, keys_made_
 use Rattle.mb_model.specs.owners.Lives.{ends_keys, Alive, configuration, Split, with_front, splits, configurations_opened_by, configurations_outlived_by, lives_from, lives_of, MadeKey, lasting_keys_of, alive_keys}
 use Rattle.mb_model_lemmas.specs.AliveLaws.{goes_on, made_by, makes, IsUnmade}
 use Rattle.mb_model_lemmas.proofs.LogLemmas.{made-push, by_entries, RuledLog-front}
+use Rattle.mb_model_lemmas.proofs.ListLemmas.{contains_none}
 
 -- ---- the keys that are alive
 
@@ -104,15 +105,12 @@ alive_is_listed log n L kind key alive =
     let mine : MadeKey = record { number = n; kind = kind; key = key } in
     subst (λ es. Contains (alive_keys es L) mine) (sym alive.split) (listed_at alive.before alive.position alive.number n L kind key alive.later alive.lasts)
 
-not_in_nothing : {X : Type 0} (x : X) → Contains [] x → ⊥
-not_in_nothing x within = omega (arith, within.1)
-
 own_is_alive : (layer L : ℕ) (here alive : Bool) (position number key_number n : ℕ) (kind' kind : KeyKind) (key' key : PublicKey) (later : List Entry)
     → (layer == L) ≡ here → list_all (λ e. not (ends_keys kind' L e)) later ≡ alive
     → Contains {X = MadeKey} (if here && alive then record { number = key_number; kind = kind'; key = key' } ∷ [] else []) (record { number = n; kind = kind; key = key })
     → Alive (NewKey position number key_number layer kind' key' ∷ later) n L kind key
-own_is_alive layer L false alive position number key_number n kind' kind key' key later at on within = absurd (not_in_nothing _ within)
-own_is_alive layer L true false position number key_number n kind' kind key' key later at on within = absurd (not_in_nothing _ within)
+own_is_alive layer L false alive position number key_number n kind' kind key' key later at on within = absurd (contains_none _ within)
+own_is_alive layer L true false position number key_number n kind' kind key' key later at on within = absurd (contains_none _ within)
 own_is_alive layer L true true position number key_number n kind' kind key' key later at on within =
     let mine : MadeKey = record { number = n; kind = kind; key = key } in
     let made_here : MadeKey = record { number = key_number; kind = kind'; key = key' } in
@@ -143,18 +141,18 @@ own_is_alive layer L true true position number key_number n kind' kind key' key 
 
 lasting_is_alive : (L n : ℕ) (kind : KeyKind) (key : PublicKey) (entry : Entry) (later : List Entry) → Contains (lasting_keys_of L entry later) (record { number = n; kind = kind; key = key })
     → Alive (entry ∷ later) n L kind key
-lasting_is_alive L n kind key (Birth version serial device layers) later within = absurd (not_in_nothing _ within)
-lasting_is_alive L n kind key (Change version position number change layer cosigned layers kept next) later within = absurd (not_in_nothing _ within)
+lasting_is_alive L n kind key (Birth version serial device layers) later within = absurd (contains_none _ within)
+lasting_is_alive L n kind key (Change version position number change layer cosigned layers kept next) later within = absurd (contains_none _ within)
 lasting_is_alive L n kind key (NewKey position number key_number layer kind' key') later within =
     own_is_alive layer L (layer == L) (list_all (λ e. not (ends_keys kind' L e)) later) position number key_number n kind' kind key' key later refl refl within
-lasting_is_alive L n kind key (Succession position device) later within = absurd (not_in_nothing _ within)
+lasting_is_alive L n kind key (Succession position device) later within = absurd (contains_none _ within)
 
 -- each key that is listed lives
 pub listed_is_alive : (log : List Entry) (n L : ℕ) (kind : KeyKind) (key : PublicKey) → Contains (alive_keys log L) (record { number = n; kind = kind; key = key })
     → Alive log n L kind key
 listed_is_alive [] n L kind key within =
     let mine : MadeKey = record { number = n; kind = kind; key = key } in
-    absurd (not_in_nothing mine (subst (λ keys. Contains keys mine) (alive_keys-nil L) within))
+    absurd (contains_none mine (subst (λ keys. Contains keys mine) (alive_keys-nil L) within))
 listed_is_alive (first ∷ rest) n L kind key within =
     let mine : MadeKey = record { number = n; kind = kind; key = key } in
     elim (Contains-append_cases (lasting_keys_of L first rest) (alive_keys rest L) mine (subst (λ keys. Contains keys mine) (alive_keys-cons first rest L) within)) [

@@ -4,6 +4,7 @@ use Rattle.std.specs.Prelude.{◌⊎◌, Any, Contains, get_or, zero, suc}
 use Rattle.std.specs.Option.{option_or}
 use Rattle.std.proofs.Math.Seq.{append_snoc}
 use Rattle.std.proofs.lemmas.List.{append-nil, map-append, get_or_append_left}
+use Rattle.std.proofs.lemmas.Option.{same_Some}
 use Rattle.mb_format.specs.Format.{IsBytes, Spells, FailsWhole, IsClearWhole}
 use Rattle.mb_format.proofs.Whole.{IsClearWhole-from_exact}
 use Rattle.mb_model.specs.declared.key.PublicKey.{PublicKey}
@@ -23,7 +24,7 @@ use Rattle.mb_model.specs.memories.Valid.{EachFollows}
 use Rattle.mb_model.specs.chains.Acceptance.{ChainRefusal, bad_form, bad_signature, bad_order, breaks_rules, key_unknown, bad_statement, wrong_number, key_ended, in_charge, IsCertified, IsInPlace, IsGood, AreGood, IsNext, KeyEntry, key_of, is_alive, IsStated, IfStatement, IsCurrent, IsGoodFor, report_of, Accepts, IsRefused, Honest}
 use Rattle.mb_model.proofs.EntryFormatLaws.{chain_exact}
 use Rattle.mb_model_lemmas.proofs.LogLemmas.{split_push}
-use Rattle.mb_model_lemmas.proofs.Splits.{same_halves, two_splits, map_split, IsOne, one_more, Lacks, one_lacks, lacks_none, some_same, none_is_some}
+use Rattle.mb_model_lemmas.proofs.Splits.{same_halves, two_splits, map_split, IsOne, one_more, Lacks, one_lacks, lacks_none, none_is_some}
 
 -- ---- an entry that is not good
 
@@ -114,8 +115,8 @@ one_key_fault log stated n a b (inl x) (inl y) = x.0 ∙ sym y.0
 one_key_fault log stated n a b (inl x) (inr y) = absurd (none_is_some (key_of log n) y.0 x.1 y.2.0)
 one_key_fault log stated n a b (inr x) (inl y) = absurd (none_is_some (key_of log n) x.0 y.1 x.2.0)
 one_key_fault log stated n a b (inr x) (inr y) =
-    let keys : x.0 ≡ y.0 = some_same x.0 y.0 (sym x.2.0 ∙ y.2.0) in
-    let statements : x.1 ≡ y.1 = some_same x.1 y.1 (sym x.2.1 ∙ y.2.1) in
+    let keys : x.0 ≡ y.0 = same_Some x.0 y.0 (sym x.2.0 ∙ y.2.0) in
+    let statements : x.1 ≡ y.1 = same_Some x.1 y.1 (sym x.2.1 ∙ y.2.1) in
     let fault : StatementFault log n y.0 y.1 a = subst (λ (k : KeyEntry). StatementFault log n k y.1 a) keys (subst (λ (s : Statement). StatementFault log n x.0 s a) statements x.3) in
     one_statement_fault log n y.0 y.1 a b fault y.3
 
@@ -123,7 +124,7 @@ accepted_has_none : (log : List Entry) (stated : Option Statement) (n : ℕ) (ma
     → key_of log n ≡ Some made → IfStatement stated (IsCurrent log n made) → KeyFault log stated n refusal → ⊥
 accepted_has_none log stated n made refusal named current (inl x) = none_is_some (key_of log n) made x.1 named
 accepted_has_none log stated n made refusal named current (inr x) =
-    let keys : made ≡ x.0 = some_same made x.0 (sym named ∙ x.2.0) in
+    let keys : made ≡ x.0 = same_Some made x.0 (sym named ∙ x.2.0) in
     let here : IsCurrent log n made x.1 = subst (λ (o : Option Statement). IfStatement o (IsCurrent log n made)) x.2.1 current in
     current_has_none log n x.0 x.1 refusal (subst (λ (k : KeyEntry). IsCurrent log n k x.1) keys here) x.3
 
@@ -205,7 +206,7 @@ pub one_report : (root : PublicKey) (bytes : List ℕ) (n : ℕ) (a b : Report) 
 one_report root bytes n a b are x y =
     let chains : x.chain ≡ y.chain = chain_clear.one_value bytes x.chain y.chain are x.spelled y.spelled in
     let named : key_of (entries_of y.chain.entries) n ≡ Some x.made = subst (λ (c : Chain). key_of (entries_of c.entries) n ≡ Some x.made) chains x.named in
-    let keys : x.made ≡ y.made = some_same x.made y.made (sym named ∙ y.named) in
+    let keys : x.made ≡ y.made = same_Some x.made y.made (sym named ∙ y.named) in
     x.report_is ∙ ap (λ (c : Chain). report_of c n x.made) chains ∙ ap (report_of y.chain n) keys ∙ sym y.report_is
 
 -- ---- no gap between the two

@@ -4,15 +4,12 @@ use Rattle.std.specs.Prelude.{All, cond}
 use Rattle.std.proofs.lemmas.List.{append-nil, map_push, map-append, length-map}
 use Rattle.std.proofs.lemmas.List.Elements.{All-nil, All-cons, All-head, All-tail, All-same}
 use Rattle.std.proofs.lemmas.List.Sums.{sum_by-append}
+use Rattle.std.proofs.lemmas.Simd.{map-map}
 use Rattle.mb_model.specs.declared.event.Event.{Event}
 use Rattle.mb_model.specs.declared.event.Event.TheVariants as event
 use Rattle.mb_model.specs.chains.Script.{IsScriptEvent, with_before, is_command, commands_in, drawn_event, drawn_events}
 use Rattle.mb_model.specs.chains.Script.{Drawn}
 use Rattle.mb_model.proofs.Places.{length-part}
-
-map_map : {X Y Z : Type 0} (f : Y → Z) (g : X → Y) (xs : List X) → map f (map g xs) ≡ map (λ x. f (g x)) xs
-map_map f g [] = refl
-map_map f g (x ∷ xs) = λ i. f (g x) ∷ map_map f g xs i
 
 -- the same with one item more at the front
 abbrev remaining : {A : Type 0} → A → List A × A → List A × A
@@ -56,7 +53,7 @@ drawn-after noise before (e ∷ events) =
     let each = λ (at : List Event × Event). drawn_event noise (before ++ at.0) at.1 in
     let first = ap (λ (b : List Event). drawn_event noise b e) (append-nil before) in
     let moved : (at : List Event × Event) → before ++ (e ∷ at.0) ≡ (before ++ e ∷ []) ++ at.0 = λ at. sym (append_assoc before (e ∷ []) at.0) in
-    let others = map_map each (remaining e) (with_before events)
+    let others = map-map each (remaining e) (with_before events)
     ∙ (λ i. map (λ (at : List Event × Event). drawn_event noise (moved at i) at.1) (with_before events))
     ∙ drawn-after noise (before ++ e ∷ []) events in
     λ i. first i ∷ others i

@@ -177,7 +177,7 @@ IsScript-same lines a b ha hb = AllZip-same (filter (λ line. not (is_skipped li
 
 -- ---- too many events
 
-says_count : (lines : List (List ℕ)) (events : List Event) → AllZip SaysEvent lines events → length lines ≡ length events
+pub says_count : (lines : List (List ℕ)) (events : List Event) → AllZip SaysEvent lines events → length lines ≡ length events
 says_count [] [] says = refl
 says_count [] (e ∷ events) says = absurd says
 says_count (line ∷ lines) [] says = absurd says

@@ -17,7 +17,7 @@ use Rattle.mb_model_lemmas.proofs.WrittenImages.{written_is_well_formed}
 
 -- ---- the state
 
-only_entry : (own signed : SignedEntry) (before rest : List SignedEntry) → own ∷ [] ≡ before ++ signed ∷ rest → Follows (figures_of []) own → Follows (figures_of (entries_of before)) signed
+pub only_entry : (own signed : SignedEntry) (before rest : List SignedEntry) → own ∷ [] ≡ before ++ signed ∷ rest → Follows (figures_of []) own → Follows (figures_of (entries_of before)) signed
 only_entry own signed [] rest split follows =
     let same : own ≡ signed = cc in
     subst (Follows (figures_of [])) same follows

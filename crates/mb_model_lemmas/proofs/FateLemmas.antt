@@ -1,11 +1,10 @@
 -- The keys of a region by their numbers, and what is to be done to a region.
-use Rattle.std.proofs.Common.{◌≡◌, ◌<◌, ◌≤◌, ◌+◌, ℕ, List, [], ◌∷◌, ◌++◌, map, Bool, true, false, cond, refl, sym, ap, subst, ◌∙◌, arith, Some, zero, suc, eq-eqb, ne_eqb}
+use Rattle.std.proofs.Common.{◌≡◌, ◌<◌, ◌≤◌, ◌+◌, ℕ, List, [], ◌∷◌, ◌++◌, map, Bool, true, false, cond, refl, sym, ap, subst, ◌∙◌, arith, Some, eq-eqb, ne_eqb}
 use Rattle.std.specs.Prelude.{◌||◌, ◌==◌, filter, find, All, AllPairs, nat_lt, if◌then◌else◌}
 use Rattle.std.specs.List.{list_any}
 use Rattle.std.proofs.lemmas.List.{map-append}
-use Rattle.std.proofs.lemmas.List.Elements.{All-nil, All-cons, All-head, All-tail, All-weaker, All-contains, Contains-append_right}
+use Rattle.std.proofs.lemmas.List.Elements.{All-head, All-tail, All-weaker}
 use Rattle.std.proofs.lemmas.List.Folds.{list_any-append, list_any_none}
-use Rattle.std.proofs.lemmas.List.Kept.{AllPairs-cons}
 use Rattle.mb_model.specs.declared.layer.Layers.{Layers}
 use Rattle.mb_model.specs.declared.layer.Pair.{Pair}
 use Rattle.mb_model.specs.declared.order.ChangeKind.{ChangeKind}
@@ -23,37 +22,9 @@ use Rattle.mb_model.specs.memories.Meaning.{region_after_fate}
 use Rattle.mb_model.specs.memories.Valid.{as_made}
 use Rattle.mb_model.specs.machine.Fates.{change_fate}
 use Rattle.mb_model_lemmas.proofs.AliveLemmas.{alive_increase, alive_below}
+use Rattle.mb_model_lemmas.proofs.ListLemmas.{All-unmap, AllPairs-unmap, pairs_before, pairs_after}
 
 -- ---- numbers
-
-All-unmap : {X Y : Type 0} (P : Y → Type 0) (f : X → Y) (xs : List X) → All P (map f xs) → All (λ x. P (f x)) xs
-All-unmap P f [] all = All-nil (λ x. P (f x))
-All-unmap P f (x ∷ xs) all = All-cons (λ y. P (f y)) x xs (All-head P (f x) (map f xs) all) (All-unmap P f xs (All-tail P (f x) (map f xs) all))
-
-pub pairs_head : {X : Type 0} (R : X → X → Type 0) (x : X) (xs : List X) → AllPairs R (x ∷ xs) → All (R x) xs
-pairs_head R x xs pairs = λ k d within. pairs zero (suc k) d (omega arith) (omega arith)
-
-pub pairs_tail : {X : Type 0} (R : X → X → Type 0) (x : X) (xs : List X) → AllPairs R (x ∷ xs) → AllPairs R xs
-pairs_tail R x xs pairs = λ i j d less within. pairs (suc i) (suc j) d (omega arith) (omega arith)
-
-AllPairs-unmap : {X Y : Type 0} (R : Y → Y → Type 0) (f : X → Y) (xs : List X) → AllPairs R (map f xs) → AllPairs (λ a b. R (f a) (f b)) xs
-AllPairs-unmap R f [] pairs = λ i j d less within. absurd (omega (arith, within))
-AllPairs-unmap R f (x ∷ xs) pairs =
-    AllPairs-cons (λ a b. R (f a) (f b)) x xs
-    (All-unmap (R (f x)) f xs (pairs_head R (f x) (map f xs) pairs))
-    (AllPairs-unmap R f xs (pairs_tail R (f x) (map f xs) pairs))
-
--- each before an element of such a list goes before it, and it goes before each after it
-pairs_before : {X : Type 0} (R : X → X → Type 0) (front : List X) (x : X) (rest : List X) → AllPairs R (front ++ x ∷ rest) → All (λ a. R a x) front
-pairs_before R [] x rest pairs = All-nil (λ a. R a x)
-pairs_before R (first ∷ front) x rest pairs =
-    All-cons (λ a. R a x) first front
-    (All-contains (R first) (front ++ x ∷ rest) x (pairs_head R first (front ++ x ∷ rest) pairs) (Contains-append_right front (x ∷ rest) x (0, omega arith, refl)))
-    (pairs_before R front x rest (pairs_tail R first (front ++ x ∷ rest) pairs))
-
-pairs_after : {X : Type 0} (R : X → X → Type 0) (front : List X) (x : X) (rest : List X) → AllPairs R (front ++ x ∷ rest) → All (R x) rest
-pairs_after R [] x rest pairs = pairs_head R x rest pairs
-pairs_after R (first ∷ front) x rest pairs = pairs_after R front x rest (pairs_tail R first (front ++ x ∷ rest) pairs)
 
 -- the keys of a region stand in the order of their numbers
 pub keys_increase : (log : List Entry) (L : ℕ) (keys : List RegionKey) → RuledLog log → map as_made keys ≡ alive_keys log L → AllPairs (λ a b. a.number < b.number) keys

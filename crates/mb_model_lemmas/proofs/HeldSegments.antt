@@ -86,7 +86,7 @@ texts_few signed (Some first) (Some second) (u ∷ []) is are = absurd are
 texts_few signed (Some first) (Some second) (u ∷ v ∷ []) is are = is.0.1
 texts_few signed (Some first) (Some second) (u ∷ v ∷ w ∷ us) is are = absurd are
 
-header_texts : (header : Header) → header_format.Allowed header → (unsigned_format header.signed).Allowed (header.first, header.second)
+pub header_texts : (header : Header) → header_format.Allowed header → (unsigned_format header.signed).Allowed (header.first, header.second)
 unfolding header_format
 header_texts header is = is.1.1.1.1.1
 

@@ -1,3 +1,4 @@
+pub mod ListLemmas
 pub mod LogLemmas
 pub mod RuleLemmas
 pub mod AdditionLemmas

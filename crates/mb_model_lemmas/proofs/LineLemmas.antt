@@ -202,7 +202,7 @@ bad_begins {A} Grammar lines before line later split none begins =
     none (IsBeginning-front Grammar (before ++ line ∷ []) later (subst (λ (x : List (List ℕ)). IsBeginning Grammar x) whole begins))
 
 -- of two splits of one list, the shorter front and its line begin the longer front
-front_in : (a b : List (List ℕ)) (x y : List ℕ) (xs ys : List (List ℕ)) → a ++ x ∷ xs ≡ b ++ y ∷ ys → length a < length b
+pub front_in : (a b : List (List ℕ)) (x y : List ℕ) (xs ys : List (List ℕ)) → a ++ x ∷ xs ≡ b ++ y ∷ ys → length a < length b
     → (rest : List (List ℕ)) × (b ≡ (a ++ x ∷ []) ++ rest)
 front_in [] [] x y xs ys e less = absurd (omega (arith, less))
 front_in [] (b ∷ bs) x y xs ys e less = (bs, ap (λ (z : List ℕ). z ∷ bs) (sym (cons_same x b xs (bs ++ y ∷ ys) e).0))

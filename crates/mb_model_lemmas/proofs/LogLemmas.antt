@@ -16,8 +16,9 @@ use Rattle.mb_model.specs.declared.entry.Entry.{Entry}
 use Rattle.mb_model.specs.declared.entry.Entry.TheVariants.{Birth, Change, NewKey, Succession}
 use Rattle.mb_model.specs.declared.entry.SignedEntry.{SignedEntry}
 use Rattle.mb_model.specs.owners.Layers.{unowned_layers}
-use Rattle.mb_model.specs.owners.Log.{figures_of, entries_of, is_change, layers_in, device_in, keys_in, last_of, number_of, layers_of, device_of, uses_of_device_key, keys_made_by, is_version_two, has_version_two, Ruled, RuledLog}
+use Rattle.mb_model.specs.owners.Log.{figures_of, entries_of, is_change, layers_in, device_in, keys_in, last_of, number_of, layers_of, device_of, uses_of_device_key, keys_made_by, is_version_two, has_version_two, Ruled, RuledLog, serial_in, serial_of}
 use Rattle.mb_model_lemmas.proofs.LineLemmas.{cons_same}
+use Rattle.mb_model_lemmas.proofs.ListLemmas.{not_first}
 
 pub number_of-push : (log : List Entry) (entry : Entry) → number_of (log ++ entry ∷ []) ≡ number_of log + (if is_change entry then 1 else 0)
 unfolding number_of
@@ -61,6 +62,10 @@ layers_of-push log entry =
 pub device_of-push : (log : List Entry) (entry : Entry) → device_of (log ++ entry ∷ []) ≡ option_or (device_in entry) (device_of log)
 unfolding device_of
 device_of-push log entry = last_of-push device_in log entry
+
+pub serial_of-push : (log : List Entry) (entry : Entry) → serial_of (log ++ entry ∷ []) ≡ option_or (serial_in entry) (serial_of log)
+unfolding serial_of
+serial_of-push log entry = last_of-push serial_in log entry
 
 length-taken : (keeps : Entry → Bool) (entry : Entry) (rest : List Entry)
     → length (take_while keeps (entry ∷ rest)) ≡ (if keeps entry then length (take_while keeps rest) + 1 else 0)
@@ -241,3 +246,52 @@ pub entries_more : (log : List SignedEntry) (i : ℕ) (d : SignedEntry) → i < 
 entries_more log i d within =
     ap entries_of (take_more log i d within)
     ∙ map-append (λ (s : SignedEntry). s.entry) (take i log) (get_or log i d ∷ [])
+
+-- ---- more entries
+
+-- no entry but the first is a birth
+pub no_birth : (before : List Entry) (entry : Entry) → before ≢ [] → Ruled (figures_of before) entry → serial_in entry ≡ None
+no_birth [] entry some ruled = absurd (some refl)
+no_birth (x ∷ xs) (Birth version serial key layers) some ruled = absurd (omega (arith, ruled.0))
+no_birth (x ∷ xs) (Change version position number kind layer cosigned layers kept next) some ruled = refl
+no_birth (x ∷ xs) (NewKey position number key_number layer kind key) some ruled = refl
+no_birth (x ∷ xs) (Succession position key) some ruled = refl
+
+no_layers : (entry : Entry) → serial_in entry ≡ None → is_change entry ≡ false → layers_in entry ≡ None
+no_layers (Birth version serial key layers) no_serial quiet = absurd (grind (arith, no_serial))
+no_layers (Change version position number kind layer cosigned layers kept next) no_serial quiet = absurd (grind (arith, quiet))
+no_layers (NewKey position number key_number layer kind key) no_serial quiet = refl
+no_layers (Succession position key) no_serial quiet = refl
+
+-- the serial is that of the first entry
+pub serial_on : (rest front : List Entry) (serial : List ℕ) → front ≢ [] → RuledLog (front ++ rest) → serial_of front ≡ Some serial → serial_of (front ++ rest) ≡ Some serial
+serial_on [] front serial some ruled is = ap serial_of (append-nil front) ∙ is
+serial_on (entry ∷ rest) front serial some ruled is =
+    let more : List Entry = front ++ entry ∷ [] in
+    let whole : more ++ rest ≡ front ++ entry ∷ rest = append_assoc front (entry ∷ []) rest in
+    let none : serial_in entry ≡ None = no_birth front entry some (ruled front entry rest refl) in
+    let now : serial_of more ≡ Some serial = serial_of-push front entry ∙ ap (λ (o : Option (List ℕ)). option_or o (serial_of front)) none ∙ is in
+    ap serial_of (sym whole) ∙ serial_on rest more serial (not_first front entry []) (subst RuledLog (sym whole) ruled) now
+
+one_if : Bool → ℕ
+one_if b = if b then 1 else 0
+
+quiet_if : (b : Bool) → one_if b ≡ 0 → b ≡ false
+unfolding one_if
+quiet_if true e = absurd (omega (arith, e))
+quiet_if false e = refl
+
+-- entries without a change leave the layers
+pub layers_on : (rest front : List Entry) → front ≢ [] → RuledLog (front ++ rest) → number_of (front ++ rest) ≡ number_of front → layers_of (front ++ rest) ≡ layers_of front
+unfolding one_if
+layers_on [] front some ruled same = ap layers_of (append-nil front)
+layers_on (entry ∷ rest) front some ruled same =
+    let more : List Entry = front ++ entry ∷ [] in
+    let whole : more ++ rest ≡ front ++ entry ∷ rest = append_assoc front (entry ∷ []) rest in
+    let counted : number_of more ≡ number_of front + one_if (is_change entry) = number_of-push front entry in
+    let total : number_of (front ++ entry ∷ rest) ≡ number_of more + number_of rest = ap number_of (sym whole) ∙ number_of-append more rest in
+    let quiet : is_change entry ≡ false = quiet_if (is_change entry) (omega (arith, same, counted, total)) in
+    let still : number_of (more ++ rest) ≡ number_of more = ap number_of whole ∙ omega (arith, same, counted, total) in
+    let none : layers_in entry ≡ None = no_layers entry (no_birth front entry some (ruled front entry rest refl)) quiet in
+    ap layers_of (sym whole) ∙ layers_on rest more (not_first front entry []) (subst RuledLog (sym whole) ruled) still
+    ∙ layers_of-push front entry ∙ ap (λ (o : Option Layers). unwrap_or o (layers_of front)) none

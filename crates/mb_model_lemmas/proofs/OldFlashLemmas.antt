@@ -70,7 +70,7 @@ unfolding code_format
 code_short None is = tt
 code_short (Some code) is = is.1.0.1
 
-codes_short : (codes : Codes) → codes_format.Allowed codes → CodesFitSlots codes
+pub codes_short : (codes : Codes) → codes_format.Allowed codes → CodesFitSlots codes
 unfolding codes_format
 codes_short codes is = record { one = code_short codes.one is.0; two = code_short codes.two is.1.0; three = code_short codes.three is.1.1 }
 

@@ -37,7 +37,7 @@ back_bytes front rest are = subst IsBytes (drop-append_seam front rest) (IsBytes
 pub begun_bytes : {A : Type 0} (format : Format A) (bytes : List ℕ) (a : A) → IsBytes bytes → BeginsAs format bytes a → IsBytes (format.spelling a)
 begun_bytes format bytes a are begins = IsBytes-spelled (drop 0 bytes) (format.spelling a) (drop begins.after bytes) (IsBytes-drop 0 bytes are) begins.spelled.here
 
-one_begun : {A : Type 0} (format : Format A) → IsExact format → (bytes : List ℕ) (a b : A) → IsBytes bytes → BeginsAs format bytes a → BeginsAs format bytes b → a ≡ b
+pub one_begun : {A : Type 0} (format : Format A) → IsExact format → (bytes : List ℕ) (a b : A) → IsBytes bytes → BeginsAs format bytes a → BeginsAs format bytes b → a ≡ b
 one_begun format exact bytes a b are one other =
     ((IsClear-from_exact exact).one_value bytes 0 a b one.after other.after (record { are_bytes = are; within = omega arith }) one.spelled other.spelled).0
 

@@ -9,6 +9,7 @@ use Rattle.mb_format.specs.Combinators.{number_bytes, items}
 use Rattle.mb_format.specs.Reading.{IsExactWhole, number_at, raw_at}
 use Rattle.mb_format.proofs.Examples.{are_bytes}
 use Rattle.mb_format.proofs.Whole.{IsClearWhole-from_exact, IsExactWhole-from_exact}
+use Rattle.mb_format.proofs.Exact.{IsBytes-replicate}
 use Rattle.mb_model.specs.declared.order.Order.{Order}
 use Rattle.mb_model.specs.declared.entry.Statement.{Statement}
 use Rattle.mb_model.specs.outside.Texts.{IsHex}
@@ -24,7 +25,7 @@ use Rattle.mb_model_lemmas.proofs.LineLemmas.{cons_same, cons_none, IsBeginning-
 use Rattle.mb_model_lemmas.proofs.WordLemmas.{IsHex-same, hex_word-read}
 
 -- a hexadecimal word is bytes
-IsHex-bytes : (word bytes : List ℕ) → IsHex word bytes → IsBytes bytes
+pub IsHex-bytes : (word bytes : List ℕ) → IsHex word bytes → IsBytes bytes
 IsHex-bytes word bytes (inl dash) = λ i. omega (arith, ap (λ (x : List ℕ). get_or x i 0) dash.1)
 IsHex-bytes word bytes (inr digits) = (decode_of-ok word bytes digits.1).3
 
@@ -157,12 +158,7 @@ order_first line later none = first IsOrderLine order_one line later (surrender_
 abbrev pub statement_with : List ℕ → Statement
 statement_with signature = record { number = 0; message = []; signature = signature }
 
--- zeros are bytes, and so are bytes after five of them
-IsBytes-zeros : (n : ℕ) → IsBytes (replicate n 0)
-IsBytes-zeros zero i = lit≤ tt
-IsBytes-zeros (suc n) zero = lit≤ tt
-IsBytes-zeros (suc n) (suc i) = IsBytes-zeros n i
-
+-- bytes after five zeros are bytes
 IsBytes-five : (bytes : List ℕ) → IsBytes bytes → IsBytes (0 ∷ 0 ∷ 0 ∷ 0 ∷ 0 ∷ bytes)
 IsBytes-five bytes are zero = lit≤ tt
 IsBytes-five bytes are (suc zero) = lit≤ tt
@@ -188,6 +184,6 @@ some_statement_is = record {
   bytes = 0 ∷ 0 ∷ 0 ∷ 0 ∷ 0 ∷ replicate 2348 0;
   one = refl;
   worded = hex_word-read (0 ∷ 0 ∷ 0 ∷ 0 ∷ 0 ∷ replicate 2348 0)
-      (IsBytes-five (replicate 2348 0) (IsBytes-zeros 2348));
+      (IsBytes-five (replicate 2348 0) (IsBytes-replicate 2348 0 (lit≤ tt)));
   spelled = spelled_with (replicate 2348 0) (length-replicate {A = ℕ} 2348 0);
 }

@@ -1,10 +1,10 @@
 -- A key that is alive lives in the layers that stand.
-use Rattle.std.proofs.Common.{◌≡◌, ◌<◌, ℕ, List, [], ◌∷◌, ◌++◌, length, inl, inr, Bool, true, false, refl, sym, ap, subst, ◌∙◌, arith, append-nil, length-append}
+use Rattle.std.proofs.Common.{◌≡◌, ◌<◌, ℕ, List, [], ◌∷◌, ◌++◌, inl, inr, Bool, true, false, refl, sym, ap, subst, ◌∙◌, arith, append-nil}
 use Rattle.std.specs.Prelude.{◌&&◌, ◌==◌, not, All, IsTrue, nat_lt, nat_le, Option, if◌then◌else◌}
 use Rattle.std.specs.List.{list_all}
 use Rattle.std.proofs.lemmas.List.Sums.{list_all-from_AllPass}
 use Rattle.std.proofs.lemmas.List.{nil_from_length}
-use Rattle.std.proofs.lemmas.List.Elements.{All-nil, All-cons, All-head, All-tail, All-weaker, All-same}
+use Rattle.std.proofs.lemmas.List.Elements.{All-weaker, All-same}
 use Rattle.mb_model.specs.declared.key.PublicKey.{PublicKey}
 use Rattle.mb_model.specs.declared.layer.Layer.{Layer}
 use Rattle.mb_model.specs.declared.layer.Layers.{Layers}
@@ -22,6 +22,7 @@ use Rattle.mb_model.specs.owners.Lives.{lives_of}
 use Rattle.mb_model_lemmas.proofs.LogLemmas.{layers_of-push, split_push, by_entries, RuledLog-push}
 use Rattle.mb_model_lemmas.proofs.RegionLemmas.{at_upper}
 use Rattle.mb_model_lemmas.proofs.AliveLemmas.{lives_of_new_key, lives_of-push}
+use Rattle.mb_model_lemmas.proofs.ListLemmas.{not_first, All-front}
 
 -- a change leaves what is beneath it
 beneath_stays : (layers : Layers) (kind : ChangeKind) (k : ℕ) (cosigned : Pair) (new : Layer) (m : ℕ) → m < k → layer_after layers kind k cosigned new m ≡ layer_of layers m
@@ -62,9 +63,6 @@ nothing_opened log more n L lives same now = (
       ∙ ap (λ (x : Layers). let c : Configuration = record { number = now.1; upto = L; layers = x } in now.0 ++ c ∷ []) same,
 )
 
-pub not_first : (before : List Entry) (entry : Entry) (more : List Entry) → before ++ entry ∷ more ≡ [] → ⊥
-not_first before entry more e = omega (arith, ap length e, length-append before (entry ∷ more))
-
 above : (k L : ℕ) → nat_le k L ≡ false → L < k
 above k L e = grind (arith, e)
 
@@ -92,10 +90,6 @@ one_more before (NewKey position number key_number layer kind key) n L upper som
     nothing_opened before (before ++ NewKey position number key_number layer kind key ∷ []) n L lives (ap (layers_upto L) (sym (layers_of-push before (NewKey position number key_number layer kind key)))) now
 one_more before (Succession position key) n L upper some ruled lives now =
     nothing_opened before (before ++ Succession position key ∷ []) n L lives (ap (layers_upto L) (sym (layers_of-push before (Succession position key)))) now
-
-front_all : {X : Type 0} (P : X → Type 0) (xs ys : List X) → All P (xs ++ ys) → All P xs
-front_all P [] ys all = All-nil P
-front_all P (x ∷ xs) ys all = All-cons P x xs (All-head P x (xs ++ ys) all) (front_all P xs ys (All-tail P x (xs ++ ys) all))
 
 -- A key that is alive lives in the layers that stand: its last configuration has these, up to its own.
 pub alive_lives_now : (log : List Entry) (n L : ℕ) (kind : KeyKind) (key : PublicKey) → RuledLog log → IsTrue (is_upper L) → Alive log n L kind key → LivesNow log n L
@@ -125,7 +119,7 @@ alive_lives_now log n L kind key ruled upper =
                 number = alive.number;
                 later = found.0;
                 split = found.2;
-                lasts = front_all (λ e. ends_keys kind L e ≡ false) found.0 (entry ∷ []) lasts;
+                lasts = All-front (λ e. ends_keys kind L e ≡ false) found.0 (entry ∷ []) lasts;
               } in
               one_more before entry n L upper (λ none. not_first alive.before own found.0 (sym found.2 ∙ none)) next (lives ∙ ap (λ b. lives_of before n ++ (if b then configurations_opened_by L entry else [])) on) (lived earlier)
         ]

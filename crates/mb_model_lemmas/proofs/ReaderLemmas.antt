@@ -1,5 +1,5 @@
 -- What a log says of one key, with one more entry.
-use Rattle.std.proofs.Common.{◌≡◌, ℕ, List, [], ◌∷◌, ◌++◌, Bool, true, false, true≢false, refl, sym, ap, subst, ◌∙◌, arith, append_assoc, Option, None, Some, eq-eqb, eqb-true}
+use Rattle.std.proofs.Common.{◌≡◌, ℕ, List, [], ◌∷◌, ◌++◌, Bool, true, false, true≢false, refl, sym, ap, subst, ◌∙◌, arith, append_assoc, Option, None, Some, eq-eqb, eqb-true, append-nil}
 use Rattle.std.specs.Prelude.{◌&&◌, ◌||◌, ◌==◌, not, All, if◌then◌else◌}
 use Rattle.std.specs.Option.{option_or}
 use Rattle.std.specs.List.{list_all, list_any}
@@ -7,6 +7,7 @@ use Rattle.std.proofs.Math.Seq.{append_snoc}
 use Rattle.std.proofs.lemmas.List.Folds.{list_all-append, list_any-append, list_any_at}
 use Rattle.std.proofs.lemmas.List.Sums.{AllPass-from_list_all}
 use Rattle.std.proofs.lemmas.List.Elements.{All-nil, All-cons, All-head, All-tail, All-weaker, All-contains, Contains-push}
+use Rattle.std.proofs.lemmas.Option.{same_Some}
 use Rattle.mb_model.specs.declared.key.PublicKey.{PublicKey}
 use Rattle.mb_model.specs.declared.order.KeyKind.{KeyKind}
 use Rattle.mb_model.specs.declared.entry.Entry.{Entry}
@@ -18,7 +19,6 @@ use Rattle.mb_model_lemmas.specs.AliveLaws.{makes, IsUnmade}
 use Rattle.mb_model_lemmas.specs.ReaderLaws.{first_life}
 use Rattle.mb_model_lemmas.proofs.LogLemmas.{last_of-push, RuledLog-front, made-push}
 use Rattle.mb_model_lemmas.proofs.AliveLemmas.{alive_keys-nil, alive_keys-cons, alive_is_listed, high_is_unmade, later_is_unmade, one_listed, lives_from-other, unmade_has_no_lives, lives_of-push}
-use Rattle.mb_model_lemmas.proofs.Splits.{some_same}
 
 -- ---- what is named last
 
@@ -86,7 +86,7 @@ names_this n (NewKey position number key_number layer kind key) made is = by (ke
         → IsEntryOf n made (NewKey position number key_number layer kind key)
     by false at own own_is e = absurd (grind (arith, e))
     by true at own own_is e =
-        let same : record { layer = layer; kind = kind; key = key } ≡ made = sym own_is ∙ some_same own made e in (
+        let same : record { layer = layer; kind = kind; key = key } ≡ made = sym own_is ∙ same_Some own made e in (
           position,
           number,
           ap (λ (x : ℕ). NewKey position number x layer kind key) (eqb-true key_number n at)
@@ -232,6 +232,16 @@ stays_made log entry n made ruled is =
     let remaining : IsUnmade (at.3 ++ entry ∷ []) n = unmade_after at.0 at.1 at.2 n made.layer made.kind made.key (at.3 ++ entry ∷ []) whole in
     let other : makes n entry ≡ false = All-contains (λ e. makes n e ≡ false) (at.3 ++ entry ∷ []) entry remaining (Contains-push at.3 entry) in
     last_of-push (key_in n) log entry ∙ ap (λ o. option_or o (last_of (key_in n) log)) (makes_none n entry other) ∙ is
+
+-- what the log says of a key, it says with more entries too
+pub made_on : (rest front : List Entry) (n : ℕ) (made : KeyEntry) → RuledLog (front ++ rest) → key_of front n ≡ Some made → key_of (front ++ rest) n ≡ Some made
+made_on [] front n made ruled is = ap (λ log. key_of log n) (append-nil front) ∙ is
+made_on (entry ∷ rest) front n made ruled is =
+    let more : List Entry = front ++ entry ∷ [] in
+    let whole : more ++ rest ≡ front ++ entry ∷ rest = append_assoc front (entry ∷ []) rest in
+    let longer : RuledLog (more ++ rest) = subst RuledLog (sym whole) ruled in
+    let now : key_of more n ≡ Some made = stays_made front entry n made (RuledLog-front more rest longer) is in
+    ap (λ log. key_of log n) (sym whole) ∙ made_on rest more n made longer now
 
 and_one_more : (kind : KeyKind) (L : ℕ) (later : List Entry) (entry : Entry)
     → list_all (λ e. not (ends_keys kind L e)) (later ++ entry ∷ []) ≡ (list_all (λ e. not (ends_keys kind L e)) later && not (ends_keys kind L entry))

@@ -28,7 +28,7 @@ module _ {X : Type 0} (same : X → X → Bool) (decides : (a b : X) → Decides
   options_decide (Some a) None = (λ on. absurd (true≢false (sym on)), λ is. absurd (let no : Some a ≡ None = is in cc))
   options_decide (Some a) (Some b) = (λ on. ap Some ((decides a b).0 on), λ is. (decides a b).1 (ap (λ o. unwrap_or o a) is))
 
-keys_decide : (a b : PublicKey) → Decides (key.ghosts.eq a b) (a ≡ b)
+pub keys_decide : (a b : PublicKey) → Decides (key.ghosts.eq a b) (a ≡ b)
 keys_decide a b =
     let parts = Decides-and _ _ (same_true tree.the_type tt a.tree b.tree, true_same tree.the_type a.tree b.tree)
     (Decides-and _ _ (same_true chains.the_type tt a.chains b.chains, true_same chains.the_type a.chains b.chains)

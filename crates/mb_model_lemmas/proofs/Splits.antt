@@ -7,9 +7,6 @@ use Rattle.mb_model_lemmas.proofs.LineLemmas.{cons_same}
 
 -- ---- values that may be missing
 
-pub some_same : {X : Type 0} (x y : X) → Some x ≡ Some y → x ≡ y
-some_same x y e = cc
-
 pub none_is_some : {X : Type 0} (o : Option X) (x : X) → o ≡ None → o ≡ Some x → ⊥
 none_is_some o x none some = cc
 

@@ -17,7 +17,7 @@ use Rattle.mb_model.specs.memories.Valid.{Follows, EachFollows, AreNamed, IsVali
 use Rattle.mb_model_lemmas.specs.RegionLaws.{HasValidRegions}
 use Rattle.mb_model_lemmas.proofs.ValidStates.{valid_is_ruled, entries_of-push}
 use Rattle.mb_model_lemmas.proofs.SignatureLemmas.{signature_verifies, signature_leaf_number}
-use Rattle.mb_model_lemmas.proofs.LogLemmas.{split_push, last_of-push, layers_of-push, device_of-push, used-push, used-bound}
+use Rattle.mb_model_lemmas.proofs.LogLemmas.{split_push, layers_of-push, device_of-push, used-push, used-bound, serial_of-push}
 
 pub EachFollows-push : (log : List SignedEntry) (signed : SignedEntry) → EachFollows log → Follows (figures_of (entries_of log)) signed → EachFollows (log ++ signed ∷ [])
 EachFollows-push log signed each next =
@@ -25,10 +25,6 @@ EachFollows-push log signed each next =
       | inl end ↦ subst (λ (b : List SignedEntry). Follows (figures_of (entries_of b)) s) end.1 (subst (λ (x : SignedEntry). Follows (figures_of (entries_of log)) x) end.2 next)
       | inr found ↦ each before s found.0 found.2
     ]
-
-pub serial_of-push : (log : List Entry) (entry : Entry) → serial_of (log ++ entry ∷ []) ≡ option_or (serial_in entry) (serial_of log)
-unfolding serial_of
-serial_of-push log entry = last_of-push serial_in log entry
 
 -- a log with a device key is not empty
 pub named_is_some : (log : List Entry) (key : PublicKey) → device_of log ≡ Some key → length log ≢ 0

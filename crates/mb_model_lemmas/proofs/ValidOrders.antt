@@ -32,14 +32,17 @@ use Rattle.mb_model_lemmas.proofs.RuleLemmas.{placed_can, version_two_may_follow
 use Rattle.mb_model_lemmas.proofs.ValidStates.{valid_is_ruled, succeeded_keeps, changed_keeps, keyed_keeps}
 use Rattle.mb_model_lemmas.proofs.ValidLogs.{named_is_some, valid_after}
 
--- what holds of 1, 2 and 3 holds of the number of each layer
-at_number : (P : ℕ → Type 0) (k : ℕ) → IsTrue (is_layer_number k) → P 1 → P 2 → P 3 → P k
-at_number P k is one two three =
-    (elim (k == 1) as (λ b. (k == 1) ≡ b → P k) [
-      | true ↦ λ e. let same : 1 ≡ k = grind (arith, e) in subst P same one
-      | false ↦ λ e. (elim (k == 2) as (λ b. (k == 2) ≡ b → P k) [
-        | true ↦ λ f. let same : 2 ≡ k = grind (arith, f) in subst P same two
-        | false ↦ λ f. let same : 3 ≡ k = grind (arith, e, f, is) in subst P same three
+-- what holds of 1, 2 and 3, and of what is no number of a layer, holds of each number
+pub each_number : (P : ℕ → Type 0) (m : ℕ) → P 1 → P 2 → P 3 → (is_layer_number m ≡ false → P m) → P m
+each_number P m one two three other =
+    (elim (m == 1) as (λ b. (m == 1) ≡ b → P m) [
+      | true ↦ λ e. let same : 1 ≡ m = grind (arith, e) in subst P same one
+      | false ↦ λ e. (elim (m == 2) as (λ b. (m == 2) ≡ b → P m) [
+        | true ↦ λ f. let same : 2 ≡ m = grind (arith, f) in subst P same two
+        | false ↦ λ f. (elim (m == 3) as (λ b. (m == 3) ≡ b → P m) [
+          | true ↦ λ g. let same : 3 ≡ m = grind (arith, g) in subst P same three
+          | false ↦ λ g. other (grind (arith, e, f, g))
+        ]) refl
       ]) refl
     ]) refl
 
@@ -58,7 +61,8 @@ condition_number layers Emergency k is = grind (arith, is)
 -- the layer that a change puts in place stands in its place
 pub own_layer : (layers : Layers) (kind : ChangeKind) (k : ℕ) (by : Pair) (new : Layer) → IsTrue (is_layer_number k) → layer_of (after layers kind k by new) k ≡ new
 unfolding after
-own_layer layers kind k by new is = at_number (λ m. k ≡ m → layer_of (after layers kind m by new) m ≡ new) k is (λ e. refl) (λ e. refl) (λ e. refl) refl
+own_layer layers kind k by new is =
+    each_number (λ m. k ≡ m → layer_of (after layers kind m by new) m ≡ new) k (λ e. refl) (λ e. refl) (λ e. refl) (λ none e. absurd (grind (arith, is, none))) refl
 
 named_placed : (old : Layer) (code : Option (List ℕ)) (a : Act) → is_some (change_of (kind_of a)) ≡ true → IsNamed (layer_from_order old a).code (code_after code a)
 named_placed old code (act.Establish owner trust) is = tt

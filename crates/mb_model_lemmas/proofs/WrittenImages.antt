@@ -30,7 +30,7 @@ pub length-zeros : (n : ℕ) → length (zeros n) ≡ n
 unfolding zeros
 length-zeros n = length-replicate n 0
 
-zeros_blank : (n : ℕ) → IsBlank (zeros n)
+pub zeros_blank : (n : ℕ) → IsBlank (zeros n)
 unfolding zeros
 zeros_blank n = All-replicate (λ byte. byte ≡ 0) n 0 refl
 

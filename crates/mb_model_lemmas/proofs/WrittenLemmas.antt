@@ -2,7 +2,7 @@
 use Rattle.std.proofs.Common.{◌≡◌, ◌≤◌, ℕ, ◌*◌, ◌-◌, List, [], ◌∷◌, ◌++◌, length, take, drop, Option, None, Some, refl, sym, ap, subst, ◌∙◌, arith, append_assoc, length-append}
 use Rattle.std.specs.Prelude.{All, IfSome}
 use Rattle.std.proofs.lemmas.List.{take-take}
-use Rattle.std.proofs.lemmas.List.Elements.{All-head, All-tail, All-take, All-drop}
+use Rattle.std.proofs.lemmas.List.Elements.{All-head, All-tail}
 use Rattle.std.proofs.Math.Seq.{take-append_seam, drop-append_seam}
 use Rattle.mb_format.specs.Format.{Spells}
 use Rattle.mb_format.specs.Combinators.{number_bytes, items}
@@ -23,6 +23,7 @@ use Rattle.mb_model.proofs.Places.{length-erased}
 use Rattle.mb_model_lemmas.specs.SegmentLaws.{EntriesFitTheirSectors, WrittenFlashIsWhole, WrittenFlashHolds}
 use Rattle.mb_model_lemmas.proofs.HeldSegments.{begins_with, front_of_sector, holds_entry}
 use Rattle.mb_model_lemmas.proofs.PublicLemmas.{entry_from_signed}
+use Rattle.mb_model_lemmas.proofs.ListLemmas.{All-front, All-back}
 
 -- ---- pieces
 
@@ -46,12 +47,6 @@ opened n bytes post = append_assoc bytes (erased_bytes (4096 * n - length bytes)
 -- a list of pieces, with the first of them joined
 joined : (flash a b c : List ℕ) → flash ≡ a ++ (b ++ c) → flash ≡ (a ++ b) ++ c
 joined flash a b c e = e ∙ sym (append_assoc a b c)
-
-All-front : {A : Type 0} (P : A → Type 0) (xs ys : List A) → All P (xs ++ ys) → All P xs
-All-front P xs ys are = subst (All P) (take-append_seam xs ys) (All-take P (length xs) (xs ++ ys) are)
-
-All-back : {A : Type 0} (P : A → Type 0) (xs ys : List A) → All P (xs ++ ys) → All P ys
-All-back P xs ys are = subst (All P) (drop-append_seam xs ys) (All-drop P (length xs) (xs ++ ys) are)
 
 -- ---- codes
 

@@ -22,7 +22,8 @@ use Rattle.mb_model_memory.specs.FlashLaws.{AgreeingFlashesHoldTheSame, Agreemen
 
 -- ---- parts apart from what was written
 
-part_same : (from n : ℕ) (before after : List ℕ) → length after ≡ length before → from + n ≤ length before
+-- a part whose every byte is the same is the same
+pub part_same : (from n : ℕ) (before after : List ℕ) → length after ≡ length before → from + n ≤ length before
     → ((offset : ℕ) → from ≤ offset → offset < from + n → get_or after offset 0 ≡ get_or before offset 0) → part from n after ≡ part from n before
 part_same from n before after sized within same =
     let count : length (part from n after) ≡ n = length-part from n after (omega arith) in

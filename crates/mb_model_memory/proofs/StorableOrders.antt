@@ -210,14 +210,14 @@ keyed_storable state L kind draw is least most room keys =
 -- ---- orders
 
 -- each order is for a layer from 1 on, one for a new key from 2 on
-least_one : (kind : OrderKind) → 1 ≤ least_layer kind
+pub least_one : (kind : OrderKind) → 1 ≤ least_layer kind
 least_one kinds.Establish = omega arith
 least_one kinds.Surrender = omega arith
 least_one kinds.Load = omega arith
 least_one kinds.Emergency = omega arith
 least_one kinds.NewKey = omega arith
 
-order_layer : (order : Order) → order_format.Allowed order → MayBeFor (kind_of order.act) order.layer
+pub order_layer : (order : Order) → order_format.Allowed order → MayBeFor (kind_of order.act) order.layer
 unfolding order_format body_format
 order_layer order allowed = allowed.0.1.0
 

@@ -54,6 +54,7 @@ use Rattle.mb_model_lemmas.proofs.ValidStates.{valid_is_ruled}
 use Rattle.mb_model_lemmas.proofs.ValidLogs.{named_is_some}
 use Rattle.mb_model_lemmas.proofs.ValidSteps.{obeyed_valid}
 use Rattle.mb_model_lemmas.proofs.PublicLemmas.{entry_from_signed}
+use Rattle.mb_model_lemmas.proofs.OldFlashLemmas.{codes_short}
 use Rattle.mb_model_memory.specs.Commits.{root_for}
 use Rattle.mb_model_memory.specs.Storable.{IsStorableRegion, IsStorableState}
 use Rattle.mb_model_memory.proofs.StorableFormats.{keep_allowed, some_allowed, none_allowed, born_public_allowed, succession_allowed}
@@ -237,18 +238,9 @@ region_written region is = written_by region.secrets region.keys is
 
 -- ---- images
 
-code_fits : (code : Option (List ℕ)) → code_format.Allowed code → IfSome code (λ code. length code ≤ 32768)
-unfolding code_format
-code_fits None is = tt
-code_fits (Some code) is = is.1.0.1
-
-codes_fit : (codes : Codes) → codes_format.Allowed codes → CodesFitSlots codes
-unfolding codes_format
-codes_fit codes is = record { one = code_fits codes.one is.0; two = code_fits codes.two is.1.0; three = code_fits codes.three is.1.1 }
-
 pub image_fits : (state : State) → IsValidState state → IsStorableState state → FitsImage state
 image_fits state valid is = record {
-  codes = codes_fit state.codes is.codes;
+  codes = codes_short state.codes is.codes;
   log = record {
     some = not_empty state.log (named_is_some (entries_of state.log) (public_of state.device) valid.device);
     few = is.few;

@@ -28,11 +28,12 @@ use Rattle.mb_model.specs.machine.LayerEvents.{Outcome, has_name, with_secret, h
 use Rattle.mb_model.specs.machine.Machine.{Phase, off, dead, ratchet, World, Told, boot_event, running_state, running_state_in, status_event, go_event, region_event, CommandStep, Machine, Step, machine_step, lacks_memory, loses_power, Run}
 use Rattle.mb_model.specs.chains.Script.{IsName, FitsMessage, IsScriptEvent}
 use Rattle.mb_model.specs.memories.Valid.{IsValidState, Valid}
-use Rattle.mb_model_lemmas.proofs.FateLemmas.{keys_increase, pairs_head, pairs_tail}
+use Rattle.mb_model_lemmas.proofs.FateLemmas.{keys_increase}
 use Rattle.mb_model_lemmas.proofs.ValidStates.{valid_is_ruled, region_is_valid}
 use Rattle.mb_model_lemmas.proofs.ValidSteps.{step_valid}
 use Rattle.mb_model_lemmas.proofs.ValidRegions.{used_if}
 use Rattle.mb_model_lemmas.proofs.RefusalLemmas.{awake_state}
+use Rattle.mb_model_lemmas.proofs.ListLemmas.{pairs_head, pairs_tail, found_is}
 use Rattle.mb_model_memory.specs.Storable.{IsStorableRegion, IsStorableState, Storable}
 use Rattle.mb_model_memory.proofs.StorableFormats.{used_key_allowed, secret_allowed}
 use Rattle.mb_model_memory.proofs.StorableOrders.{number_small, region_of-storable, with_region_storable, obeyed_storable}
@@ -167,16 +168,9 @@ uses_allowed number (key ∷ keys) found up are is left =
     (λ e. uses_allowed number keys found (pairs_tail (λ (a b : RegionKey). a.number < b.number) key keys up) (All-tail region_key_format.Allowed key keys are) e left)
 
 -- a key that is found by a number has it
-found_by : (number : ℕ) (key : RegionKey) (keys : List RegionKey) (found : RegionKey) (b : Bool) → has_number number key ≡ b → find (has_number number) (key ∷ keys) ≡ Some found
-    → (find (has_number number) keys ≡ Some found → found.number ≡ number) → found.number ≡ number
-found_by number key keys found true e is rest =
-    let own : key ≡ found = same_key key found (ap (λ (b : Bool). cond b (Some key) (find (has_number number) keys)) (sym e) ∙ is) in
-    ap (λ (k : RegionKey). k.number) (sym own) ∙ eqb-true key.number number e
-found_by number key keys found false e is rest = rest (ap (λ (b : Bool). cond b (Some key) (find (has_number number) keys)) (sym e) ∙ is)
-
 pub found_number : (number : ℕ) (keys : List RegionKey) (found : RegionKey) → find (has_number number) keys ≡ Some found → found.number ≡ number
-found_number number [] found is = absurd (grind (arith, is))
-found_number number (key ∷ keys) found is = found_by number key keys found (has_number number key) refl is (found_number number keys found)
+found_number number keys found is = eqb-true found.number number (found_is (has_number number) keys found is).1
+
 
 -- a region whose keys stand in the order of their numbers can be stored with one more use of a key that has one left
 pub use_region : (number : ℕ) (found : RegionKey) (region : Region) → AllPairs (λ a b. a.number < b.number) region.keys → IsStorableRegion region
@@ -213,13 +207,13 @@ order_step_storable state text draw answer next is (is_obeyed step) =
 
 -- ---- the machine
 
-booted_state : (world : World) (phase : Phase) (state : Option State) → (boot_event world phase state).1.state ≡ world.state
+pub booted_state : (world : World) (phase : Phase) (state : Option State) → (boot_event world phase state).1.state ≡ world.state
 booted_state world off (Some state) = refl
 booted_state world off None = refl
 booted_state world dead state = refl
 booted_state world (ratchet r) state = refl
 
-status_state : (world : World) (on : Result (ℕ × State) Refusal) → (status_event world on).1.state ≡ world.state
+pub status_state : (world : World) (on : Result (ℕ × State) Refusal) → (status_event world on).1.state ≡ world.state
 status_state world (Err refusal) = refl
 status_state world (Ok on) = refl
 
@@ -229,7 +223,7 @@ go_state true runs world r = refl
 go_state false true world r = refl
 go_state false false world r = refl
 
-gone_state : (world : World) (on : Result (ℕ × State) Refusal) → (go_event world on).1.state ≡ world.state
+pub gone_state : (world : World) (on : Result (ℕ × State) Refusal) → (go_event world on).1.state ≡ world.state
 gone_state world (Err refusal) = refl
 gone_state world (Ok on) = go_state (nat_lt 2 on.0) (is_runnable on.1.layers (on.0 + 1)) world on.0
 

@@ -14,7 +14,7 @@ use Rattle.mb_model.specs.machine.SignedTexts.{entry_text, IsSignedBy}
 use Rattle.mb_model.specs.memories.Valid.{IsValidState}
 use Rattle.mb_model_lemmas.proofs.LogLemmas.{used-split}
 use Rattle.mb_model_lemmas.proofs.ReaderLemmas.{none_of_two}
-use Rattle.mb_model_lemmas.proofs.PresentLemmas.{not_first}
+use Rattle.mb_model_lemmas.proofs.ListLemmas.{not_first}
 use Rattle.mb_model.specs.machine.Runs.{NamesDevice, HasInCharge, SignsEntriesOnce}
 
 -- the entry of a signed one

@@ -45,7 +45,7 @@ right_countersignature state order by right =
 
 -- ---- an order that is obeyed
 
-runs_first : (world : World) (state : State) → world.phase ≡ ratchet 1 → world.state ≡ Some state → running_state_in world ≡ Ok (1, state)
+pub runs_first : (world : World) (state : State) → world.phase ≡ ratchet 1 → world.state ≡ Some state → running_state_in world ≡ Ok (1, state)
 runs_first world state at was = ap (λ (p : Phase). running_state p world.state) at ∙ ap (running_state (ratchet 1)) was
 
 order_obeyed : (state : State) (text draw : List ℕ) (order : Order) → Spells order_format text order → PassesTheRest state order

@@ -18,6 +18,7 @@ use Rattle.mb_model.specs.records.ChainFormat.{statement_format}
 use Rattle.mb_model.specs.machine.Machine.{World, Told, running_state_in, region_event, Machine, Step, machine_step, lacks_memory, loses_power}
 use Rattle.mb_model_lemmas.proofs.RefusalLemmas.{awake_state}
 use Rattle.mb_model_lemmas.proofs.ReplyTests.{HasValue, boot_has, status_has, go_has, region_has, put_has, get_has, drop_has, command_has}
+use Rattle.mb_model_lemmas.proofs.ListLemmas.{found_is}
 use Rattle.mb_model_memory.proofs.StorableSteps.{found_number}
 use Rattle.mb_model_runs.proofs.KeptByRuns.{with_one_use}
 
@@ -43,16 +44,6 @@ pub record StepSigns (world : World) (given : Event) (n index : ℕ) (statement 
   pub signs : SignsIn state L message n index statement after
 
 -- ---- the event by which a layer signs
-
-found_within : {X : Type 0} (p : X → Bool) (xs : List X) (x : X) → find p xs ≡ Some x → Contains xs x
-found_within p [] x e = absurd (grind (arith, e))
-found_within {X} p (y ∷ ys) x e = by (p y) e (found_within p ys x)
-  where
-    by : (b : Bool) → cond b (Some y) (find p ys) ≡ Some x → (find p ys ≡ Some x → Contains ys x) → Contains (y ∷ ys) x
-    by true e more = (0, omega arith, cc)
-    by false e more =
-        let at = more e in
-        (suc at.0, omega (arith, at.1), at.2)
 
 signed_parts : (a b c d : ℕ) (s t : List ℕ) → reply.Signed a c s ≡ reply.Signed b d t → (a ≡ b) × (c ≡ d) × (s ≡ t)
 signed_parts a b c d s t e = (cc, cc, cc)
@@ -83,7 +74,7 @@ sign_with_signs L (Some key) number message state n index statement is =
       sym (found_number number (region_of state L).keys key is) ∙ parts.0,
       record {
         key = key;
-        within = found_within (has_number number) (region_of state L).keys key is;
+        within = (found_is (has_number number) (region_of state L).keys key is).0;
         few = fresh_is_few key.uses fresh;
         number_is = parts.0;
         index_is = parts.1;

@@ -5,6 +5,7 @@ use Rattle.std.proofs.lemmas.Bool.{le-ltb}
 use Rattle.std.proofs.lemmas.List.{map-append}
 use Rattle.std.proofs.lemmas.List.Elements.{All-nil, All-cons, All-head, All-tail, All-append, All-map, All-weaker}
 use Rattle.std.proofs.lemmas.List.Sums.{sum_by-cons, take_while-cons}
+use Rattle.std.proofs.lemmas.Option.{same_Some}
 use Rattle.mb_format.specs.Format.{IsBytes, Spells, IsClearWhole}
 use Rattle.mb_format.proofs.Whole.{IsClearWhole-from_exact}
 use Rattle.mb_model.specs.declared.key.PublicKey.{PublicKey}
@@ -35,7 +36,7 @@ use Rattle.mb_model.specs.machine.LayerEvents.{statement_of}
 use Rattle.mb_model.specs.machine.Machine.{World, Step, Run}
 use Rattle.mb_model.specs.memories.Valid.{IsValidState, Valid}
 use Rattle.mb_model.specs.chains.Acceptance.{AreGood, IsBornOf, KeyEntry, key_of, IsStated, IfStatement, IsCurrent, report_of, Accepts}
-use Rattle.mb_model_lemmas.proofs.LogLemmas.{last_of-more, RuledLog-front, number_of-append, number-le}
+use Rattle.mb_model_lemmas.proofs.LogLemmas.{last_of-more, RuledLog-front, number_of-append, number-le, no_birth}
 use Rattle.mb_model_lemmas.proofs.ValidStates.{valid_is_ruled}
 use Rattle.mb_model_lemmas.proofs.ValidSteps.{step_valid, run_valid}
 use Rattle.mb_model_lemmas.proofs.ReaderLemmas.{living_is_flagged, not_true}
@@ -153,16 +154,10 @@ no_change n before (Change version position number kind layer cosigned layers ke
 no_change n before (NewKey position number key_number layer kind key) low ruled stays = refl
 no_change n before (Succession position key) low ruled stays = refl
 
-no_birth : (before : List Entry) (entry : Entry) → length before ≢ 0 → Ruled (figures_of before) entry → serial_in entry ≡ None
-no_birth before (Birth version serial key layers) some ruled = absurd (some ruled.0)
-no_birth before (Change version position number kind layer cosigned layers kept next) some ruled = refl
-no_birth before (NewKey position number key_number layer kind key) some ruled = refl
-no_birth before (Succession position key) some ruled = refl
-
 quiet_at : (past : List Entry) (n : ℕ) (signed : SignedEntry) → length past ≢ 0 → n ≤ number_of past → Ruled (figures_of past) signed.entry → stays_in n signed ≡ true → IsQuiet signed
 quiet_at past n signed some low ruled stays = record {
   change = no_change n past signed.entry low ruled (not_true (is_change_above n signed.entry) stays);
-  serial = no_birth past signed.entry some ruled;
+  serial = no_birth past signed.entry (λ none. some (ap length none)) ruled;
 }
 
 no_entries : (a b : List Entry) → a ≢ [] → length (a ++ b) ≢ 0
@@ -237,7 +232,7 @@ serial_on log cut quiet =
     (All-map (λ (e : Entry). serial_in e ≡ None) (λ (s : SignedEntry). s.entry) cut
     (All-weaker IsQuiet (λ (s : SignedEntry). serial_in s.entry ≡ None) (λ s q. q.serial) cut quiet))
 
-stated_by : (o : Option (List ℕ)) (serial : List ℕ) (P : List ℕ → Type 0) → o ≡ Some serial → P serial → IsSomeAnd o P
+pub stated_by : (o : Option (List ℕ)) (serial : List ℕ) (P : List ℕ → Type 0) → o ≡ Some serial → P serial → IsSomeAnd o P
 stated_by o serial P is holds = subst (λ (o : Option (List ℕ)). IsSomeAnd o P) (sym is) holds
 
 -- what a verifier looks at
@@ -293,7 +288,8 @@ number_stated : (state : State) (key : RegionKey) (message : List ℕ) → (stat
 unfolding statement_of
 number_stated state key message = refl
 
-some_log : (state : State) → IsValidState state → entries_of state.log ≢ []
+-- the log of a valid state has a birth
+pub some_log : (state : State) → IsValidState state → entries_of state.log ≢ []
 unfolding serial_of last_of
 some_log state valid none =
     let no : None ≡ Some state.serial = ap serial_of (sym none) ∙ valid.serial in
@@ -333,7 +329,7 @@ statement_accepted maker world answered next state later L key message bytes val
     let here : IsValidState state = subst Valid was valid in
     let there : IsValidState later = subst Valid is (run_valid world answered next valid run) in
     let grown = logs_grow world answered next run later is in
-    let same : grown.0 ≡ state = some_same grown.0 state (sym grown.1 ∙ was) in
+    let same : grown.0 ≡ state = same_Some grown.0 state (sym grown.1 ∙ was) in
     let begins : BeginsWith later.log state.log = subst (λ (s : State). BeginsWith later.log s.log) same grown.2 in
     let right = right_later maker state later L key message here there begins within few born in
     record {
@@ -345,9 +341,6 @@ statement_accepted maker world answered next state later L key message bytes val
       current = right.current;
       report_is = refl;
     }
-  where
-    some_same : {X : Type 0} (x y : X) → Some x ≡ Some y → x ≡ y
-    some_same x y e = cc
 
 -- what an event was answered by, with the log of a state to which a run leads from there
 accepted_there : (maker : PublicKey) (world : World) (given : Event) (n index : ℕ) (bytes : List ℕ) (mid : World) (answered : List Answered) (next : World)

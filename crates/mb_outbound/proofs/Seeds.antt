@@ -1,6 +1,7 @@
 -- Whose tree is kept, over what changes a region and leaves the seeds of its keys.
 use Rattle.std.proofs.Common.{◌≡◌, ℕ, ◌+◌, ◌==◌, Bool, true, false, Option, None, Some, List, [], ◌∷◌, refl, sym, ap, subst, ◌∙◌, arith, eqb-true}
 use Rattle.std.specs.Prelude.{find, IsTrue, if◌then◌else◌}
+use Rattle.std.proofs.lemmas.Option.{same_Some}
 use Rattle.mb_model.specs.declared.key.KeySeed.{KeySeed}
 use Rattle.mb_model.specs.declared.region.Region.{Region}
 use Rattle.mb_model.specs.declared.region.RegionKey.{RegionKey}
@@ -18,13 +19,10 @@ abbrev seed_in : Option RegionKey → Option KeySeed
 seed_in None = None
 seed_in (Some key) = Some key.seed
 
-some_inside : {A : Type 0} (x y : A) → Some x ≡ Some y → x ≡ y
-some_inside x y e = cc
-
 -- two finds that give one seed
 seed_found : (old new : Option RegionKey) (key : RegionKey) → seed_in new ≡ seed_in old → new ≡ Some key → (before : RegionKey) × (old ≡ Some before) × (before.seed ≡ key.seed)
 seed_found None new key same is = absurd (cc)
-seed_found (Some before) new key same is = (before, refl, some_inside before.seed key.seed (sym same ∙ ap seed_in is))
+seed_found (Some before) new key same is = (before, refl, same_Some before.seed key.seed (sym same ∙ ap seed_in is))
 
 -- ---- a region with the seeds that another has
 
@@ -96,6 +94,6 @@ bound_is_keys own L number right seed state at same tree bound = record {
       let here : find (has_number number) (region_of state L).keys ≡ Some key =
       subst (λ (p : ℕ). find (has_number number) (region_of state p).keys ≡ Some key) at
       (subst (λ (n : ℕ). find (has_number n) (region_of state own.place).keys ≡ Some key) same found) in
-      let one : bound.key ≡ key = some_inside bound.key key (sym bound.has_use.found ∙ here) in
+      let one : bound.key ≡ key = same_Some bound.key key (sym bound.has_use.found ∙ here) in
       subst (λ (k : KeySeed). IsTreeOf k own.tree) (bound.seed ∙ ap (λ (k : RegionKey). k.seed) one) tree);
 }

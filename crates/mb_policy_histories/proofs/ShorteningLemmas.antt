@@ -3,6 +3,7 @@ use Rattle.std.proofs.Common.{◌≡◌, ℕ, ◌+◌, List, [], ◌∷◌, ◌+
 use Rattle.std.proofs.lemmas.Bool.{false≢true}
 use Rattle.std.specs.Prelude.{◌&&◌, ◌||◌, not, zero, suc, All, slice_get, if◌then◌else◌}
 use Rattle.std.proofs.lemmas.List.Elements.{All-nil, All-cons, All-head, All-tail}
+use Rattle.std.proofs.lemmas.Option.{same_Some}
 use Rattle.mb_model.specs.declared.entry.Entry.{Entry}
 use Rattle.mb_model.specs.declared.order.KeyKind.{KeyKind}
 use Rattle.mb_model.specs.declared.state.Configuration.{Configuration}
@@ -10,8 +11,7 @@ use Rattle.mb_model.specs.declared.state.Report.{Report}
 use Rattle.mb_model.specs.chains.Acceptance.{KeyEntry, key_of}
 use Rattle.mb_model.specs.owners.Log.{entries_of, RuledLog}
 use Rattle.mb_model_lemmas.proofs.ChainLemmas.{accepted_is_ruled}
-use Rattle.mb_model_lemmas.proofs.Splits.{some_same}
-use Rattle.mb_model_histories.proofs.AcceptanceLemmas.{made_on}
+use Rattle.mb_model_lemmas.proofs.ReaderLemmas.{made_on}
 use Rattle.mb_model_histories.proofs.AgreementLemmas.{shortened_chains_list_less}
 use Rattle.mb_policy.specs.Examples.{allow_rule, deny_rule, small_configuration, small_report}
 use Rattle.mb_policy.specs.Judging.{AllowsFirst, is_same_kind, holds, Ruling, ruling_at}
@@ -85,7 +85,7 @@ shortened_chains_shorten_reports maker root short long n one other accepts accep
     let less = shortened_chains_list_less maker root short long n one other accepts accepts_long front in
     let named : key_of (entries ++ front.0) n ≡ Some accepts.made =
     made_on front.0 entries n accepts.made (subst RuledLog front.1 (accepted_is_ruled root long n other accepts_long)) accepts.named in
-    let same : accepts.made ≡ accepts_long.made = some_same accepts.made accepts_long.made (sym named ∙ ap (λ log. key_of log n) (sym front.1) ∙ accepts_long.named) in
+    let same : accepts.made ≡ accepts_long.made = same_Some accepts.made accepts_long.made (sym named ∙ ap (λ log. key_of log n) (sym front.1) ∙ accepts_long.named) in
     record {
       kind = ap (λ (r : Report). r.kind) accepts.report_is ∙ ap (λ (k : KeyEntry). k.kind) same ∙ ap (λ (r : Report). r.kind) (sym accepts_long.report_is);
       rest = less.0;

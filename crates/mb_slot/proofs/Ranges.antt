@@ -4,6 +4,7 @@ use Rattle.std.proofs.lemmas.List.{ext_get_or, get_or-take, get_or-drop}
 use Rattle.mb_model.specs.outside.Pieces.{part}
 use Rattle.mb_model.specs.outside.Board.{memory_with_bytes}
 use Rattle.mb_model.proofs.Places.{length-part, length-put, take-put_below, drop-put_above, part-put}
+use Rattle.mb_model_memory.proofs.FlashFrames.{part_same}
 use Rattle.mb_board.specs.Calls.{Torn}
 use Rattle.mb_slot.specs.Slots.{IsOutside, IsSameOutside}
 
@@ -52,18 +53,6 @@ put_same at n bytes memory sized within = record {
 -- so it is after a torn write
 pub torn_same : (at n : ℕ) (before after : List ℕ) → at + n ≤ length before → Torn at n before after → IsSameOutside at n before after
 torn_same at n before after within torn = rw torn.whole (put_same at n torn.written before torn.sized within)
-
--- a part whose every byte is the same is the same
-pub part_same : (from n : ℕ) (before after : List ℕ) → length after ≡ length before → from + n ≤ length before
-    → ((offset : ℕ) → from ≤ offset → offset < from + n → get_or after offset 0 ≡ get_or before offset 0) → part from n after ≡ part from n before
-part_same from n before after sized within same =
-    let count : length (part from n after) ≡ n = length-part from n after (omega arith) in
-    ext_get_or 0 (part from n after) (part from n before) (count ∙ sym (length-part from n before within))
-    (λ i less.
-    let short : i < n = omega arith in
-    get_or-take n (drop from after) i 0 short ∙ get_or-drop from after i 0
-    ∙ same (from + i) (omega arith) (omega arith)
-    ∙ sym (get_or-drop from before i 0) ∙ sym (get_or-take n (drop from before) i 0 short))
 
 -- a part apart from the bytes that may differ is the same
 pub apart_same : (from n at count : ℕ) (before after : List ℕ) → IsSameOutside at count before after → from + n ≤ length before → (from + n ≤ at) ⊎ (at + count ≤ from) → part from n after ≡ part from n before

@@ -10,8 +10,9 @@ use Rattle.mb_model.proofs.Places.{part-put}
 use Rattle.mb_board.specs.Reach.{Reached, selector as in_selector, in_first_area as in_first, in_second_area as in_second}
 use Rattle.mb_board.specs.Calls.{Torn}
 use Rattle.mb_model_memory.specs.InForce.{AgreeBesides}
+use Rattle.mb_model_memory.proofs.FlashFrames.{part_same}
 use Rattle.mb_slot.specs.Slots.{is_first_in_force, area_offset, current_offset, other_offset, IsOutside, IsSameOutside, IsSameBut, IsSameButOther, IsAreaAt, AreExchanged}
-use Rattle.mb_slot.proofs.Ranges.{get_or-put_byte, put_same, torn_same, part_same, apart_same}
+use Rattle.mb_slot.proofs.Ranges.{get_or-put_byte, put_same, torn_same, apart_same}
 
 -- ---- where a slot stands
 

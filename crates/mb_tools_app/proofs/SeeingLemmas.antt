@@ -2,6 +2,7 @@
 use Rattle.std.proofs.Common.{◌≡◌, ℕ, ◌==◌, ◌≤◌, ◌⊎◌, List, codes, Bool, true, false, if◌then◌else◌, Option, Some, None, refl, sym, ◌∙◌, ap, subst, inl, inr, arith}
 use mathlib.Core.Path.{fun_ext}
 use Rattle.std.proofs.lemmas.List.{append_cancel_left}
+use Rattle.std.proofs.lemmas.Option.{same_Some}
 use Rattle.mb_format.specs.Format.{IsBytes}
 use Rattle.mb_model.specs.declared.state.State.{State}
 use Rattle.mb_model.specs.declared.region.Secret.{Secret}
@@ -115,12 +116,9 @@ is_told names state input past e well complete (inr (inr wants)) = absurd (never
 
 -- ---- equal lines
 
-some_same : (x y : List ℕ) → Some x ≡ Some y → x ≡ y
-some_same x y e = cc
-
 line_shown : (line text : List ℕ) (status : ℕ) (e : Ended) → TellsLine line status e → ShowsPrinted e text → text ≡ line_with_lf line
 line_shown line text status e tells shows =
-    append_cancel_left shows.shown text (line_with_lf line) (some_same _ _ (sym shows.after ∙ tells.prints.adds shows.shown shows.before))
+    append_cancel_left shows.shown text (line_with_lf line) (same_Some _ _ (sym shows.after ∙ tells.prints.adds shows.shown shows.before))
 
 shown_same : (first second : List ℕ) (m n : ℕ) (e f : Ended) (text line : List ℕ) → first ≡ second → m ≡ n → TellsLine first m e → TellsLine second n f
     → ShowsPrinted e text → ShowsPrinted f line → (text ≡ line) × (e.status ≡ f.status)
@@ -132,7 +130,7 @@ endings_same : (layer : ℕ) (a b : State) (input : List ℕ) (steps : ℕ) (fir
     → first ≡ second
 endings_same layer a b input steps first second agree are is other =
     let also = runs_same layer a b input steps first agree is in
-    let code : other.code ≡ also.code = some_same _ _ (sym other.stored ∙ also.stored) in
+    let code : other.code ≡ also.code = same_Some _ _ (sym other.stored ∙ also.stored) in
     let run = subst (λ (c : List ℕ). AppRun c input (readable_secrets b.layers layer b.two b.three) steps second) code other.run in
     runs_end_once also.code input (readable_secrets b.layers layer b.two b.three) steps first second (are also.code (agree.code ∙ also.stored)) also.run run
 

@@ -50,9 +50,6 @@ abbrev pub Alike : Command → Command → Type 0
 Alike one other = (past : Past) (files : Files) (printed : List ℕ) (e f : Ended)
     → Goes one past files printed e → Goes other past files printed f → AreSame e f
 
-some_same : {A : Type 0} (x y : A) → Some x ≡ Some y → x ≡ y
-some_same x y e = cc
-
 -- the file that was read is the one that is shown
 pub held_is : (outside : Outside) (files : Files) (printed name bytes : List ℕ) → ShowsAll outside files printed → HasRead outside name bytes → files name ≡ Some bytes
 held_is outside files printed name bytes shown has = has.held files shown.files_are

@@ -1,6 +1,7 @@
 -- Two ends of a command that serves no device are alike: the commands above the model.
 use Rattle.std.proofs.Common.{◌≡◌, ℕ, ◌==◌, if◌then◌else◌, Bool, true, false, List, Option, None, Some, refl, sym, ◌∙◌, ap, subst}
 use Rattle.std.specs.List.{AllByRecursion}
+use Rattle.std.proofs.lemmas.Option.{same_Some}
 use Rattle.mb_format.specs.Format.{IsBytes}
 use Rattle.mb_format.proofs.Whole.{IsClearWhole-from_exact}
 use Rattle.mb_model.specs.declared.key.PublicKey.{PublicKey}
@@ -118,13 +119,10 @@ layer_bytes codes layer code are is = by (layer == 2) refl
     by true at = are.two code (sym (ap (λ (c : Bool). if c then codes.two else codes.three) at) ∙ is)
     by false at = are.three code (sym (ap (λ (c : Bool). if c then codes.two else codes.three) at) ∙ is)
 
-some_code : (a b : List ℕ) → Some a ≡ Some b → a ≡ b
-some_code a b same = cc
-
 one_ending : (state : State) (layer : ℕ) (input : List ℕ) (steps : ℕ) (a b : AppEnd) → AreCodesBytes state.codes → RunsStoredCode state layer input steps a → RunsStoredCode state layer input steps b
     → a ≡ b
 one_ending state layer input steps a b are one other =
-    let same : other.code ≡ one.code = some_code other.code one.code (sym other.stored ∙ one.stored) in
+    let same : other.code ≡ one.code = same_Some other.code one.code (sym other.stored ∙ one.stored) in
     let run = subst (λ (c : List ℕ). AppRun c input (readable_secrets state.layers layer state.two state.three) steps b) same other.run in
     runs_end_once one.code input (readable_secrets state.layers layer state.two state.three) steps a b (layer_bytes state.codes layer one.code are one.stored) one.run run
 

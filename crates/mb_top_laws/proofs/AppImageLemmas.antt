@@ -2,6 +2,7 @@
 use Rattle.std.proofs.Common.{◌≡◌, ◌≢◌, ◌≤◌, ◌⊎◌, ℕ, List, [], ◌∷◌, ◌++◌, codes, length, inl, inr, Option, None, Some, Bool, true, false, refl, sym, ap, ◌∙◌, subst, arith, length-append, if◌then◌else◌}
 use Rattle.std.specs.Prelude.{◌==◌, find}
 use Rattle.std.proofs.lemmas.List.{append_cancel_left}
+use Rattle.std.proofs.lemmas.Option.{same_Some}
 use Rattle.mb_format.specs.Combinators.{number_bytes}
 use Rattle.mb_format.specs.Format.{IsBytes}
 use Rattle.mb_model.specs.declared.region.Secret.{Secret}
@@ -15,7 +16,6 @@ use Rattle.mb_model_commands.specs.Commands.{Input, Past, Ended, end_seen_from, 
 use Rattle.mb_model_commands.specs.Inputs.{image_input}
 use Rattle.mb_model_commands.specs.Outside.{Outside, HasRisen, read_once, FailsToRead, by_fault, by_absence, Prints, FailsToPrint}
 use Rattle.mb_model_lemmas.proofs.FaultLemmas.{well_formed_has_no_fault, well_formed_stands_for_one}
-use Rattle.mb_model_lemmas.proofs.Splits.{some_same}
 use Rattle.mb_console.proofs.Completing.{raised_rises}
 use Rattle.mb_appvm.specs.declared.running.AppEnd.{AppEnd}
 use Rattle.mb_appvm.specs.declared.running.AppEnd.TheVariants as app_end
@@ -83,12 +83,12 @@ module _ (now : Files) where
       → FailsToRead name (with_files now before) (with_files now after)
   unread_over name before after files told same (by_fault is) = by_fault (ap (with_files now) is)
   unread_over name before after files told same (by_absence none is) =
-      by_absence (λ shown are. ap (λ (f : List ℕ → Option (List ℕ)). f name) (sym (some_same now shown are)) ∙ same ∙ none files told) (ap (with_files now) is)
+      by_absence (λ shown are. ap (λ (f : List ℕ → Option (List ℕ)). f name) (sym (same_Some now shown are)) ∙ same ∙ none files told) (ap (with_files now) is)
 
   has_over : (name bytes : List ℕ) (before : Outside) (files : List ℕ → Option (List ℕ)) → before.files ≡ Some files → now name ≡ files name → HasRead before name bytes
       → HasRead (with_files now before) name bytes
   has_over name bytes before files told same has = record {
-    held = λ shown are. ap (λ (f : List ℕ → Option (List ℕ)). f name) (sym (some_same now shown are)) ∙ same ∙ has.held files told;
+    held = λ shown are. ap (λ (f : List ℕ → Option (List ℕ)). f name) (sym (same_Some now shown are)) ∙ same ∙ has.held files told;
     are_bytes = has.are_bytes;
     fits = has.fits;
   }
@@ -117,7 +117,7 @@ module _ (now : Files) where
       → InputEnds (app_input name) past (over_files now e)
   input_over name past e files told same (input_is_too_long held stops) =
       let found = held files told in
-      input_is_too_long (λ shown are. (found.0, ap (λ (f : List ℕ → Option (List ℕ)). f name) (sym (some_same now shown are)) ∙ same ∙ found.1, found.2)) (stops_over _ 3 past (once e) stops)
+      input_is_too_long (λ shown are. (found.0, ap (λ (f : List ℕ → Option (List ℕ)). f name) (sym (same_Some now shown are)) ∙ same ∙ found.1, found.2)) (stops_over _ 3 past (once e) stops)
   input_over name past e files told same (input_is_faulty bytes has place fault stops) = absurd fault
   input_over name past e files told same (input_is_not_read mid fails stops) =
       input_is_not_read (with_files now mid) (unread_over name e.before mid files told same fails) (stops_over _ 4 past (end_seen_from mid e) stops)
@@ -137,20 +137,20 @@ module _ (now : Files) where
     unfolding app CommandEnds
     image_over past e image twin told holds formed also (inl (input_is_too_long held stops)) =
         let found = held files told in
-        let equal : found.0 ≡ image = some_same found.0 image (sym found.1 ∙ holds.image_held) in
+        let equal : found.0 ≡ image = same_Some found.0 image (sym found.1 ∙ holds.image_held) in
         absurd (omega (arith, ap length equal, formed_short image one formed, found.2))
     image_over past e image twin told holds formed also (inl (input_is_faulty bytes has place fault stops)) =
-        let equal : bytes ≡ image = some_same bytes image (sym (has.held files told) ∙ holds.image_held) in
+        let equal : bytes ≡ image = same_Some bytes image (sym (has.held files told) ∙ holds.image_held) in
         absurd (well_formed_has_no_fault image one fault.0 (subst IsBytes equal has.are_bytes) formed (subst (λ b. HasFault b fault.0) equal fault.2))
     image_over past e image twin told holds formed also (inl (input_is_not_read mid (by_fault is) stops)) =
         inl (input_is_not_read (with_files now mid) (by_fault (ap (with_files now) is)) (stops_over _ 4 past (end_seen_from mid e) stops))
     image_over past e image twin told holds formed also (inl (input_is_not_read mid (by_absence none is) stops)) = absurd (grind (arith, sym holds.image_held ∙ none files told))
     image_over past e image twin told holds formed also (inl (memory_lacks wants)) = inl (memory_lacks (wants_over past (once e) wants))
     image_over past e image twin told holds formed also (inr (bytes, has, (value, is, ends))) =
-        let equal : bytes ≡ image = some_same bytes image (sym (has.held files told) ∙ holds.image_held) in
+        let equal : bytes ≡ image = same_Some bytes image (sym (has.held files told) ∙ holds.image_held) in
         let state : value.state ≡ one = well_formed_stands_for_one image value.state one (subst IsBytes equal has.are_bytes) (subst (λ b. IsWellFormed b value.state) equal is.1) formed in
         let read : HasRead (with_files now e.before) names.image twin = record {
-          held = λ shown are. ap (λ (f : List ℕ → Option (List ℕ)). f names.image) (sym (some_same now shown are)) ∙ holds.other_held;
+          held = λ shown are. ap (λ (f : List ℕ → Option (List ℕ)). f names.image) (sym (same_Some now shown are)) ∙ holds.other_held;
           are_bytes = holds.are_bytes;
           fits = formed_short twin other also;
         } in
@@ -232,7 +232,7 @@ unfolding app CommandEnds
 reaches names files image state past e told holds formed complete (inl ends) = absurd (never_unread (image_input names.image) past e complete ends)
 reaches names files image state past e told holds formed complete (inr (bytes, has, (value, is, inl ends))) = absurd (never_unread (app_input names.input) past (once e) complete ends)
 reaches names files image state past e told holds formed complete (inr (bytes, has, (value, is, inr (found, read, (input, whole, ends))))) =
-    let equal : bytes ≡ image = some_same bytes image (sym (has.held files told) ∙ holds) in
+    let equal : bytes ≡ image = same_Some bytes image (sym (has.held files told) ∙ holds) in
     let are : IsBytes image = subst IsBytes equal has.are_bytes in
     let means : value.state ≡ state = well_formed_stands_for_one image value.state state are (subst (λ b. IsWellFormed b value.state) equal is.1) formed in
     record {
@@ -253,7 +253,7 @@ shown_later e text shows = record {
 
 printed_text : (text line : List ℕ) (e : Ended) → ShowsPrinted e text → Prints line e.before e.after → text ≡ line
 printed_text text line e shows prints =
-    append_cancel_left shows.shown text line (some_same (shows.shown ++ text) (shows.shown ++ line) (sym shows.after ∙ prints.adds shows.shown shows.before))
+    append_cancel_left shows.shown text line (same_Some (shows.shown ++ text) (shows.shown ++ line) (sym shows.after ∙ prints.adds shows.shown shows.before))
 
 refused_text : (text line : List ℕ) (status : ℕ) (past : Past) (e : Ended) → ShowsPrinted e text → Stops line status past e → text ≡ line_with_lf line
 refused_text text line status past e shows stops = by stops.says
@@ -278,7 +278,7 @@ images_alike_have_equal_lines names past other_past e f files now image other te
 images_alike_have_equal_lines names past other_past e f files now image other text line told also holds (live_alike state twin formed formed_also agree) ends shows ends_also shows_also =
     let one = reaches names files image (Some state) past e told holds.image_held formed shows.complete ends in
     let two = reaches names now other (Some twin) other_past f also holds.other_held formed_also shows_also.complete ends_also in
-    let same : two.input ≡ one.input = some_same two.input one.input (sym two.held ∙ holds.input ∙ one.held) in
+    let same : two.input ≡ one.input = same_Some two.input one.input (sym two.held ∙ holds.input ∙ one.held) in
     app_sees_nothing_else.equal_lines names state twin one.input past other_past (once (once e)) (once (once f)) text line agree
     (λ code stored. stored_bytes image state names.layer code one.are_bytes formed stored) one.ends (shown_later e text shows)
     (subst (λ (i : List ℕ). CommandEnds (run_stored_code names (Some twin) i) other_past (once (once f))) same two.ends) (shown_later f line shows_also)
@@ -398,7 +398,7 @@ one_end : (image value input : List ℕ) (state : State) (ending told : AppEnd) 
     → AppRun copying_code input (readable_secrets state.layers 2 state.two state.three) 4 ending → RunsStoredCode state 2 input 4 told → told ≡ ending
 one_end image value input state ending told has are run is =
     let seen : ℕ → Option (List Secret) = readable_secrets state.layers 2 state.two state.three in
-    let code : is.code ≡ copying_code = some_same is.code copying_code (sym is.stored ∙ has.code) in
+    let code : is.code ≡ copying_code = same_Some is.code copying_code (sym is.stored ∙ has.code) in
     runs_end_once copying_code input seen 4 told ending (stored_bytes image state 2 copying_code are has.formed has.code)
     (subst (λ (c : List ℕ). AppRun c input seen 4 told) code is.run) run
 

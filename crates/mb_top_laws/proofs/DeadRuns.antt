@@ -4,6 +4,7 @@ use Rattle.std.specs.Prelude.{All, codes, ◌==◌}
 use Rattle.std.proofs.lemmas.Bool.{and_parts}
 use Rattle.std.proofs.lemmas.List.{append_cancel_left, length-replicate}
 use Rattle.std.proofs.lemmas.List.Elements.{All-nil, All-cons, All-head, All-replicate}
+use Rattle.std.proofs.lemmas.Option.{same_Some}
 use Rattle.mb_format.specs.Format.{IsBytes}
 use Rattle.mb_format.specs.Combinators.{same_bytes}
 use Rattle.mb_format.proofs.Fields.{same_bytes-refl, same_bytes-true}
@@ -226,9 +227,6 @@ module _ (script printed : List ℕ) (this : Event) (answer : Reply) (byte : ℕ
     found = λ same. omega (arith, same);
   }
 
-some_text : (x y : List ℕ) → Some x ≡ Some y → x ≡ y
-some_text x y same = cc
-
 own_one : (this : Event) (answer : Reply) → HasOwnAnswer (record { event = this; reply = answer }) → All HasOwnAnswer (told this answer)
 own_one this answer own = All-cons HasOwnAnswer (record { event = this; reply = answer }) [] own (All-nil HasOwnAnswer)
 
@@ -280,7 +278,7 @@ lacking_runs_differ printed = record {
   own = own_one event.Status (refusal_reply PoweredOff) (record { found = λ is. absurd (cc); held = λ is. absurd (cc) });
   differ = λ same.
       let texts : replies_text (told event.Status (refusal_reply PoweredOff)) ≡ replies_text (told event.Status reply.NoMemory) =
-      append_cancel_left printed _ _ (some_text _ _ same) in
+      append_cancel_left printed _ _ (same_Some _ _ same) in
       omega (arith, ap (λ (t : List ℕ). get_or t 0 0) texts);
 }
 
@@ -360,6 +358,6 @@ images_may_differ printed = record {
   also = own_tamper;
   differ = λ same.
       let files = some_files (files_with (codes "image") (image_of (memory_of 255)) (dead_files (codes "tamper\n"))) (files_with (codes "image") (image_of (memory_of 0)) (dead_files (codes "tamper\n"))) same in
-      images_apart (some_text _ _ (sym (written_here (codes "image") (image_of (memory_of 255)) (dead_files (codes "tamper\n")))
+      images_apart (same_Some _ _ (sym (written_here (codes "image") (image_of (memory_of 255)) (dead_files (codes "tamper\n")))
       ∙ ap (λ (f : Files). f (codes "image")) files ∙ written_here (codes "image") (image_of (memory_of 0)) (dead_files (codes "tamper\n"))));
 }

@@ -6,6 +6,7 @@ use Rattle.mb_format.specs.Combinators.{number_bytes}
 use Rattle.mb_format.proofs.Exact.{IsBytes-spelled}
 use Rattle.std.proofs.lemmas.List.Elements.{All-nil, All-cons, All-weaker}
 use Rattle.std.proofs.lemmas.List.Kept.{AllPairs-cons}
+use Rattle.std.proofs.lemmas.Option.{same_Some}
 use Rattle.mb_format.proofs.Bounds as bounds
 use Rattle.mb_format.proofs.Fields.{wide8, wide32, wide64}
 use Rattle.mb_model.proofs.FormatBounds.{public_key_short}
@@ -28,7 +29,6 @@ use Rattle.mb_model_commands.specs.Inputs.{binary_input, root_input}
 use Rattle.mb_model_commands.specs.Outside.{Outside, read_once, by_fault, by_absence, WritesFile, Adds, HasRisen, count_after_call}
 use Rattle.mb_model_commands.specs.Sign.{index_text}
 use Rattle.mb_console.proofs.Completing.{raised_rises, command_completes}
-use Rattle.mb_model_lemmas.proofs.Splits.{some_same}
 use Rattle.mb_hss.specs.declared.key.HssKey.{HssKey}
 use Rattle.mb_hss.specs.declared.maker.Maker.{Maker}
 use Rattle.mb_hss.specs.ExactFormats.{hss_key_exact, maker_exact}
@@ -61,14 +61,14 @@ ButFor name before after = (other : List ℕ) → other ≢ name → after other
 
 same_files : (before after : Files) (o p : Option Files) → o ≡ Some before → p ≡ Some after → p ≡ o → (name : List ℕ) → after name ≡ before name
 same_files before after o p is_before is_after same name =
-    let equal : after ≡ before = some_same after before (sym is_after ∙ same ∙ is_before) in
+    let equal : after ≡ before = same_Some after before (sym is_after ∙ same ∙ is_before) in
     ap (λ (f : Files). f name) equal
 
 -- a file that is read spells the value that it holds
 one_value : {A : Type 0} (format : Format A) → IsExact format → (name found : List ℕ) (value read_value : A) (outside : Outside) (files : Files) → outside.files ≡ Some files
     → HoldsValue format files name value → HasRead outside name found → Spells format found read_value → read_value ≡ value
 one_value format exact name found value read_value outside files is holds has spelled =
-    let same : found ≡ holds.0 = some_same found holds.0 (sym (has.held files is) ∙ holds.1) in
+    let same : found ≡ holds.0 = same_Some found holds.0 (sym (has.held files is) ∙ holds.1) in
     (IsClearWhole-from_exact exact).one_value found read_value value has.are_bytes spelled (subst (λ b. Spells format b value) (sym same) holds.3)
 
 -- ---- a number is used
@@ -80,12 +80,12 @@ out_left : (name text bytes : List ℕ) (role_of : Role) (between after : Files)
 unfolding CommandEnds
 out_left name text bytes role_of between after ending is_between is_after (inl ends) =
     let kept = ends.fails.others between is_between in
-    let same : after ≡ kept.0 = some_same after kept.0 (sym is_after ∙ stopped_files _ 5 _ (end_seen_from ends.mid ending) ends.stops ∙ kept.1) in
+    let same : after ≡ kept.0 = same_Some after kept.0 (sym is_after ∙ stopped_files _ 5 _ (end_seen_from ends.mid ending) ends.stops ∙ kept.1) in
     (λ other apart. ap (λ (f : Files). f other) same ∙ kept.2 other apart, inr ends.stops.status_is)
 out_left name text bytes role_of between after ending is_between is_after (inr (inl (mid, writes, rest))) =
     let kept = writes.others between is_between in
     let printed : ending.after.files ≡ mid.files = printed_files text (record at_first { wrote = true }) (end_seen_from mid ending) refl rest in
-    let same : after ≡ kept.0 = some_same after kept.0 (sym is_after ∙ printed ∙ kept.1) in
+    let same : after ≡ kept.0 = same_Some after kept.0 (sym is_after ∙ printed ∙ kept.1) in
     (λ other apart. ap (λ (f : Files). f other) same ∙ kept.2 other apart, inl (ap (λ (f : Files). f name) same ∙ writes.holds kept.0 kept.1))
 out_left name text bytes role_of between after ending is_between is_after (inr (inr wants)) = absurd (true≢false wants.first)
 
@@ -143,7 +143,7 @@ module _ (names : EndorseNames) (maker : Maker) (allowed : maker_format.Allowed 
   unfolding CommandEnds use_number
   number_left root ending held left is_before is_after (inl ends) =
       let kept = ends.fails.others before is_before in
-      let same : after ≡ kept.0 = some_same after kept.0 (sym is_after ∙ stopped_files _ 5 at_first (end_seen_from ends.mid ending) ends.stops ∙ kept.1) in
+      let same : after ≡ kept.0 = same_Some after kept.0 (sym is_after ∙ stopped_files _ 5 at_first (end_seen_from ends.mid ending) ends.stops ∙ kept.1) in
       fails_to_write_key (λ name other. ap (λ (f : Files). f name) same ∙ kept.2 name other) ends.stops.status_is
   number_left root ending held left is_before is_after (inr (inr wants)) =
       undone names maker before after ending is_before is_after (stops_undone _ 6 at_first ending (omega arith) wants.stops)
@@ -243,7 +243,7 @@ module _ (key : List ℕ) (call : EndorseCall) (is : IsCallOn key call) where
   -- two makers that one file holds
   one_held : (files : Files) (one other : Maker) → HoldsValue maker_format files key one → HoldsValue maker_format files key other → one ≡ other
   one_held files one other first second =
-      let same : second.0 ≡ first.0 = some_same second.0 first.0 (sym second.1 ∙ first.1) in
+      let same : second.0 ≡ first.0 = same_Some second.0 first.0 (sym second.1 ∙ first.1) in
       (IsClearWhole-from_exact maker_exact).one_value first.0 one other first.2 first.3 (subst (λ b. Spells maker_format b other) same second.3)
 
   left_used : HoldsValue maker_format call.after call.names.key (number_used call.found) → call.left ≡ number_used call.found
@@ -318,9 +318,9 @@ is_written : (name bytes : List ℕ) (files : Files) (outside : Outside) → out
 is_written name bytes files outside is = record {
   stays = refl;
   others = λ now shown.
-      let same : files ≡ now = some_same files now (sym is ∙ shown) in
+      let same : files ≡ now = same_Some files now (sym is ∙ shown) in
       (put name bytes files, refl, λ other apart. put_beside name bytes files other apart ∙ ap (λ (f : Files). f other) same);
-  holds = λ now shown. ap (λ (f : Files). f name) (sym (some_same (put name bytes files) now shown)) ∙ put_here name bytes files;
+  holds = λ now shown. ap (λ (f : Files). f name) (sym (same_Some (put name bytes files) now shown)) ∙ put_here name bytes files;
 }
 
 maker_short : IsShort maker_format 45
@@ -334,7 +334,7 @@ hss_key_short = bounds.as_record_short _ _ (bounds.pair_short (bounds.between_sh
 held_read : {A : Type 0} (format : Format A) (n : ℕ) → IsShort format n → n ≤ 4194304 → (name : List ℕ) (value : A) (outside : Outside) (files : Files) → outside.files ≡ Some files
     → (holds : HoldsValue format files name value) → HasRead outside name holds.0
 held_read format n short few name value outside files is holds = record {
-  held = λ now shown. ap (λ (f : Files). f name) (sym (some_same files now (sym is ∙ shown))) ∙ holds.1;
+  held = λ now shown. ap (λ (f : Files). f name) (sym (same_Some files now (sym is ∙ shown))) ∙ holds.1;
   are_bytes = holds.2;
   fits = omega (arith, ap length holds.3.whole, short.short value holds.3.allowed, few);
 }
@@ -457,10 +457,10 @@ read_goes input rest past e files bytes told has fits faultless well (inr ends) 
 read_goes input rest past e files bytes told has fits faultless well (inl (memory_lacks wants)) = inl wants.stops.status_is
 read_goes input rest past e files bytes told has fits faultless well (inl (input_is_too_long held stops)) =
     let found = held files told in
-    let same : found.0 ≡ bytes = some_same found.0 bytes (sym found.1 ∙ has) in
+    let same : found.0 ≡ bytes = same_Some found.0 bytes (sym found.1 ∙ has) in
     absurd (omega (arith, ap length same, fits, found.2))
 read_goes input rest past e files bytes told has fits faultless well (inl (input_is_faulty other had place fault stops)) =
-    let same : other ≡ bytes = some_same other bytes (sym (had.held files told) ∙ has) in
+    let same : other ≡ bytes = same_Some other bytes (sym (had.held files told) ∙ has) in
     absurd (faultless place (subst IsBytes same had.are_bytes) (subst (λ b. input.FaultyAt b place) same fault))
 read_goes input rest past e files bytes told has fits faultless well (inl (input_is_not_read mid (by_fault is) stops)) =
     let reads : e.after.read_faults ≡ count_after_call e.before.read_faults = said_reads (codes "read failed " ++ role_word input.role) mid e.after stops.says ∙ ap (λ (o : Outside). o.read_faults) is in
@@ -496,7 +496,7 @@ module _ (key : HssKey) (root : PublicKey) (endorsement : List ℕ) (short : len
       elim (read_goes (endorsement_input names.endorsement) (judge_endorsement key root) past e is.files endorsement told is.endorsement_held short (λ place are fault. fault) well ends) [
         | inl lacks ↦ inl lacks
         | inr goes ↦
-            let same : goes.2.0 ≡ endorsement = goes.2.1 ∙ some_same goes.0 endorsement (sym (goes.1.held is.files told) ∙ is.endorsement_held) in
+            let same : goes.2.0 ≡ endorsement = goes.2.1 ∙ same_Some goes.0 endorsement (sym (goes.1.held is.files told) ∙ is.endorsement_held) in
             inr (subst (λ (b : List ℕ). CommandEnds (judge_endorsement key root b) past (once e)) same goes.2.2)
       ]
 

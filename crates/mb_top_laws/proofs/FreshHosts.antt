@@ -1,5 +1,6 @@
 -- What a host shows that has not been called, and after calls that do not fail.
 use Rattle.std.proofs.Common.{◌≡◌, ◌≢◌, ℕ, ◌≤◌, List, [], ◌++◌, length, Some, refl, sym, ◌∙◌, ap, inl, inr, arith, lit≤}
+use Rattle.std.proofs.lemmas.Option.{same_Some}
 use Rattle.mb_format.specs.Format.{IsBytes}
 use Rattle.mb_model_commands.specs.Outside.{Outside, HasRisen, count_after_call, WritesFile, Prints}
 use Rattle.mb_model_commands.specs.Commands.{HasRead}
@@ -17,26 +18,23 @@ after_print now before = record before { printed = Some now; prints = count_afte
 abbrev pub after_write : Files → Outside → Outside
 after_write files before = record before { files = Some files; writes = count_after_call before.writes }
 
-some_same : {A : Type 0} (x y : A) → Some x ≡ Some y → x ≡ y
-some_same x y e = cc
-
 pub printed_so : (text printed : List ℕ) (before : Outside) → before.printed ≡ Some printed → Prints text before (after_print (printed ++ text) before)
 printed_so text printed before is = record {
   stays = refl;
-  adds = λ shown told. ap (λ (p : List ℕ). Some (p ++ text)) (some_same printed shown (sym is ∙ told));
+  adds = λ shown told. ap (λ (p : List ℕ). Some (p ++ text)) (same_Some printed shown (sym is ∙ told));
 }
 
 pub written_so : (name bytes : List ℕ) (files now : Files) (before : Outside) → before.files ≡ Some files → now name ≡ Some bytes → ((other : List ℕ) → other ≢ name → now other ≡ files other)
     → WritesFile name bytes before (after_write now before)
 written_so name bytes files now before is holds others = record {
   stays = refl;
-  others = λ shown told. (now, refl, λ other differs. others other differs ∙ ap (λ (f : Files). f other) (some_same files shown (sym is ∙ told)));
-  holds = λ shown told. ap (λ (f : Files). f name) (sym (some_same now shown told)) ∙ holds;
+  others = λ shown told. (now, refl, λ other differs. others other differs ∙ ap (λ (f : Files). f other) (same_Some files shown (sym is ∙ told)));
+  holds = λ shown told. ap (λ (f : Files). f name) (sym (same_Some now shown told)) ∙ holds;
 }
 
 pub has_read : (name bytes : List ℕ) (files : Files) (outside : Outside) → outside.files ≡ Some files → files name ≡ Some bytes → IsBytes bytes → length bytes ≤ 4194304 → HasRead outside name bytes
 has_read name bytes files outside is at are fits = record {
-  held = λ shown told. ap (λ (f : Files). f name) (sym (some_same files shown (sym is ∙ told))) ∙ at;
+  held = λ shown told. ap (λ (f : Files). f name) (sym (same_Some files shown (sym is ∙ told))) ∙ at;
   are_bytes = are;
   fits = fits;
 }
