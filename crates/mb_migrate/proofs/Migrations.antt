@@ -1,24 +1,21 @@
 -- An image of either form has one state, and what is written for that state means it.
-use Rattle.std.proofs.Common.{◌≡◌, ℕ, List, inl, inr, Option, None, Some, sym, ap, subst, ◌∙◌, true≢false}
+use Rattle.std.proofs.Common.{◌≡◌, ℕ, List, inl, inr, Option, None, Some, sym, ap, ◌∙◌, true≢false}
 use Rattle.std.specs.Prelude.{◌⊎◌, IfSome}
 use Rattle.std.specs.Option.{IsSome}
 use Rattle.mb_format.specs.Format.{IsBytes}
 use Rattle.mb_model.specs.declared.state.State.{State}
-use Rattle.mb_model.specs.memories.Valid.{Valid}
 use Rattle.mb_model.specs.memories.Flash.{HoldsPublic}
 use Rattle.mb_model.specs.memories.OldFlash.{HeldPublic, WasWellFormed}
 use Rattle.mb_model.specs.memories.Meaning.{FlashForm, IsWellFormedBy, IsWellFormed}
 use Rattle.mb_model.specs.memories.Faults.{Fault, HasFaultBy, HasFault}
 use Rattle.mb_model.specs.memories.WrittenImage.{written_image, FitsImage}
 use Rattle.mb_model.specs.memories.Migration.{IsMigrated, from_present, from_before, CannotMigrate, MeansTheSame}
-use Rattle.mb_model_lemmas.specs.FormLaws.{HoldsOnePublic, HoldsFittingParts}
+use Rattle.mb_model_lemmas.specs.FormLaws.{HoldsOnePublic}
 use Rattle.mb_model_lemmas.proofs.OneFlash.{one_list}
 use Rattle.mb_model_lemmas.proofs.HeldSegments.{segments_parts_fit}
 use Rattle.mb_model_lemmas.proofs.OldFlashLemmas.{old_holds_one, old_parts_fit}
 use Rattle.mb_model_lemmas.proofs.FaultLemmas.{no_fault_by, one_state_by}
-use Rattle.mb_model_lemmas.proofs.WrittenImages.{written_is_well_formed}
-use Rattle.mb_model_memory.proofs.StorableMemories.{stands_storable_by}
-use Rattle.mb_model_memory.proofs.StorableRecords.{image_fits}
+use Rattle.mb_model_memory.proofs.StorableMemories.{fits_by, written_formed_by}
 use Rattle.mb_image.specs.declared.image.ImageEnd.{ImageEnd}
 use Rattle.mb_image.specs.Ends.{fault_of}
 use Rattle.mb_migrate.specs.MigrationLaws.{MigratesToOne, MigrationKeepsState, MigratedStaysSo, MigratesOrCannot}
@@ -45,24 +42,14 @@ cannot_migrate image ended other faulty also = cannot_by image (fault_of ended) 
 
 -- ---- the state of an image, by either form
 
--- the state can be written
-fits_by : (Form : FlashForm) → HoldsFittingParts Form → (image : List ℕ) (state : Option State) → IsWellFormedBy Form image state → IfSome state FitsImage
-fits_by Form fits image None formed = tt
-fits_by Form fits image (Some state) formed =
-    image_fits state formed.valid (stands_storable_by Form fits formed.flash formed.bbram state formed.stands formed.valid)
-
 pub either_fits : (image : List ℕ) (state : Option State) → StandsByEither image state → IfSome state FitsImage
 either_fits image state (by_present formed) = fits_by HoldsPublic segments_parts_fit image state formed
 either_fits image state (by_before none formed) = fits_by HeldPublic old_parts_fit image state formed
 
-either_valid : (image : List ℕ) (state : Option State) → StandsByEither image state → Valid state
-either_valid image state (by_present formed) = formed.valid
-either_valid image state (by_before none formed) = formed.valid
-
 -- what is written for it is well formed for it
 written_formed : (image out : List ℕ) (state : Option State) → StandsByEither image state → out ≡ written_image state → IsWellFormed out state
-written_formed image out state stands written =
-    subst (λ (o : List ℕ). IsWellFormed o state) (sym written) (written_is_well_formed state (either_fits image state stands) (either_valid image state stands))
+written_formed image out state (by_present formed) written = written_formed_by HoldsPublic segments_parts_fit image out state formed written
+written_formed image out state (by_before none formed) written = written_formed_by HeldPublic old_parts_fit image out state formed written
 
 -- and there is one
 one_either : (image : List ℕ) (a b : Option State) → IsBytes image → StandsByEither image a → StandsByEither image b → a ≡ b

@@ -1,9 +1,8 @@
 -- The image that a run leaves is read again, as it is or after a migration, for the state in which the run ended.
-use Rattle.std.proofs.Common.{◌≡◌, ◌<◌, ℕ, List, [], ◌∷◌, ◌++◌, length, inl, inr, Option, None, Some, refl, sym, ap, ◌∙◌, subst}
-use Rattle.std.specs.Prelude.{map, IfSome}
-use Rattle.std.proofs.lemmas.Bool.{cases_lt}
-use Rattle.std.proofs.lemmas.List.{get_or_append_left, get_or-append_right}
+use Rattle.std.proofs.Common.{◌≡◌, ℕ, List, [], ◌∷◌, inl, inr, Option, refl, sym, ap, ◌∙◌, subst}
+use Rattle.std.specs.Prelude.{map}
 use Rattle.mb_format.specs.Format.{IsBytes}
+use Rattle.mb_format.proofs.Exact.{IsBytes-append}
 use Rattle.mb_model.specs.declared.event.Answered.{Answered}
 use Rattle.mb_model.specs.declared.event.Event.{Event}
 use Rattle.mb_model.specs.declared.state.State.{State}
@@ -13,14 +12,12 @@ use Rattle.mb_model.specs.machine.Machine.{opening_world}
 use Rattle.mb_model.specs.memories.Meaning.{IsWellFormed}
 use Rattle.mb_model.specs.memories.Migration.{IsMigrated, from_present, from_before}
 use Rattle.mb_model.specs.machine.Runs.{IsSoundWorld}
-use Rattle.mb_model.specs.memories.WrittenImage.{written_image, FitsImage}
+use Rattle.mb_model.specs.memories.WrittenImage.{written_image}
 use Rattle.mb_model_commands.specs.Inputs.{Image}
 use Rattle.mb_model_commands.specs.RunCommand.{IsServed}
 use Rattle.mb_model_lemmas.proofs.FaultLemmas.{well_formed_stands_for_one}
 use Rattle.mb_model_lemmas.proofs.HeldSegments.{segments_parts_fit}
-use Rattle.mb_model_lemmas.proofs.WrittenImages.{written_is_well_formed}
-use Rattle.mb_model_memory.proofs.StorableMemories.{stands_storable_by}
-use Rattle.mb_model_memory.proofs.StorableRecords.{image_fits}
+use Rattle.mb_model_memory.proofs.StorableMemories.{written_formed_by}
 use Rattle.mb_model_histories.specs.HistoryLaws.{ServedImagesAreRead, Turn, IsNextImage, TurnsAreHistories}
 use Rattle.mb_model_histories.specs.Histories.{History}
 use Rattle.mb_model_histories.proofs.BornLemmas.{at_last}
@@ -34,28 +31,15 @@ served_images_are_read image events answered final served = record {
   valid = (at_last IsSoundWorld (opening_world image.state) served.last answered served.run served.sound.sound).valid;
 }
 
-bytes_on : (front back : List ℕ) → IsBytes front → IsBytes back → IsBytes (front ++ back)
-bytes_on front back first second i =
-    elim (cases_lt i (length front)) [
-      | inl within ↦ subst (λ n. n < 256) (sym (get_or_append_left front back 0 i within)) (first i)
-      | inr past ↦ subst (λ n. n < 256) (sym (get_or-append_right front back (length front) i 0 refl past)) (second _)
-    ]
-
 served_bytes : (image : Image) (events : List Event) (answered : List Answered) (final : Held) → IsServed image events answered final → IsBytes (image_of final.memory)
-served_bytes image events answered final served = bytes_on final.memory.flash final.memory.bbram served.bytes.flash served.bytes.bbram
+served_bytes image events answered final served = IsBytes-append final.memory.flash final.memory.bbram served.bytes.flash served.bytes.bbram
 
 -- ---- migrations
-
--- the state of an image can be written
-fits : (image : List ℕ) (state : Option State) → IsWellFormed image state → IfSome state FitsImage
-fits image None formed = tt
-fits image (Some state) formed = image_fits state formed.valid (stands_storable_by HoldsPublic segments_parts_fit formed.flash formed.bbram state formed.stands formed.valid)
 
 migrated_state : (image out : List ℕ) (state : Option State) → IsBytes image → IsWellFormed image state → IsMigrated image out → IsWellFormed out state
 migrated_state image out state are formed (from_present other present written) =
     let same : other ≡ state = well_formed_stands_for_one image other state are present formed in
-    let made : IsWellFormed (written_image state) state = written_is_well_formed state (fits image state formed) formed.valid in
-    subst (λ (bytes : List ℕ). IsWellFormed bytes state) (sym (written ∙ ap written_image same)) made
+    written_formed_by HoldsPublic segments_parts_fit image out state formed (written ∙ ap written_image same)
 migrated_state image out state are formed (from_before none other before written) = absurd (none state formed)
 
 -- ---- turns

@@ -1,6 +1,6 @@
 -- A state for which a memory stands can be stored, and so can that of a new device.
 use Rattle.std.proofs.Common.{◌≡◌, ◌≤◌, ℕ, List, [], ◌∷◌, ◌++◌, inl, inr, length, map, take, Option, None, Some, Bool, true, false, sym, subst, arith, length-append}
-use Rattle.std.specs.Prelude.{All, unwrap_or, if◌then◌else◌}
+use Rattle.std.specs.Prelude.{All, unwrap_or, if◌then◌else◌, IfSome}
 use Rattle.std.specs.Option.{option_or}
 use Rattle.std.specs.List.{list_any, AllByRecursion}
 use Rattle.std.proofs.lemmas.List.Elements.{All-nil, All-cons, All-push, All-filter, All-append, All-from_recursion, recursion_from_All}
@@ -34,20 +34,23 @@ use Rattle.mb_model.specs.machine.OrderEffects.{entry_signed_by}
 use Rattle.mb_model.specs.memories.StoredLog.{entries_signed_for, outgoing_of, log_completed_by}
 use Rattle.mb_model.specs.memories.Flash.{HoldsPublic}
 use Rattle.mb_model.specs.memories.OldFlash.{HeldPublic}
-use Rattle.mb_model.specs.memories.Meaning.{Contents, FlashForm, HoldsContentsBy, region_after_fate, fate_of_two, fate_of_three, state_of_contents, StandsForBy}
+use Rattle.mb_model.specs.memories.Meaning.{Contents, FlashForm, HoldsContentsBy, region_after_fate, fate_of_two, fate_of_three, state_of_contents, StandsForBy, IsWellFormedBy, IsWellFormed}
 use Rattle.mb_model.specs.memories.Valid.{IsValidState}
 use Rattle.mb_model.specs.memories.Factory.{layers_at_birth, serial_from, birth_entry, state_at_birth}
 use Rattle.mb_model.proofs.Places.{length-part}
 use Rattle.mb_model.proofs.RecordFormatLaws.{few_secrets}
+use Rattle.mb_model.specs.memories.WrittenImage.{written_image, FitsImage}
 use Rattle.mb_model_lemmas.proofs.PublicLemmas.{root_pending, entry_from_signed, length-signed_for}
 use Rattle.mb_model_lemmas.specs.FormLaws.{PublicPartsFit, HoldsFittingParts}
 use Rattle.mb_model_lemmas.proofs.HeldSegments.{segments_parts_fit}
 use Rattle.mb_model_lemmas.proofs.OldFlashLemmas.{old_parts_fit}
+use Rattle.mb_model_lemmas.proofs.WrittenImages.{written_is_well_formed}
 use Rattle.mb_model_memory.specs.Storable.{IsStorableRegion, IsStorableState}
 use Rattle.mb_model_memory.specs.StorableLaws.{StoredStatesAreStorable, OldStatesAreStorable}
 use Rattle.mb_model_memory.proofs.CommitLemmas.{live_contents_by}
 use Rattle.mb_model_memory.proofs.StorableFormats.{fitting_codes, keep_allowed, small_number, born_seed_allowed, born_public_allowed, unowned_allowed, layers_allowed, layers_of_version_two, first_layer_allowed, first_codes_allowed, birth_allowed, signed_allowed}
 use Rattle.mb_model_memory.proofs.StorableOrders.{empty_storable}
+use Rattle.mb_model_memory.proofs.StorableRecords.{image_fits}
 
 -- ---- the root
 
@@ -220,3 +223,16 @@ birth_storable maker index owner code noise is short long =
       two = empty_storable;
       three = empty_storable;
     }
+
+-- ---- what is written anew
+
+-- the state of an image can be written
+pub fits_by : (Form : FlashForm) → HoldsFittingParts Form → (image : List ℕ) (state : Option State) → IsWellFormedBy Form image state → IfSome state FitsImage
+fits_by Form fits image None formed = tt
+fits_by Form fits image (Some state) formed =
+    image_fits state formed.valid (stands_storable_by Form fits formed.flash formed.bbram state formed.stands formed.valid)
+
+-- what is written for it is well formed for it
+pub written_formed_by : (Form : FlashForm) → HoldsFittingParts Form → (image out : List ℕ) (state : Option State) → IsWellFormedBy Form image state → out ≡ written_image state → IsWellFormed out state
+written_formed_by Form fits image out state formed written =
+    subst (λ (o : List ℕ). IsWellFormed o state) (sym written) (written_is_well_formed state (fits_by Form fits image state formed) formed.valid)
