@@ -219,7 +219,7 @@ chain_clear : IsClearWhole chain_format
 chain_clear = IsClearWhole-from_exact chain_exact
 
 -- a chain whose entries are good is not refused for one of them
-good_or_refused : (maker : PublicKey) (bytes : List ℕ) (chain : Chain) (why : ChainRefusal) → IsBytes bytes → Spells chain_format bytes chain → AreGood maker chain.entries
+pub good_or_refused : (maker : PublicKey) (bytes : List ℕ) (chain : Chain) (why : ChainRefusal) → IsBytes bytes → Spells chain_format bytes chain → AreGood maker chain.entries
     → IsOfEntries why → IsRefused maker bytes 0 why → ⊥
 good_or_refused maker bytes chain (bad_form offset) are spelled good of refused = chain_clear.never_both bytes chain offset are spelled refused
 good_or_refused maker bytes chain (bad_signature i) are spelled good of (other, whole, before, signed, next, lacks) =
@@ -246,7 +246,7 @@ row_same a b serial number code hashes =
 one_row : (log : List Entry) (a b : Row) → IsRowOf log a → IsRowOf log b → a ≡ b
 one_row log a b x y = row_same a b (same_Some a.serial b.serial (sym x.serial ∙ y.serial)) (x.number ∙ sym y.number) (x.code ∙ sym y.code) (x.hashes ∙ sym y.hashes)
 
-shown_once : (maker : PublicKey) (bytes : List ℕ) (a b : Row) → IsBytes bytes → IsShown maker bytes a → IsShown maker bytes b → a ≡ b
+pub shown_once : (maker : PublicKey) (bytes : List ℕ) (a b : Row) → IsBytes bytes → IsShown maker bytes a → IsShown maker bytes b → a ≡ b
 shown_once maker bytes a b are x y =
     let one = chain_clear.one_value bytes x.chain y.chain are x.spelled y.spelled in
     one_row (entries_of y.chain.entries) a b (subst (λ (c : Chain). IsRowOf (entries_of c.entries) a) one x.row_is) y.row_is

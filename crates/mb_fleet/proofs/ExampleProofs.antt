@@ -4,10 +4,10 @@ use Rattle.std.specs.Prelude.{replicate}
 use Rattle.std.specs.List.{AllByRecursion}
 use Rattle.std.specs.Fmt.{digits}
 use Rattle.std.proofs.lemmas.Option.{same_Some}
-use Rattle.mb_format.specs.Format.{Format, Spells, FailsWhole}
+use Rattle.mb_format.specs.Format.{Format, Spells}
 use Rattle.mb_format.specs.Combinators.{number_bytes, items, times}
 use Rattle.mb_format.specs.Reading.{IsExact, reads_whole, raw_at, number_at}
-use Rattle.mb_format.proofs.Examples.{are_bytes}
+use Rattle.mb_format.proofs.Examples.{are_bytes, fails_at}
 use Rattle.mb_format.proofs.Compositions.{times_exact}
 use Rattle.mb_format.proofs.Whole.{at_start, IsExactWhole-from_exact, IsClearWhole-from_exact}
 use Rattle.mb_model.specs.declared.key.PublicKey.{PublicKey}
@@ -34,9 +34,6 @@ use Rattle.mb_fleet.specs.ExactFormats.{register_exact}
 use Rattle.mb_fleet.proofs.Registers.{spelled_fits}
 
 -- ---- bytes
-
-fails_at : {A : Type 0} {f : Format A} → IsExact f → (bytes : List ℕ) (place : ℕ) → AllByRecursion (λ b. ltb b 256 ≡ true) bytes → reads_whole f bytes ≡ Err place → FailsWhole f bytes place
-fails_at exact bytes place small e = (IsExactWhole-from_exact exact).fails bytes place (are_bytes bytes small) e
 
 spells : {A : Type 0} {f : Format A} → IsExact f → (bytes : List ℕ) (value : A) → AllByRecursion (λ b. ltb b 256 ≡ true) bytes → reads_whole f bytes ≡ Ok value → Spells f bytes value
 spells exact bytes value small e = (IsExactWhole-from_exact exact).found bytes value (are_bytes bytes small) e

@@ -11,4 +11,5 @@ pub mod Texts
 pub mod Runs
 pub mod ClearItems
 pub mod Determined
+pub mod Ordered
 pub mod ExampleProofs

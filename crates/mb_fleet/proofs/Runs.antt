@@ -11,6 +11,7 @@ use Rattle.mb_model.specs.chains.Acceptance.{ChainRefusal}
 use Rattle.mb_model_commands.specs.VerifyCommand.{chain_refusal_line}
 use Rattle.mb_bytes.specs.Puts.{Puts}
 use Rattle.mb_verifier.specs.Ends.{chain_refusal_of}
+use Rattle.mb_verifier.proofs.Listed.{text_of-append}
 use Rattle.mb_fleet.specs.declared.limits.TheConstants.{TEXT_LIMIT}
 use Rattle.mb_fleet.specs.declared.row.Row.{Row}
 use Rattle.mb_fleet.specs.declared.item.Item.{Item}
@@ -22,7 +23,7 @@ use Rattle.mb_fleet.specs.declared.question.CodeCount.{CodeCount}
 use Rattle.mb_fleet.specs.Questions.{serials_with, AreCounts}
 use Rattle.mb_fleet.specs.Serving.{answer_line, found_lines, count_lines, FleetStep, FleetRun, AreServed, IsTooLong}
 use Rattle.mb_fleet.specs.Ends.{AnswersChain, TellsEnd, AppendsStep}
-use Rattle.mb_fleet.proofs.Texts.{text_of_one, text_join}
+use Rattle.mb_fleet.proofs.Texts.{text_of_one}
 
 -- ---- a run with one item more
 
@@ -56,7 +57,7 @@ module _ (maker : PublicKey) (rows : List Row) (listed : List Item) (i : ℕ) (d
       (run_more maker rows (take i listed) (get_or listed i d) served.lines step.lines middle after served.run step.step)
 
   text_now : text' ≡ text_of lines_now
-  text_now = step.appended ∙ ap (λ (t : List ℕ). t ++ text_of step.lines) served.text_is ∙ sym (text_join served.lines step.lines)
+  text_now = step.appended ∙ ap (λ (t : List ℕ). t ++ text_of step.lines) served.text_is ∙ sym (text_of-append served.lines step.lines)
 
   pub serving_goes_on : length text' ≤ TEXT_LIMIT → AreServed maker rows (take (i + 1) listed) text' after
   serving_goes_on short = record { lines = lines_now; run = run_now; text_is = text_now; short = short }

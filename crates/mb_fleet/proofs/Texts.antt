@@ -2,15 +2,12 @@
 use Rattle.std.proofs.Common.{◌≡◌, ◌<◌, ◌≤◌, ◌+◌, ℕ, List, [], ◌∷◌, ◌++◌, length, take, map, get_or, sym, ap, ◌∙◌, append_assoc, append-nil}
 use Rattle.std.proofs.lemmas.List.{take_more, take_all, map-append}
 use Rattle.std.proofs.lemmas.List.Concat.{flat_map-cons}
-use Rattle.std.proofs.lemmas.Grind.{flat_map-append}
 use Rattle.mb_model.specs.outside.Texts.{line_with_lf}
 use Rattle.mb_model.specs.chains.Lines.{text_of}
+use Rattle.mb_verifier.proofs.Listed.{text_of-append}
 
 pub text_of_one : (line : List ℕ) → text_of (line ∷ []) ≡ line_with_lf line
 text_of_one line = flat_map-cons line_with_lf line [] ∙ append-nil (line_with_lf line)
-
-pub text_join : (a b : List (List ℕ)) → text_of (a ++ b) ≡ text_of a ++ text_of b
-text_join a b = flat_map-append line_with_lf a b
 
 -- one line more
 pub lines_more : {A : Type 0} (line : A → List ℕ) (xs : List A) (i : ℕ) (d : A) (old now after : List ℕ) → i < length xs
@@ -20,7 +17,7 @@ lines_more line xs i d old now after within is put =
     let last = line (get_or xs i d) in
     put ∙ ap (λ (t : List ℕ). t ++ line_with_lf last) is ∙ append_assoc old (text_of front) (line_with_lf last)
     ∙ ap (λ (t : List ℕ). old ++ (text_of front ++ t)) (sym (text_of_one last))
-    ∙ ap (λ (t : List ℕ). old ++ t) (sym (text_join front (last ∷ [])))
+    ∙ ap (λ (t : List ℕ). old ++ t) (sym (text_of-append front (last ∷ [])))
     ∙ ap (λ (ls : List (List ℕ)). old ++ text_of ls) (sym (map-append line (take i xs) (get_or xs i d ∷ [])))
     ∙ ap (λ (ys : List _). old ++ text_of (map line ys)) (sym (take_more xs i d within))
 

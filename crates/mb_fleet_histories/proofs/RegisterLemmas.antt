@@ -3,34 +3,27 @@ use Rattle.std.proofs.Common.{◌≡◌, ◌≢◌, ◌<◌, ℕ, List, [], ◌�
 use Rattle.std.specs.Prelude.{◌⊎◌, zero, suc, All, Contains, map, slice_get}
 use Rattle.std.proofs.lemmas.List.{map-append}
 use Rattle.std.proofs.lemmas.List.Elements.{All-head, All-tail, All-contains, Contains-append_left, Contains-append_right, Contains-append_cases}
-use Rattle.std.proofs.lemmas.Option.{same_Some}
-use Rattle.mb_format.proofs.Whole.{IsClearWhole-from_exact}
 use Rattle.mb_model.specs.declared.entry.Entry.{Entry}
 use Rattle.mb_model.specs.declared.entry.SignedEntry.{SignedEntry}
 use Rattle.mb_model.specs.declared.key.PublicKey.{PublicKey}
-use Rattle.mb_model.specs.chains.Acceptance.{ChainRefusal, bad_form, bad_signature, bad_order, breaks_rules, key_unknown, bad_statement, wrong_number, key_ended, AreGood, IsRefused}
-use Rattle.mb_model.specs.records.ChainFormat.{chain_format}
 use Rattle.mb_model.specs.records.EntryFormat.{entry_format}
 use Rattle.mb_model.specs.owners.Log.{entries_of, serial_of}
 use Rattle.mb_model.specs.memories.Valid.{EachFollows}
-use Rattle.mb_model.proofs.EntryFormatLaws.{chain_exact}
 use Rattle.mb_model_lemmas.proofs.ChainLemmas.{honest_is_front}
-use Rattle.mb_verifier.specs.Entries.{IsOfEntries}
 use Rattle.mb_model_histories.specs.KeyLaws.{Collide}
 use Rattle.mb_model_histories.proofs.KeyLemmas.{same_or_collide}
-use Rattle.mb_fleet.specs.declared.row.CodeHashes.{CodeHashes}
 use Rattle.mb_fleet.specs.declared.item.Item.{Item}
 use Rattle.mb_fleet.specs.declared.item.Item.TheVariants.{Show, Find, Codes}
 use Rattle.mb_fleet.specs.declared.row.Row.{Row}
 use Rattle.mb_fleet.specs.Order.{IsBefore}
 use Rattle.mb_fleet.specs.Serving.{FleetStep, FleetRun}
 use Rattle.mb_fleet.specs.Showing.{Answer, forked, IsNewDevice, DifferAt, Meets, is_added, is_full, is_same, is_extended, is_older, is_forked, IsShown, IsChainAnswered, is_chain_refused, is_shown}
-use Rattle.mb_fleet.proofs.Ascending.{ascending_between, ascending_instead, before_differs}
+use Rattle.mb_fleet.proofs.Ascending.{before_differs}
 use Rattle.mb_fleet.proofs.Each.{all_of_each}
 use Rattle.mb_fleet_histories.specs.RegisterLaws.{IsHashPrefix, AgreeSoFar, GoesOnFrom, RowsOnlyGrow, RegistersStayOrdered, DoubledRowsStay, GoodChainsMeet, IsTaken, ForksAreCaught, TwoRowsHideAFork, spelled_entries, SpellingsCollide, HashesTellOfEntries, PartedLogsAreCaught, IsTrueTo, IsHonestChain, IsHonestItem, HonestDevicesAreNotAccused, ForgedRowsAccuse, AccusedRowsDiffer}
-use Rattle.mb_format.specs.Format.{IsBytes, Spells, IsClearWhole}
-use Rattle.mb_model.specs.declared.entry.Chain.{Chain}
-use Rattle.mb_fleet.specs.Rows.{entry_hash, IsRowOf, AreOrdered, serial_of_row}
+use Rattle.mb_fleet.specs.Rows.{entry_hash, AreOrdered}
+use Rattle.mb_fleet.proofs.Determined.{good_or_refused, shown_once}
+use Rattle.mb_fleet.proofs.Ordered.{step_ordered, meets_ordered}
 
 -- ---- lists
 
@@ -138,25 +131,6 @@ rows_only_grow maker rows after listed lines row run within = run_grows maker ro
 
 same_ordered : (rows after : List Row) → after ≡ rows → AreOrdered rows → AreOrdered after
 same_ordered rows after same_rows ordered = subst AreOrdered (sym same_rows) ordered
-
-meets_ordered : (rows after : List Row) (row : Row) (answer : Answer) → Meets rows row answer after → AreOrdered rows → AreOrdered after
-meets_ordered rows after row answer (is_added none few before later split stands after_is answer_is) ordered =
-    subst AreOrdered (sym after_is) (ascending_between serial_of_row before row later (subst AreOrdered split ordered) stands.below stands.above)
-meets_ordered rows after row answer (is_full none many after_is answer_is) ordered = same_ordered rows after after_is ordered
-meets_ordered rows after row answer (is_same before old later has equal after_is answer_is) ordered = same_ordered rows after after_is ordered
-meets_ordered rows after row answer (is_extended before old later has shorter after_is answer_is) ordered =
-    subst AreOrdered (sym after_is) (ascending_instead serial_of_row before old row later has.serial (subst AreOrdered has.split ordered))
-meets_ordered rows after row answer (is_older before old later has longer after_is answer_is) ordered = same_ordered rows after after_is ordered
-meets_ordered rows after row answer (is_forked before old later has place differ after_is answer_is) ordered = same_ordered rows after after_is ordered
-
-step_ordered : (maker : PublicKey) (rows after : List Row) (item : Item) (lines : List (List ℕ)) → FleetStep maker rows item lines after → AreOrdered rows → AreOrdered after
-step_ordered maker rows after (Show bytes) lines step ordered = by step.1
-  where
-    by : IsChainAnswered maker rows bytes step.0 after → AreOrdered after
-    by (is_chain_refused why refused after_is answer_is) = same_ordered rows after after_is ordered
-    by (is_shown row shown meets) = meets_ordered rows after row step.0 meets ordered
-step_ordered maker rows after (Find layer hash) lines step ordered = same_ordered rows after step.1 ordered
-step_ordered maker rows after (Codes layer) lines step ordered = same_ordered rows after step.3 ordered
 
 pub registers_stay_ordered : RegistersStayOrdered
 registers_stay_ordered maker rows after [] lines run ordered = same_ordered rows after run.1 ordered
@@ -399,42 +373,6 @@ honest_devices_are_not_accused maker log serial rows between after listed lines 
     by (is_shown row shown meets) truth = never_forked (entries_of log) between after row serial place is truth (shown_true maker log bytes row each own shown) meets
 
 -- ---- chains are answered as their rows
-
-chain_clear : IsClearWhole chain_format
-chain_clear = IsClearWhole-from_exact chain_exact
-
--- a chain whose entries are good is not refused for one of them
-good_or_refused : (maker : PublicKey) (bytes : List ℕ) (chain : Chain) (why : ChainRefusal) → IsBytes bytes → Spells chain_format bytes chain → AreGood maker chain.entries
-    → IsOfEntries why → IsRefused maker bytes 0 why → ⊥
-good_or_refused maker bytes chain (bad_form offset) are spelled good of refused = chain_clear.never_both bytes chain offset are spelled refused
-good_or_refused maker bytes chain (bad_signature i) are spelled good of (other, whole, before, signed, next, lacks) =
-    let one = chain_clear.one_value bytes chain other are spelled whole in
-    lacks (good before signed next.rest (ap (λ (c : Chain). c.entries) one ∙ next.split)).certified
-good_or_refused maker bytes chain (bad_order i) are spelled good of (other, whole, before, signed, next, certified, lacks) =
-    let one = chain_clear.one_value bytes chain other are spelled whole in
-    lacks (good before signed next.rest (ap (λ (c : Chain). c.entries) one ∙ next.split)).in_place
-good_or_refused maker bytes chain (breaks_rules i) are spelled good of (other, whole, before, signed, next, certified, in_place, lacks) =
-    let one = chain_clear.one_value bytes chain other are spelled whole in
-    lacks (good before signed next.rest (ap (λ (c : Chain). c.entries) one ∙ next.split)).ruled
-good_or_refused maker bytes chain key_unknown are spelled good of refused = of
-good_or_refused maker bytes chain bad_statement are spelled good of refused = of
-good_or_refused maker bytes chain (wrong_number named last) are spelled good of refused = of
-good_or_refused maker bytes chain key_ended are spelled good of refused = of
-
-row_same : (a b : Row) → a.serial ≡ b.serial → a.number ≡ b.number → a.code ≡ b.code → a.hashes ≡ b.hashes → a ≡ b
-row_same a b serial number code hashes =
-    ap (λ (s : List ℕ). record { serial = s; number = a.number; code = a.code; hashes = a.hashes }) serial
-    ∙ ap (λ (n : ℕ). record { serial = b.serial; number = n; code = a.code; hashes = a.hashes }) number
-    ∙ ap (λ (c : CodeHashes). record { serial = b.serial; number = b.number; code = c; hashes = a.hashes }) code
-    ∙ ap (λ (h : List (List ℕ)). record { serial = b.serial; number = b.number; code = b.code; hashes = h }) hashes
-
-log_row : (log : List Entry) (a b : Row) → IsRowOf log a → IsRowOf log b → a ≡ b
-log_row log a b x y = row_same a b (same_Some a.serial b.serial (sym x.serial ∙ y.serial)) (x.number ∙ sym y.number) (x.code ∙ sym y.code) (x.hashes ∙ sym y.hashes)
-
-shown_once : (maker : PublicKey) (bytes : List ℕ) (a b : Row) → IsBytes bytes → IsShown maker bytes a → IsShown maker bytes b → a ≡ b
-shown_once maker bytes a b are x y =
-    let one = chain_clear.one_value bytes x.chain y.chain are x.spelled y.spelled in
-    log_row (entries_of y.chain.entries) a b (subst (λ (c : Chain). IsRowOf (entries_of c.entries) a) one x.row_is) y.row_is
 
 pub good_chains_meet : GoodChainsMeet
 good_chains_meet maker rows after bytes row answer are shown (is_chain_refused why refused after_is answer_is) =

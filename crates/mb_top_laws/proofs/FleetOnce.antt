@@ -21,18 +21,19 @@ use Rattle.mb_fleet.specs.declared.item.Item.{Item}
 use Rattle.mb_fleet.specs.declared.item.Item.TheVariants.{Show, Find, Codes}
 use Rattle.mb_fleet.specs.declared.question.CodeCount.{CodeCount}
 use Rattle.mb_fleet.specs.Order.{IsBefore, IsAscending}
-use Rattle.mb_fleet.specs.Rows.{AreOrdered, serial_of_row}
+use Rattle.mb_fleet.specs.Rows.{AreOrdered}
 use Rattle.mb_fleet.specs.RegisterFormat.{register_format}
 use Rattle.mb_fleet.specs.ItemFormat.{show_tag, item_byte, item_rows, show_format, item_format, AreItems}
 use Rattle.mb_fleet.specs.Questions.{hash_of_count, count_beside}
-use Rattle.mb_fleet.specs.Showing.{Answer, Meets, is_added, is_full, is_same, is_extended, is_older, is_forked, IsChainAnswered, is_chain_refused, is_shown}
+use Rattle.mb_fleet.specs.Showing.{Answer}
 use Rattle.mb_fleet.specs.Serving.{answer_line, count_lines, FleetStep, FleetRun, AreServed}
 use Rattle.mb_fleet.specs.ExactFormats.{register_exact}
 use Rattle.mb_fleet.specs.Laws.{register_input, items_input}
-use Rattle.mb_fleet.proofs.Ascending.{before_differs, after_is_before, equal_keys, before_all, ascending_between, ascending_instead}
+use Rattle.mb_fleet.proofs.Ascending.{before_differs, after_is_before, equal_keys, before_all}
 use Rattle.mb_fleet.proofs.ClearItems.{items_are_clear}
 use Rattle.mb_fleet.proofs.Determined.{chains_have_one_answer}
 use Rattle.mb_fleet.proofs.Registers.{spelled_fits}
+use Rattle.mb_fleet.proofs.Ordered.{step_ordered}
 use Rattle.mb_top_laws.proofs.AlikeSteps.{IsReadOnce}
 use Rattle.mb_top_laws.proofs.InputsOnce.{binary_once}
 
@@ -121,25 +122,6 @@ pub items_bytes : (bytes : List ℕ) (listed : List Item) → IsBytes bytes → 
 items_bytes bytes listed are is = spelled_bytes listed (subst IsBytes is.whole are)
 
 -- ---- rows stay in order
-
-meets_ordered : (rows after : List Row) (row : Row) (answer : Answer) → Meets rows row answer after → AreOrdered rows → AreOrdered after
-meets_ordered rows after row answer (is_added none few before later split stands after_is answer_is) ordered =
-    subst AreOrdered (sym after_is) (ascending_between serial_of_row before row later (subst AreOrdered split ordered) stands.below stands.above)
-meets_ordered rows after row answer (is_full none many after_is answer_is) ordered = subst AreOrdered (sym after_is) ordered
-meets_ordered rows after row answer (is_same before old later has equal after_is answer_is) ordered = subst AreOrdered (sym after_is) ordered
-meets_ordered rows after row answer (is_extended before old later has shorter after_is answer_is) ordered =
-    subst AreOrdered (sym after_is) (ascending_instead serial_of_row before old row later has.serial (subst AreOrdered has.split ordered))
-meets_ordered rows after row answer (is_older before old later has longer after_is answer_is) ordered = subst AreOrdered (sym after_is) ordered
-meets_ordered rows after row answer (is_forked before old later has place differ after_is answer_is) ordered = subst AreOrdered (sym after_is) ordered
-
-step_ordered : (maker : PublicKey) (rows after : List Row) (item : Item) (lines : List (List ℕ)) → FleetStep maker rows item lines after → AreOrdered rows → AreOrdered after
-step_ordered maker rows after (Show bytes) lines step ordered = by step.1
-  where
-    by : IsChainAnswered maker rows bytes step.0 after → AreOrdered after
-    by (is_chain_refused why refused after_is answer_is) = subst AreOrdered (sym after_is) ordered
-    by (is_shown row shown meets) = meets_ordered rows after row step.0 meets ordered
-step_ordered maker rows after (Find layer hash) lines step ordered = subst AreOrdered (sym step.1) ordered
-step_ordered maker rows after (Codes layer) lines step ordered = subst AreOrdered (sym step.3) ordered
 
 -- ---- items over rows
 
