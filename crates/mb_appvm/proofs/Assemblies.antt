@@ -4,13 +4,14 @@ use Rattle.std.specs.Prelude.{All, sum_by, ◌||◌}
 use Rattle.std.specs.List.{AllZip, list_any}
 use Rattle.std.proofs.lemmas.List.{take_more, take-append-drop, take_all}
 use Rattle.std.proofs.lemmas.List.Elements.{All-nil, All-cons, All-weaker}
+use Rattle.mb_format.proofs.Fields.{same_bytes-refl}
 use Rattle.mb_model.specs.chains.Lines.{HasLines}
 use Rattle.mb_model_lemmas.proofs.LineLemmas.{HasLines-none, HasLines-nil, HasLines-same, HasLines-always}
 use Rattle.mb_appvm.specs.declared.lines.Said.{Said}
 use Rattle.mb_appvm.specs.declared.lines.Said.TheVariants as says
 use Rattle.mb_appvm.specs.Assembly.{SaysAssemblyLine, IsSayable, size_of, is_label, GivesLabel, HasTarget, AreRight, Assembles, AssemblyFailsAt}
 use Rattle.mb_appvm.specs.Checking.{ReadsTo, IsTarget, IsGiven, AreSoundLines, CountsSound, IsCode}
-use Rattle.mb_appvm.proofs.Labels.{is_label-true, same_bytes-refl, none_given}
+use Rattle.mb_appvm.proofs.Labels.{is_label-true, none_given}
 use Rattle.mb_appvm.proofs.Words.{SaysLine-same}
 
 -- ---- lines and what they say, side by side

@@ -6,13 +6,13 @@ use Rattle.std.proofs.lemmas.Bool.{false≢true, cases_order}
 use Rattle.std.proofs.lemmas.List.{take_at}
 use Rattle.std.proofs.lemmas.List.Elements.{All-take}
 use Rattle.std.proofs.lemmas.List.Sums.{sum_by-take-le}
-use Rattle.mb_model_lemmas.proofs.LineLemmas.{HasLines-same, cons_same}
+use Rattle.mb_format.proofs.Fields.{same_bytes-refl}
+use Rattle.mb_model_lemmas.proofs.LineLemmas.{HasLines-same, front_in}
 use Rattle.mb_appvm.specs.declared.lines.Said.{Said}
 use Rattle.mb_appvm.specs.declared.lines.Said.TheVariants as says
 use Rattle.mb_appvm.specs.Instructions.{instruction_format}
 use Rattle.mb_appvm.specs.Assembly.{SaysAssemblyLine, jump_to, size_of, is_label, IsNew, LabelsDiffer, HasTarget, AreRight, FailsAssembly, IsPlaced, Makes, piece, IsAssembly}
 use Rattle.mb_appvm.specs.Listing.{AssembliesAreClear, ListingsAssemble}
-use Rattle.mb_appvm.proofs.Labels.{same_bytes-refl}
 use Rattle.mb_appvm.proofs.Soundness.{or_parts}
 use Rattle.mb_appvm.proofs.Assemblies.{said_unique, zip_take}
 use Rattle.mb_appvm.proofs.Listings.{assembles_again}
@@ -101,19 +101,6 @@ right_front lines front later said right = record {
   targets = All-take (HasTarget lines) (length front) said right.targets;
   short = omega (arith, right.short, sum_by-take-le size_of said (length front));
 }
-
--- of two splits of one list, the shorter front and its line begin the longer front
-front_in : (a b : List (List ℕ)) (x y : List ℕ) (xs ys : List (List ℕ)) → a ++ x ∷ xs ≡ b ++ y ∷ ys → length a < length b
-    → (rest : List (List ℕ)) × (b ≡ (a ++ x ∷ []) ++ rest)
-front_in [] [] x y xs ys e less = absurd (omega (arith, less))
-front_in [] (b ∷ bs) x y xs ys e less = (bs, ap (λ (z : List ℕ). z ∷ bs) (sym (cons_same x b xs (bs ++ y ∷ ys) e).0))
-front_in (a ∷ as_) [] x y xs ys e less = absurd (omega (arith, less))
-front_in (a ∷ as_) (b ∷ bs) x y xs ys e less =
-    let parts = cons_same a b (as_ ++ x ∷ xs) (bs ++ y ∷ ys) e in
-    let rest = front_in as_ bs x y xs ys parts.1 (omega (arith, less)) in
-    let head = parts.0 in
-    let tail = rest.1 in
-    (rest.0, cc)
 
 not_shorter : (lines : List (List ℕ)) (m n : ℕ) (p : FailsAssembly lines m) (q : FailsAssembly lines n) → length p.before < length q.before → ⊥
 not_shorter lines m n p q less =

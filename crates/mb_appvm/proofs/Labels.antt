@@ -1,10 +1,9 @@
 -- Labels among lines and in texts.
-use Rattle.std.proofs.Common.{◌≡◌, ◌==◌, ℕ, ◌<◌, ◌⊎◌, ◌↔◌, inl, inr, List, [], ◌∷◌, length, Bool, true, false, refl, sym, ap, subst, ◌∙◌}
+use Rattle.std.proofs.Common.{◌≡◌, ℕ, ◌<◌, ◌⊎◌, ◌↔◌, inl, inr, List, [], ◌∷◌, length, Bool, true, false, refl, sym, ap, subst, ◌∙◌}
 use Rattle.std.specs.Prelude.{IsTrue}
 use Rattle.std.specs.Str.{bytes_eq}
-use Rattle.std.proofs.lemmas.Bool.{false≢true, eq-eqb}
-use Rattle.mb_format.specs.Combinators.{same_bytes}
-use Rattle.mb_format.proofs.Fields.{same_bytes-true}
+use Rattle.std.proofs.lemmas.Bool.{false≢true}
+use Rattle.mb_format.proofs.Fields.{same_bytes-true, same_bytes-refl}
 use Rattle.mb_model.specs.chains.Lines.{HasLines}
 use Rattle.mb_model_lemmas.proofs.LineLemmas.{HasLines-same, HasLines-always, HasLines-nil}
 use Rattle.mb_words.specs.Words.{SplitsLine}
@@ -18,12 +17,6 @@ use Rattle.mb_appvm.proofs.Words.{SaysLine-same}
 
 pub label_is : (r : Bool) (line : Said) (read other name : List ℕ) → line ≡ says.Label other → read ≡ other → r ≡ bytes_eq read name → r ≡ is_label name line
 label_is r line read other name is same equal = named_is read other name equal same ∙ ap (is_label name) (sym is)
-
-pub same_bytes-refl : (xs : List ℕ) → same_bytes xs xs ≡ true
-same_bytes-refl [] = refl
-same_bytes-refl (x ∷ xs) =
-    let here : (x == x) ≡ true = eq-eqb x x refl in
-    rw here (same_bytes-refl xs)
 
 pub is_label-true : (s : Said) (name : List ℕ) → is_label name s ≡ true → s ≡ says.Label name
 is_label-true (says.Label other) name e = ap (λ (x : List ℕ). says.Label x) (same_bytes-true other name e)

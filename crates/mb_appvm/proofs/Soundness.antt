@@ -7,13 +7,12 @@ use Rattle.std.proofs.lemmas.List.{take_more}
 use Rattle.std.proofs.lemmas.List.Elements.{All-nil, All-push, All-pop}
 use Rattle.std.proofs.lemmas.List.Sums.{sum_by_push}
 use Rattle.mb_format.specs.Combinators.{same_bytes}
-use Rattle.mb_format.proofs.Fields.{same_bytes-true}
+use Rattle.mb_format.proofs.Fields.{same_bytes-true, same_bytes-refl}
 use Rattle.mb_appvm.specs.declared.keyword.Jump.{Jump}
 use Rattle.mb_appvm.specs.declared.lines.Said.{Said}
 use Rattle.mb_appvm.specs.declared.lines.Said.TheVariants as says
 use Rattle.mb_appvm.specs.Assembly.{size_of, is_label, IsNew, LabelsDiffer}
 use Rattle.mb_appvm.specs.Checking.{IsTarget, AreSoundLines, CountsSound}
-use Rattle.mb_appvm.proofs.Labels.{same_bytes-refl}
 
 -- ---- one line
 

@@ -2,7 +2,7 @@
 use Rattle.std.proofs.Common.{◌≡◌, ℕ, ◌<◌, ◌≤◌, ◌-◌, List, [], ◌++◌, length, take, drop, Ok, Err, ap, ◌∙◌, subst, arith, append_assoc, append-nil, take-append-drop}
 use Rattle.std.proofs.lemmas.List.{length-append, length-take, take_all}
 use Rattle.mb_format.specs.Format.{IsBytes, FailsWhole}
-use Rattle.mb_format.proofs.Exact.{IsBytes-drop}
+use Rattle.mb_format.proofs.Exact.{IsBytes-drop, IsBytes-none}
 use Rattle.mb_model.specs.records.OrderFormat.{order_format}
 use Rattle.mb_model.proofs.OrderFormatLaws.{order_exact}
 use Rattle.mb_model.proofs.FormatBounds.{order_short}
@@ -14,7 +14,6 @@ use Rattle.mb_command.specs.Beginnings.{FailsHowever, CanBecome, FailsFrom, CanE
 use Rattle.mb_command.specs.Ends.{order_text_at}
 use Rattle.mb_command.specs.Feeding.{Feeds}
 use Rattle.mb_command.specs.Surveys.{IsFound, NothingTold}
-use Rattle.mb_command.proofs.Following.{IsBytes-none}
 use Rattle.mb_command.proofs.WholeBeginnings.{never_both, whole_lost, whole_over, whole_here, whole_open, fails_more}
 
 -- ---- all bytes were looked over

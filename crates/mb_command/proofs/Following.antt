@@ -1,24 +1,14 @@
 -- What can follow bytes that are read before all of them are there.
-use Rattle.std.proofs.Common.{◌≡◌, ℕ, zero, suc, ◌+◌, ◌-◌, ◌<◌, ◌≤◌, inl, inr, List, [], ◌++◌, length, take, drop, replicate, Option, Result, Ok, Err, refl, sym, ap, ◌∙◌, arith, append_assoc, append-nil}
-use Rattle.std.proofs.lemmas.Bool.{cases_lt}
-use Rattle.std.proofs.lemmas.List.{length-append, length-replicate, drop-append-le, drop_all, drop_at, take_at, get_or_append_left, get_or-append_right, get_or_past}
+use Rattle.std.proofs.Common.{◌≡◌, ℕ, ◌+◌, ◌-◌, ◌<◌, ◌≤◌, List, ◌++◌, length, take, drop, replicate, Option, Result, Ok, Err, refl, sym, ap, ◌∙◌, arith, append_assoc, append-nil}
+use Rattle.std.proofs.lemmas.List.{length-append, length-replicate, drop-append-le, drop_all, drop_at, take_at}
 use Rattle.mb_format.specs.Format.{IsBytes, IsOffset, SpelledAt, Format}
 use Rattle.mb_format.specs.Combinators.{raw, both, as_value}
 use Rattle.mb_format.specs.Reading.{IsExact, IsLocal, raw_at}
 use Rattle.mb_command.specs.Beginnings.{FailsFrom, CanEndFrom, IsInhabited}
 use Rattle.mb_format.proofs.Steps.{raw_at-long}
+use Rattle.mb_format.proofs.Exact.{IsBytes-append, IsBytes-replicate}
 
 -- ---- bytes that follow
-
-pub IsBytes-append : (bytes more : List ℕ) → IsBytes bytes → IsBytes more → IsBytes (bytes ++ more)
-IsBytes-append bytes more h g i =
-    elim (cases_lt i (length bytes)) [
-      | inl lt ↦ rw (get_or_append_left bytes more 0 i lt) (h i)
-      | inr le ↦ rw (get_or-append_right bytes more (length bytes) i 0 refl le) (g (i - length bytes))
-    ]
-
-pub IsBytes-none : IsBytes []
-IsBytes-none i = omega (arith, get_or_past {X = ℕ} [] i 0 (omega arith))
 
 pub offset_more : (bytes more : List ℕ) (at : ℕ) → IsOffset bytes at → IsBytes more → IsOffset (bytes ++ more) at
 offset_more bytes more at p g = record { are_bytes = IsBytes-append bytes more p.are_bytes g; within = omega (arith, p.within, length-append bytes more) }
@@ -102,11 +92,6 @@ as_value_open f into out bytes at can = record { more = can.more; are_bytes = ca
 
 -- ---- single fields
 
-pub zeros_are : (n : ℕ) → IsBytes (replicate n 0)
-zeros_are zero i = IsBytes-none i
-zeros_are (suc n) zero = omega arith
-zeros_are (suc n) (suc i) = zeros_are n i
-
 abbrev raw_done : List ℕ → ℕ → Result (List ℕ × ℕ) ℕ
 raw_done xs k = Ok (xs, k)
 
@@ -117,7 +102,7 @@ raw_can_end n bytes at lt =
     let e : raw_at n (bytes ++ more) at ≡ Ok (take n (drop at (bytes ++ more)), at + n) = raw_at-long n (bytes ++ more) at (omega (arith, long)) in
     record {
       more = more;
-      are_bytes = zeros_are (at + n - length bytes);
+      are_bytes = IsBytes-replicate (at + n - length bytes) 0 (omega arith);
       value = take n (drop at (bytes ++ more));
       reads = e ∙ ap (λ (k : ℕ). raw_done (take n (drop at (bytes ++ replicate (at + n - length bytes) 0))) k) (sym long);
     }

@@ -1,22 +1,18 @@
 -- Formats of which some value is allowed.
-use Rattle.std.proofs.Common.{◌≡◌, ℕ, zero, suc, ◌<◌, Bool, true, false, cond, ltb, List, [], ◌∷◌, replicate, Option, Some, refl, ap}
+use Rattle.std.proofs.Common.{◌≡◌, ℕ, zero, suc, Bool, true, false, cond, ltb, List, [], ◌∷◌, replicate, Option, Some, refl, ap}
 use Rattle.std.proofs.lemmas.Bool.{ltb-true}
 use Rattle.std.proofs.lemmas.List.{length-replicate}
 use Rattle.mb_format.specs.Format.{IsBytes, Format}
 use Rattle.mb_format.specs.Combinators.{raw, nothing, both, pair, as_value, as_record, led, cons, uncons, items, times}
+use Rattle.mb_format.proofs.Exact.{IsBytes-none, IsBytes-append, IsBytes-cons, IsBytes-replicate}
 use Rattle.mb_command.specs.Beginnings.{IsInhabited}
-use Rattle.mb_command.proofs.Following.{IsBytes-append, IsBytes-none, zeros_are}
 
 unfoldable pub all_bytes : List ℕ → Bool
 all_bytes [] = true
 all_bytes (x ∷ xs) = cond (ltb x 256) (all_bytes xs) false
 
-both_bytes : (x : ℕ) (xs : List ℕ) → x < 256 → IsBytes xs → IsBytes (x ∷ xs)
-both_bytes x xs lt are zero = lt
-both_bytes x xs lt are (suc i) = are i
-
 first_tested : (x : ℕ) (xs : List ℕ) (b : Bool) → ltb x 256 ≡ b → (all_bytes xs ≡ true → IsBytes xs) → cond b (all_bytes xs) false ≡ true → IsBytes (x ∷ xs)
-first_tested x xs true t rest e = both_bytes x xs (ltb-true _ _ t) (rest e)
+first_tested x xs true t rest e = IsBytes-cons x xs (ltb-true _ _ t) (rest e)
 first_tested x xs false t rest e = absurd cc
 
 bytes_tested : (xs : List ℕ) → all_bytes xs ≡ true → IsBytes xs
@@ -29,7 +25,7 @@ pub inhabited_by : {A : Type 0} {f : Format A} (a : A) → f.Allowed a → all_b
 inhabited_by {f} a allowed e = record { value = a; allowed = allowed; are_bytes = bytes_tested (f.spelling a) e }
 
 pub raw_inhabited : (n : ℕ) → IsInhabited (raw n)
-raw_inhabited n = record { value = replicate n 0; allowed = length-replicate {A = ℕ} n 0; are_bytes = zeros_are n }
+raw_inhabited n = record { value = replicate n 0; allowed = length-replicate {A = ℕ} n 0; are_bytes = IsBytes-replicate n 0 (omega arith) }
 
 pub nothing_inhabited : {A : Type 0} {a : A} → IsInhabited (nothing a)
 nothing_inhabited {a} = record { value = a; allowed = refl; are_bytes = IsBytes-none }

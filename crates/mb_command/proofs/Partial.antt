@@ -1,13 +1,13 @@
 -- Numbers of which only the first bytes are there.
-use Rattle.std.proofs.Common.{◌≡◌, ℕ, zero, suc, ◌+◌, ◌-◌, ◌<◌, ◌≤◌, ◌⊎◌, inl, inr, Bool, true, false, cond, ltb, List, [], ◌∷◌, ◌++◌, length, take, drop, replicate, get_or, Option, Some, None, Ok, Err, refl, ap, ◌∙◌, arith}
+use Rattle.std.proofs.Common.{◌≡◌, ℕ, ◌+◌, ◌-◌, ◌<◌, ◌≤◌, ◌⊎◌, inl, inr, Bool, true, false, cond, ltb, List, [], ◌∷◌, ◌++◌, length, take, drop, replicate, get_or, Option, Some, None, Ok, Err, refl, ap, ◌∙◌, arith}
 use Rattle.std.specs.Int.{Width, w8, w16, w32, byte_len, from_be_bytes}
 use Rattle.std.proofs.lemmas.Bool.{cases_lt, lt-ltb, le-ltb}
 use Rattle.std.proofs.lemmas.List.{length-append, length-replicate, length-drop, drop-append-le, get_or_append_left, get_or_past, get_or-take, take_all}
 use Rattle.mb_format.specs.Format.{IsBytes}
 use Rattle.mb_format.specs.Combinators.{number, coded, in_range}
 use Rattle.mb_format.specs.Reading.{number_at, decode_read}
+use Rattle.mb_format.proofs.Exact.{IsBytes-none, IsBytes-append, IsBytes-cons, IsBytes-replicate}
 use Rattle.mb_command.specs.Beginnings.{FailsFrom, CanEndFrom}
-use Rattle.mb_command.proofs.Following.{IsBytes-append, IsBytes-none, zeros_are}
 
 -- what the first bytes of a number say of it, where the bytes that are missing count as zeros
 pub record IsPartial (w : Width) : Type 0 where
@@ -81,13 +81,9 @@ least_said w is bytes more at within lt = is.rises (drop at bytes) (take (byte_l
 unfoldable pub rest_of : Width → List ℕ → ℕ → List ℕ
 rest_of w front d = replicate (byte_len w - length front - 1) 0 ++ d ∷ []
 
-one_is : (d : ℕ) → d < 256 → IsBytes (d ∷ [])
-one_is d lt zero = lt
-one_is d lt (suc i) = IsBytes-none i
-
 rest_is : (w : Width) (front : List ℕ) (d : ℕ) → d < 256 → IsBytes (rest_of w front d)
 unfolding rest_of
-rest_is w front d lt = IsBytes-append (replicate (byte_len w - length front - 1) 0) (d ∷ []) (zeros_are (byte_len w - length front - 1)) (one_is d lt)
+rest_is w front d lt = IsBytes-append (replicate (byte_len w - length front - 1) 0) (d ∷ []) (IsBytes-replicate (byte_len w - length front - 1) 0 (omega arith)) (IsBytes-cons d [] lt IsBytes-none)
 
 rest_length : (w : Width) (front : List ℕ) (d : ℕ) → length front < byte_len w → length (rest_of w front d) ≡ byte_len w - length front
 unfolding rest_of
@@ -144,6 +140,3 @@ range_above least most n gt = rw (lt-ltb most n gt) (either_none (ltb n least))
     either_none : (b : Bool) → cond b None (cond true None (Some n)) ≡ None
     either_none true = refl
     either_none false = refl
-
-pub range_in : (least most n : ℕ) → least ≤ n → n ≤ most → in_range least most n ≡ Some n
-range_in least most n low high = rw (le-ltb n least low, le-ltb most n high) refl

@@ -7,6 +7,7 @@ use Rattle.mb_format.specs.Combinators.{raw, number, between, coded, in_range, a
 use Rattle.mb_format.specs.Reading.{IsExact, IsLocal, decode_read}
 use Rattle.mb_format.proofs.Exact.{ok_parts}
 use Rattle.mb_format.proofs.Steps.{raw_at-long}
+use Rattle.mb_format.proofs.Fields.{in_range_again}
 use Rattle.mb_bytes.specs.declared.cursor.Cursor.{Cursor}
 use Rattle.mb_bytes.specs.Reads.{ReadsOk, ReadsErr}
 use Rattle.mb_bytes.proofs.Exactly.{stands}
@@ -15,7 +16,7 @@ use Rattle.mb_command.specs.declared.stuck.Stuck.TheVariants.{Lost, Open}
 use Rattle.mb_command.specs.Beginnings.{FailsFrom, CanEndFrom, IsInhabited}
 use Rattle.mb_command.specs.Surveys.{IsFound, IsStuck, Surveys, NothingTold, IsTold}
 use Rattle.mb_command.proofs.Following.{both_lost_first, both_lost_second, both_open_first, both_open_second, as_value_lost, as_value_open, raw_can_end, none_there, all_there}
-use Rattle.mb_command.proofs.Partial.{IsPartial, coded_lost, coded_open, range_above, range_in, number_long, number_open}
+use Rattle.mb_command.proofs.Partial.{IsPartial, coded_lost, coded_open, range_above, number_long, number_open}
 
 -- ---- one format after another
 
@@ -120,7 +121,7 @@ pub bounded_open : (w : Width) → IsPartial w → (least most : ℕ) (old : Cur
 bounded_open w is least most old bounds small few le =
     let low = from_be_bytes w (drop old.offset old.bytes.now) in
     coded_open w (λ n. n) (λ n. (least ≤ n) × (n ≤ most)) (in_range least most) is old.bytes.now old.offset (least - from_be_bytes w (drop old.offset old.bytes.now)) (from_be_bytes w (drop old.offset old.bytes.now) + (least - from_be_bytes w (drop old.offset old.bytes.now))) old.within few (omega (arith, small))
-    (range_in least most (from_be_bytes w (drop old.offset old.bytes.now) + (least - from_be_bytes w (drop old.offset old.bytes.now))) (omega arith) (omega (arith, bounds, le)))
+    (in_range_again least most (from_be_bytes w (drop old.offset old.bytes.now) + (least - from_be_bytes w (drop old.offset old.bytes.now))) (omega arith) (omega (arith, bounds, le)))
 
 -- ---- numbers that stand for values, all those from `least` to `most` and no others
 

@@ -5,7 +5,8 @@ use Rattle.mb_format.specs.Format.{IsBytes, Format}
 use Rattle.mb_format.specs.Reading.{IsExact, IsExactWhole}
 use Rattle.mb_command.specs.Beginnings.{FailsHowever, CanBecome, FailsFrom, CanEndFrom}
 use Rattle.mb_format.proofs.Whole.{IsExactWhole-from_exact, at_start, whole_from}
-use Rattle.mb_command.proofs.Following.{IsBytes-append, IsBytes-none, spelled_more}
+use Rattle.mb_format.proofs.Exact.{IsBytes-append, IsBytes-none}
+use Rattle.mb_command.proofs.Following.{spelled_more}
 
 -- bytes that fail whatever follows can become no value
 pub never_both : {A : Type 0} (f : Format A) → IsExact f → (bytes : List ℕ) (offset : ℕ) → IsBytes bytes → FailsHowever f bytes offset → CanBecome f bytes → ⊥

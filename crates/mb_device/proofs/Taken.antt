@@ -1,15 +1,13 @@
 -- Events that the board has done by itself as it handed them out: power that goes, tamper, and a cut that is armed.
 use Rattle.std.proofs.Common.{◌≡◌, ℕ, Bool, true, false, None, Some, refl, sym, ap, subst, ◌∙◌, length}
-use Rattle.std.proofs.lemmas.List.{length-replicate}
-use Rattle.std.proofs.lemmas.List.Elements.{All-replicate}
 use Rattle.mb_model.specs.declared.event.Event.{Event}
 use Rattle.mb_model.specs.declared.event.Event.TheVariants as event
 use Rattle.mb_model.specs.declared.event.Tear.{Tear}
 use Rattle.mb_model.specs.declared.reply.Reply.TheVariants as reply
-use Rattle.mb_model.specs.outside.Board.{Memory, Meter, Held, phase_at, zeros, power_after, memory_after, armed_after}
+use Rattle.mb_model.specs.outside.Board.{Memory, Meter, Held, phase_at, power_after, memory_after, armed_after}
 use Rattle.mb_model.specs.machine.Machine.{Phase, off, World, machine_step}
 use Rattle.mb_model.specs.memories.Meaning.{is_dead}
-use Rattle.mb_model.specs.memories.Memory.{IsBlank}
+use Rattle.mb_model_lemmas.proofs.WrittenImages.{zeros_blank, length-zeros}
 use Rattle.mb_board.specs.Calls.{held_by}
 use Rattle.mb_device.specs.declared.device.Device.{Device}
 use Rattle.mb_device.specs.declared.device.Device.TheVariants as device
@@ -62,14 +60,6 @@ goes_off before after held now world sound is_off same = record {
 
 -- ---- tamper
 
-zeros_blank : (n : ℕ) → IsBlank (zeros n)
-unfolding zeros
-zeros_blank n = All-replicate (λ byte. byte ≡ 0) n 0 refl
-
-zeros_length : (n : ℕ) → length (zeros n) ≡ n
-unfolding zeros
-zeros_length n = length-replicate n 0
-
 pub is_tampered : (before after : Device) (held now : Held) (world : World) → IsSoundDevice before held world → IsOff after → now ≡ taken event.Tamper held
     → Steps world event.Tamper reply.Tampered after now
 is_tampered before after held now world sound is_off same =
@@ -81,7 +71,7 @@ is_tampered before after held now world sound is_off same =
       sound = subst (λ (h : Held). IsSoundDevice after h next) (sym same) (record {
         shown = record {
           stands = record {
-            sized = record { flash = sound.shown.stands.sized.flash; bbram = zeros_length (length held.memory.bbram) ∙ sound.shown.stands.sized.bbram };
+            sized = record { flash = sound.shown.stands.sized.flash; bbram = length-zeros (length held.memory.bbram) ∙ sound.shown.stands.sized.bbram };
             meaning = is_dead (zeros_blank (length held.memory.bbram)) refl;
           };
           phase = refl;

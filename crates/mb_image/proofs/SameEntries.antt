@@ -17,10 +17,7 @@ use Rattle.mb_model.specs.contracts.layer.PairPartialEq.TheImpl as pair
 use Rattle.mb_model.specs.contracts.entry.EntryPartialEq.TheImpl as entry
 use Rattle.mb_model.specs.contracts.entry.SignedEntryPartialEq.TheImpl as signed
 use Rattle.mb_model.specs.contracts.region.RegionKeyPartialEq.TheImpl as region_key
-use Rattle.mb_model_lemmas.proofs.SameLayers.{layers_decide}
-
-keys_decide : (a b : PublicKey) → Decides (key.ghosts.eq a b) (a ≡ b)
-keys_decide a b = search rules
+use Rattle.mb_model_lemmas.proofs.SameLayers.{layers_decide, keys_decide}
 
 pairs_decide : (a b : Pair) → Decides (pair.ghosts.eq a b) (a ≡ b)
 pairs_decide a b = search rules

@@ -1,11 +1,8 @@
 -- The examples of formats, computed.
-use Rattle.std.proofs.Common.{◌≡◌, ℕ, List, [], ◌∷◌, ◌++◌, Err, refl, rules, true, ltb}
-use Rattle.std.specs.List.{AllByRecursion}
-use Rattle.mb_format.specs.Format.{Format, FailsWhole}
+use Rattle.std.proofs.Common.{[], ◌∷◌, ◌++◌, refl, rules}
 use Rattle.mb_format.specs.Combinators.{number_bytes, items}
-use Rattle.mb_format.specs.Reading.{IsExact, reads_whole, raw_at, number_at}
-use Rattle.mb_format.proofs.Examples.{are_bytes}
-use Rattle.mb_format.proofs.Whole.{IsExactWhole-from_exact}
+use Rattle.mb_format.specs.Reading.{raw_at, number_at}
+use Rattle.mb_format.proofs.Examples.{fails_at}
 use Rattle.mb_model.specs.records.KeyFormat.{public_key_format}
 use Rattle.mb_model.specs.records.LayerFormat.{trust_format}
 use Rattle.mb_model.specs.records.EntryFormat.{key_kind_format}
@@ -20,10 +17,6 @@ use Rattle.mb_model_examples.specs.FormatExamples.{surrender_bytes, countersigne
 pub spellings : SpellingExamples
 unfolding public_key_format trust_format key_kind_format target_format payload_format body_format number_bytes items
 spellings = record { public_key = λ identifier root. refl; surrender = refl; new_key = refl; load = refl }
-
--- bytes fail where reading them fails
-fails_at : {A : Type 0} {f : Format A} → IsExact f → (bytes : List ℕ) (place : ℕ) → AllByRecursion (λ b. ltb b 256 ≡ true) bytes → reads_whole f bytes ≡ Err place → FailsWhole f bytes place
-fails_at exact bytes place small e = (IsExactWhole-from_exact exact).fails bytes place (are_bytes bytes small) e
 
 pub failings : FailingExamples
 unfolding trust_format target_format payload_format body_format sized_signature_format countersignatures_format order_format chain_format secrets_format keys_format region_by region_format number_at raw_at items

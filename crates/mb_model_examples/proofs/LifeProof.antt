@@ -1,14 +1,14 @@
 -- The life of the examples obeys the rules of the log, entry by entry.
-use Rattle.std.proofs.Common.{◌≡◌, ◌≢◌, ◌<◌, ℕ, inl, inr, [], take, None, Some, Bool, replicate, refl, arith, lit<}
+use Rattle.std.proofs.Common.{◌≡◌, ◌≢◌, ◌<◌, ℕ, inl, [], take, None, Some, replicate, refl, arith, lit<}
 use Rattle.std.proofs.lemmas.Bool.{false≢true}
 use Rattle.mb_model.specs.declared.order.KeyKind.TheVariants as kinds
 use Rattle.mb_model.specs.declared.order.ChangeKind.TheVariants.{Establish, Load, Emergency}
 use Rattle.mb_model.specs.declared.entry.Entry.TheVariants.{Birth, Change, NewKey}
-use Rattle.mb_model.specs.declared.layer.Layers.{Layers}
 use Rattle.mb_model.specs.owners.Rules.{after}
-use Rattle.mb_model.specs.owners.Log.{figures_of, number_of, last_of, layers_of, uses_of_device_key, keys_made_by, has_version_two, MayHaveVersion, Ruled, RuledLog}
+use Rattle.mb_model.specs.owners.Log.{figures_of, number_of, last_of, layers_of, uses_of_device_key, keys_made_by, has_version_two, Ruled, RuledLog}
 use Rattle.mb_model_examples.specs.RuleExamples.{officer, nobody, by_two, by_both, at_birth, with_two, with_three, two_runs, three_runs, one_renewed, three_renewed, life}
 use Rattle.mb_model_lemmas.proofs.LogLemmas.{RuledLog-nil, RuledLog-push}
+use Rattle.mb_model_lemmas.proofs.RuleLemmas.{version_two_may_follow}
 
 filled : (n : ℕ) → 0 < n → n ≢ 0
 filled n some = λ none. omega (arith, some, none)
@@ -24,9 +24,6 @@ birth = (
   record { known = inl refl; equal_trusts = λ first. record { one = refl; two = refl; three = refl }; rises = λ some. absurd (false≢true some) },
 )
 
-version_two : (after_version_two : Bool) (layers : Layers) → MayHaveVersion after_version_two 2 layers
-version_two after_version_two layers = record { known = inr refl; equal_trusts = λ first. absurd (omega (arith, first)); rises = λ some. refl }
-
 establish_two : Ruled (figures_of (take 1 life)) (Change 2 1 1 Establish 2 nobody with_two nobody None)
 unfolding after number_of last_of layers_of uses_of_device_key
 establish_two = (
@@ -39,7 +36,7 @@ establish_two = (
     countersigned = record { two = λ h. absurd (false≢true h); three = λ h. absurd (false≢true h) };
     regions = refl;
   },
-  version_two _ _,
+  version_two_may_follow _ _,
 )
 
 establish_three : Ruled (figures_of (take 2 life)) (Change 2 2 2 Establish 3 nobody with_three by_two None)
@@ -54,7 +51,7 @@ establish_three = (
     countersigned = record { two = λ h. absurd (false≢true h); three = λ h. absurd (false≢true h) };
     regions = refl;
   },
-  version_two _ _,
+  version_two_may_follow _ _,
 )
 
 emergency_two : Ruled (figures_of (take 3 life)) (Change 2 3 3 Emergency 2 nobody two_runs nobody None)
@@ -69,7 +66,7 @@ emergency_two = (
     countersigned = record { two = λ h. absurd (false≢true h); three = λ h. absurd (false≢true h) };
     regions = refl;
   },
-  version_two _ _,
+  version_two_may_follow _ _,
 )
 
 emergency_three : Ruled (figures_of (take 4 life)) (Change 2 4 4 Emergency 3 nobody three_runs by_two None)
@@ -84,7 +81,7 @@ emergency_three = (
     countersigned = record { two = λ h. absurd (false≢true h); three = λ h. absurd (false≢true h) };
     regions = refl;
   },
-  version_two _ _,
+  version_two_may_follow _ _,
 )
 
 new_key : Ruled (figures_of (take 5 life)) (NewKey 5 4 1 3 kinds.Epoch (officer 11))
@@ -103,7 +100,7 @@ load_one = (
     countersigned = record { two = λ h. refl; three = λ h. refl };
     regions = refl;
   },
-  version_two _ _,
+  version_two_may_follow _ _,
 )
 
 load_three : Ruled (figures_of (take 7 life)) (Change 2 7 6 Load 3 nobody three_renewed by_both None)
@@ -118,7 +115,7 @@ load_three = (
     countersigned = record { two = λ h. absurd (false≢true h); three = λ h. absurd (false≢true h) };
     regions = refl;
   },
-  version_two _ _,
+  version_two_may_follow _ _,
 )
 
 pub ruled : RuledLog life

@@ -11,9 +11,9 @@ use Rattle.mb_model.specs.chains.Lines.{IsBeginning, FailsAtLine, ends_early, Re
 use Rattle.mb_model.specs.chains.Script.{SaysEvent, is_skipped, IsScript}
 use Rattle.mb_model_commands.specs.Inputs.{IsClearInput}
 use Rattle.mb_model_lemmas.proofs.LineLemmas.{HasLines-same, FailsAtLine-none, bad_after}
-use Rattle.mb_model_lemmas.proofs.EventLemmas.{SaysEvent-same, IsScript-same, counts}
+use Rattle.mb_model_lemmas.proofs.EventLemmas.{SaysEvent-same, IsScript-same, counts, says_count}
 use Rattle.mb_script.specs.Reading.{IsLineOf, says, past}
-use Rattle.mb_script.proofs.ScriptReading.{one_kept}
+use Rattle.mb_script.proofs.ScriptReading.{one_kept, push_said}
 use Rattle.mb_tools_device.specs.MachineRuns.{is_cut}
 use Rattle.mb_tools_device.specs.CutCommand.{AreUncut, IsUncutScript, uncut_script_input}
 use Rattle.mb_tools_device.specs.Refusing.{IsFirstRefused, is_missing, is_wrong}
@@ -56,18 +56,6 @@ refused_here events index e is within there why =
     is_wrong (take index events) e (drop (suc index) events) (split_here events index e within there) (length_here events index e within there) is.uncut why
 
 -- ---- its line
-
-said_count : (lines : List (List ℕ)) (events : List Event) → AllZip SaysEvent lines events → length lines ≡ length events
-said_count [] [] said = refl
-said_count [] (e ∷ events) said = absurd said
-said_count (line ∷ lines) [] said = absurd said
-said_count (line ∷ lines) (e ∷ events) said = ap (λ (n : ℕ). suc n) (said_count lines events said.1)
-
-said_push : (lines : List (List ℕ)) (events : List Event) (line : List ℕ) (e : Event) → AllZip SaysEvent lines events → SaysEvent line e → AllZip SaysEvent (lines ++ line ∷ []) (events ++ e ∷ [])
-said_push [] [] line e said here = (here, tt)
-said_push [] (x ∷ events) line e said here = absurd said
-said_push (y ∷ lines) [] line e said here = absurd said
-said_push (y ∷ lines) (x ∷ events) line e said here = (said.0, said_push lines events line e said.1 here)
 
 -- where as many lines stand before a line as events before an event, the one says the other
 said_there : (front later : List (List ℕ)) (line : List ℕ) (before after : List Event) (this : Event) → length front ≡ length before
@@ -120,7 +108,7 @@ goes_on front before said uncut room = record {
   stands = record {
     script = record {
       said = subst (λ (x : List (List ℕ)). AllZip SaysEvent x (before ++ event.Boot ∷ [])) (sym (filter-append counts front (codes "boot" ∷ [])))
-          (said_push (filter counts front) before (codes "boot") event.Boot said refl);
+          (push_said (filter counts front) before (codes "boot") event.Boot said refl);
       most = omega (arith, room, length-append before (event.Boot ∷ []));
     };
     uncut = record {
@@ -185,7 +173,7 @@ pub refused_line : (text : List ℕ) (events : List Event) (index n : ℕ) → R
 refused_line text events index n reads (is_missing none zero) (says front line later has said passed n_is) =
     let same = HasLines-same text reads.lines (front ++ line ∷ later) reads.has has in
     let all = subst (λ (x : List (List ℕ)). AllZip SaysEvent (filter counts x) events) same reads.stands.said in
-    let size = said_count (filter counts (front ++ line ∷ later)) events all in
+    let size = says_count (filter counts (front ++ line ∷ later)) events all in
     let parts = ap length (said_lines front later line said) ∙ length-append (filter counts front) (line ∷ filter counts later) in
     absurd (omega (arith, size, parts, ap length none))
 refused_line text events index n reads (is_missing none zero) (past lines has few n_is) = record {
@@ -206,7 +194,7 @@ refused_line text events index n reads (is_wrong before this after split index_i
     }
 refused_line text events index n reads (is_wrong before this after split index_is uncut why) (past lines has few n_is) =
     let all = subst (λ (x : List (List ℕ)). AllZip SaysEvent (filter counts x) events) (HasLines-same text reads.lines lines reads.has has) reads.stands.said in
-    let size = said_count (filter counts lines) events all in
+    let size = says_count (filter counts lines) events all in
     absurd (omega (arith, size, few, index_is, ap length split, length-append before (this ∷ after)))
 
 -- ---- a script of `cutat` that stands for events is not at fault
