@@ -1,20 +1,16 @@
 -- What writes of code, header and log leave of a flash, and of what the memory holds.
-use Rattle.std.proofs.Common.{◌≡◌, ◌≢◌, ℕ, ◌+◌, ◌*◌, ◌-◌, ◌<◌, ◌≤◌, ◌==◌, ◌⊎◌, inl, inr, Bool, true, false, List, length, drop, OnOk, Result, refl, sym, ap, subst, ◌∙◌, arith, eqb-true}
+use Rattle.std.proofs.Common.{◌≡◌, ◌≢◌, ℕ, ◌+◌, ◌*◌, ◌-◌, ◌<◌, ◌≤◌, ◌==◌, ◌⊎◌, inl, inr, Bool, false, List, length, drop, OnOk, Result, refl, sym, ap, subst, ◌∙◌, arith}
 use Rattle.std.specs.Prelude.{IfSome, None, Some, if◌then◌else◌}
 use Rattle.std.specs.Global.{Vec}
 use Rattle.std.proofs.lemmas.Bool.{cases_order, ne_eqb}
-use Rattle.std.proofs.lemmas.List.{length-take, take-take}
-use Rattle.mb_format.specs.Format.{IsBytes}
-use Rattle.mb_format.proofs.Exact.{IsClear-from_exact}
-use Rattle.mb_model.proofs.HeaderFormatLaws.{header_exact}
+use Rattle.std.proofs.lemmas.List.{take-take}
 use Rattle.mb_model.specs.declared.stored.Root.{Root}
 use Rattle.mb_model.specs.declared.stored.Slot.{Slot}
 use Rattle.mb_model.specs.declared.stored.Header.{Header}
 use Rattle.mb_model.specs.outside.Board.{Memory}
-use Rattle.mb_model.specs.records.HeaderFormat.{header_format}
 use Rattle.mb_model.specs.memories.Meaning.{RootIn, HoldsContents}
 use Rattle.mb_model.specs.outside.Pieces.{part}
-use Rattle.mb_model.specs.memories.Sectors.{header_sector, code_sector, log_sector, BeginsAs}
+use Rattle.mb_model.specs.memories.Sectors.{header_sector, code_sector, log_sector}
 use Rattle.mb_model.specs.memories.Flash.{sector, code_slot, HoldsHeader}
 use Rattle.mb_model_lemmas.proofs.HeldSegments.{front_of_sector, front_of_slot}
 use Rattle.mb_model_lemmas.proofs.PublicLemmas.{bounded_by}
@@ -23,6 +19,7 @@ use Rattle.mb_model_memory.specs.Holding.{KeepsContents}
 use Rattle.mb_model_memory.specs.NextHeaders.{free_slot, IsCodeWritten}
 use Rattle.mb_model_memory.proofs.FlashFrames.{sector_apart, torn_log, torn_header, torn_code}
 use Rattle.mb_model_memory.proofs.FrameLemmas.{other_flash}
+use Rattle.mb_model_memory.proofs.FlashWrites.{one_or_two, not_named}
 use Rattle.mb_slot.specs.Slots.{IsSameOutside}
 use Rattle.mb_slot.proofs.Slotted.{on_ok}
 use Rattle.mb_flash.specs.Sectors.{sectors_for}
@@ -35,10 +32,6 @@ use Rattle.mb_area.specs.Flashes.{HasSomeHeader, HoldsSomeHeader, IsPublicWritte
 pub sector_is : (flash : List ℕ) (n from count : ℕ) → from ≡ n → count ≡ 4096 → part (4096 * from) count flash ≡ sector flash n
 unfolding sector
 sector_is flash n from count e f = ap (λ k. part (4096 * k) count flash) e ∙ ap (λ k. part (4096 * n) k flash) f
-
-pub sector_short : (flash : List ℕ) (n : ℕ) → length (sector flash n) ≤ 4096
-unfolding sector
-sector_short flash n = omega (arith, length-take 4096 (drop (4096 * n) flash))
 
 pub sector_written : {E : Type 0} (n : ℕ) (before after bytes : List ℕ) (result : Result (Unit {0}) E) → length bytes ≤ 4096 → IsSameOutside (4096 * n) 4096 before after
     → OnOk result (part (4096 * n) (length bytes) after ≡ bytes) → OnOk result (IsSectorWritten n bytes before after)
@@ -63,11 +56,6 @@ code_there flash front layer slot n is short there =
 
 -- ---- the header of an area
 
--- bytes begin with no other header than the one that was found
-pub one_found : (bytes : List ℕ) (found header : Header) → IsBytes bytes → BeginsAs header_format bytes found → BeginsAs header_format bytes header → found ≡ header
-one_found bytes found header are a b =
-    ((IsClear-from_exact header_exact).one_value bytes 0 found header a.after b.after (record { are_bytes = are; within = omega arith }) a.spelled b.spelled).0
-
 -- the bytes of an area, as they were read
 pub as_read : (P : List ℕ → Type 0) (flash bytes : List ℕ) (n area : ℕ) → n ≡ header_sector area → bytes ≡ sector flash n → P (sector flash (header_sector area)) → P bytes
 as_read P flash bytes n area is same p = subst P (ap (sector flash) (sym is) ∙ sym same) p
@@ -86,17 +74,9 @@ slot_three header layer one two = by_tests (layer == 1) (layer == 2) header (ne_
 
 -- ---- code
 
-not_named : (b : Bool) (which : ℕ) → (which == 1) ≡ b → which ≢ (if b then 2 else 1)
-not_named true which e same = omega (arith, eqb-true which 1 e, same)
-not_named false which e same = absurd (grind (arith, e, same))
-
-there_by : (b : Bool) → (1 ≤ (if b then 2 else 1)) × ((if b then 2 else 1) ≤ 2)
-there_by true = (omega arith, omega arith)
-there_by false = (omega arith, omega arith)
-
 -- it is one of the two
 pub slot_there : (slot : ℕ) (named : Slot) → slot ≡ free_slot named → (1 ≤ slot) × (slot ≤ 2)
-slot_there slot named is = subst (λ n. (1 ≤ n) × (n ≤ 2)) (sym is) (there_by (named.which == 1))
+slot_there slot named is = subst (λ n. (1 ≤ n) × (n ≤ 2)) (sym is) (one_or_two (named.which == 1))
 
 -- the slot that is not named is free
 pub is_free : (flash : List ℕ) (area layer slot : ℕ) (named : Slot) → slot ≡ free_slot named → ((header : Header) → HoldsHeader flash area header → named ≡ slot_in header layer)

@@ -3,9 +3,9 @@ use Rattle.std.proofs.Common.{◌≡◌, ◌≤◌, ℕ, zero, suc, ◌+◌, Lis
 use Rattle.std.specs.Prelude.{◌==◌, if◌then◌else◌}
 use Rattle.std.specs.Global.{Vec}
 use Rattle.std.specs.Vec.{vec_len, vec_capacity}
-use Rattle.mb_format.specs.Format.{IsBytes, Spells}
+use Rattle.std.proofs.lemmas.Option.{same_Some}
+use Rattle.mb_format.specs.Format.{Spells}
 use Rattle.mb_format.specs.Combinators.{items, number_bytes}
-use Rattle.mb_format.proofs.Exact.{IsClear-from_exact}
 use Rattle.mb_bytes.specs.Puts.{Writes}
 use Rattle.mb_model.specs.declared.entry.Entry.{Entry}
 use Rattle.mb_model.specs.declared.entry.SignedEntry.{SignedEntry}
@@ -23,8 +23,7 @@ use Rattle.mb_model.specs.machine.SignedTexts.{entry_text}
 use Rattle.mb_model.specs.machine.OrderEffects.{entry_signed_by}
 use Rattle.mb_model.specs.memories.StoredLog.{entries_signed_for}
 use Rattle.mb_model.proofs.FormatBounds.{header_short, log_short}
-use Rattle.mb_model.proofs.HeaderFormatLaws.{header_exact}
-use Rattle.mb_model_lemmas.proofs.HeldSegments.{small_header, room_for_unsigned}
+use Rattle.mb_model_lemmas.proofs.HeldSegments.{small_header, room_for_unsigned, header_texts}
 use Rattle.mb_model_lemmas.proofs.SignatureLemmas.{length-signature_of}
 use Rattle.mb_model_memory.specs.NextHeaders.{header_settled}
 use Rattle.mb_model_memory.proofs.FlashHeaders.{header_settled_allowed}
@@ -33,21 +32,12 @@ use Rattle.mb_boot.specs.declared.pending.Signer.{Signer}
 
 -- ---- headers
 
--- bytes begin with one header
-pub one_begun : (bytes : List ℕ) (a b : Header) → IsBytes bytes → BeginsAs header_format bytes a → BeginsAs header_format bytes b → a ≡ b
-one_begun bytes a b are one other =
-    ((IsClear-from_exact header_exact).one_value bytes 0 a b one.after other.after (record { are_bytes = are; within = omega arith }) one.spelled other.spelled).0
-
 count_few : (signed : ℕ) (first second : Option (List ℕ)) → (unsigned_format signed).Allowed (first, second) → count_of first + count_of second ≤ unsigned_limit signed
 unfolding unsigned_format
 count_few signed None None is = omega arith
 count_few signed None (Some second) is = absurd is
 count_few signed (Some first) None is = is.0.1
 count_few signed (Some first) (Some second) is = is.0.1
-
-header_texts : (header : Header) → header_format.Allowed header → (unsigned_format header.signed).Allowed (header.first, header.second)
-unfolding header_format
-header_texts header is = is.1.1.1.1.1
 
 -- the log has room for the texts of a header
 pub texts_have_room : (header : Header) → header_format.Allowed header → header.signed + unsigned_count header ≤ 128
@@ -67,23 +57,15 @@ texts_counted (Some first) (Some second) (u ∷ []) are = absurd are
 texts_counted (Some first) (Some second) (u ∷ v ∷ []) are = refl
 texts_counted (Some first) (Some second) (u ∷ v ∷ w ∷ us) are = absurd are
 
-text_or : List ℕ → Option (List ℕ) → List ℕ
-text_or other None = other
-text_or other (Some text) = text
-
-same_text : (a b : List ℕ) → Some a ≡ Some b → a ≡ b
-unfolding text_or
-same_text a b is = ap (text_or a) is
-
 fits_by : (signed place : ℕ) (first second : Option (List ℕ)) (text : List ℕ) → place ≤ 1 → (unsigned_format signed).Allowed (first, second)
     → (if place == 0 then first else second) ≡ Some text → (1 ≤ length text) × (length text ≤ 400)
 unfolding unsigned_format items entry_bytes_format
 fits_by signed zero None second text low is own = absurd (cc)
-fits_by signed zero (Some first) None text low is own = subst (λ (t : List ℕ). (1 ≤ length t) × (length t ≤ 400)) (same_text first text own) is.1.0.0
-fits_by signed zero (Some first) (Some second) text low is own = subst (λ (t : List ℕ). (1 ≤ length t) × (length t ≤ 400)) (same_text first text own) is.1.0.0
+fits_by signed zero (Some first) None text low is own = subst (λ (t : List ℕ). (1 ≤ length t) × (length t ≤ 400)) (same_Some first text own) is.1.0.0
+fits_by signed zero (Some first) (Some second) text low is own = subst (λ (t : List ℕ). (1 ≤ length t) × (length t ≤ 400)) (same_Some first text own) is.1.0.0
 fits_by signed (suc zero) first None text low is own = absurd (cc)
 fits_by signed (suc zero) None (Some second) text low is own = absurd is
-fits_by signed (suc zero) (Some first) (Some second) text low is own = subst (λ (t : List ℕ). (1 ≤ length t) × (length t ≤ 400)) (same_text second text own) is.1.1.0.0
+fits_by signed (suc zero) (Some first) (Some second) text low is own = subst (λ (t : List ℕ). (1 ≤ length t) × (length t ≤ 400)) (same_Some second text own) is.1.1.0.0
 fits_by signed (suc (suc n)) first second text low is own = absurd (omega (arith, low))
 
 -- the text at a place of a header has the length of an entry
@@ -225,13 +207,13 @@ next_by device uses outgoing zero None (Some second) us text low are is = absurd
 next_by device uses outgoing zero (Some first) None [] text low are is = absurd are
 next_by device uses outgoing zero (Some first) None (u ∷ []) text low are is =
     subst (IsNext device uses outgoing 0 text) (sym (made_one device uses outgoing u))
-    (record { entry = u; spelled = subst (λ (t : List ℕ). Spells entry_format t u) (same_text first text is) are; size = refl; next = refl })
+    (record { entry = u; spelled = subst (λ (t : List ℕ). Spells entry_format t u) (same_Some first text is) are; size = refl; next = refl })
 next_by device uses outgoing zero (Some first) None (u ∷ v ∷ us) text low are is = absurd are
 next_by device uses outgoing zero (Some first) (Some second) [] text low are is = absurd are
 next_by device uses outgoing zero (Some first) (Some second) (u ∷ []) text low are is = absurd are
 next_by device uses outgoing zero (Some first) (Some second) (u ∷ v ∷ []) text low are is =
     subst (IsNext device uses outgoing 0 text) (sym (made_two device uses outgoing u v))
-    (record { entry = u; spelled = subst (λ (t : List ℕ). Spells entry_format t u) (same_text first text is) are.0; size = refl; next = refl })
+    (record { entry = u; spelled = subst (λ (t : List ℕ). Spells entry_format t u) (same_Some first text is) are.0; size = refl; next = refl })
 next_by device uses outgoing zero (Some first) (Some second) (u ∷ v ∷ w ∷ us) text low are is = absurd are
 next_by device uses outgoing (suc zero) first None us text low are is = absurd (cc)
 next_by device uses outgoing (suc zero) None (Some second) us text low are is = absurd are
@@ -239,7 +221,7 @@ next_by device uses outgoing (suc zero) (Some first) (Some second) [] text low a
 next_by device uses outgoing (suc zero) (Some first) (Some second) (u ∷ []) text low are is = absurd are
 next_by device uses outgoing (suc zero) (Some first) (Some second) (u ∷ v ∷ []) text low are is =
     subst (IsNext device uses outgoing 1 text) (sym (made_two device uses outgoing u v))
-    (record { entry = v; spelled = subst (λ (t : List ℕ). Spells entry_format t v) (same_text second text is) are.1; size = refl; next = refl })
+    (record { entry = v; spelled = subst (λ (t : List ℕ). Spells entry_format t v) (same_Some second text is) are.1; size = refl; next = refl })
 next_by device uses outgoing (suc zero) (Some first) (Some second) (u ∷ v ∷ w ∷ us) text low are is = absurd are
 next_by device uses outgoing (suc (suc n)) first second us text low are is = absurd (omega (arith, low))
 

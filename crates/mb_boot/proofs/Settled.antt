@@ -1,5 +1,5 @@
 -- How the steps of settling join.
-use Rattle.std.proofs.Common.{◌≡◌, ◌≢◌, ℕ, zero, suc, ◌+◌, ◌-◌, ◌*◌, ◌<◌, ◌≤◌, inl, inr, List, [], ◌∷◌, ◌++◌, length, take, drop, Option, None, Some, Ok, refl, sym, ap, subst, ◌∙◌, arith, append_assoc, length-append}
+use Rattle.std.proofs.Common.{◌≡◌, ◌≢◌, ℕ, zero, suc, ◌+◌, ◌-◌, ◌<◌, ◌≤◌, inl, inr, List, [], ◌∷◌, ◌++◌, length, take, Option, None, Some, Ok, refl, sym, ap, subst, ◌∙◌, arith, append_assoc, length-append}
 use Rattle.std.proofs.lemmas.List.{append-nil, length-take}
 use Rattle.mb_format.specs.Format.{Spells}
 use Rattle.mb_model.specs.declared.entry.SignedEntry.{SignedEntry}
@@ -21,6 +21,7 @@ use Rattle.mb_model.specs.memories.Clean.{root_of}
 use Rattle.mb_model.specs.memories.Valid.{IsValidState}
 use Rattle.mb_model_lemmas.proofs.HeldSegments.{begins_with, segments_fit}
 use Rattle.mb_model_lemmas.proofs.PublicLemmas.{IsBounded, bounded_by, length-signed_for}
+use Rattle.mb_model_lemmas.proofs.OneFlash.{sector_short}
 use Rattle.mb_model_memory.specs.Commits.{two_done, both_done, at_rest, has_both}
 use Rattle.mb_model.specs.memories.Spared.{SparesSectors}
 use Rattle.mb_model_memory.specs.FlashInForce.{AgreeForArea, IsUncounted, IsSectorWritten}
@@ -162,10 +163,6 @@ begins_here : (memory : Memory) (root : Root) (bytes : List ℕ) (contents : Con
 begins_here memory root bytes contents only is holds =
     subst (λ (xs : List ℕ). BeginsAs header_format xs holds.public.header) (sym is)
     (subst (λ (r : Root). HoldsHeader memory.flash r.area holds.public.header) (only.only contents.root holds.root) holds.public.begins)
-
-sector_short : (flash : List ℕ) (n : ℕ) → length (sector flash n) ≤ 4096
-unfolding sector
-sector_short flash n = omega (arith, length-take 4096 (drop (4096 * n) flash))
 
 pub header_is_read : (memory : Memory) (root : Root) (bytes : List ℕ) → IsLive memory → IsOnlyRoot memory.bbram root → bytes ≡ sector memory.flash (header_sector root.area) → BeginsWithHeader bytes
 header_is_read memory root bytes live only is =

@@ -13,8 +13,6 @@ use Rattle.mb_model.specs.declared.order.Act.{Act}
 use Rattle.mb_model.specs.declared.order.Act.TheVariants as act
 use Rattle.mb_model.specs.declared.order.KeyKind.{KeyKind}
 use Rattle.mb_model.specs.declared.order.Order.{Order}
-use Rattle.mb_model.specs.declared.order.OrderKind.{OrderKind}
-use Rattle.mb_model.specs.declared.order.OrderKind.TheVariants as kinds
 use Rattle.mb_model.specs.declared.state.Codes.{Codes}
 use Rattle.mb_model.specs.declared.state.Figures.{Figures}
 use Rattle.mb_model.specs.declared.state.State.{State}
@@ -29,8 +27,8 @@ use Rattle.mb_model.specs.records.HeaderFormat.{first_text, second_text, header_
 use Rattle.mb_model.specs.owners.Log.{figures_of, entries_of}
 use Rattle.mb_model.specs.machine.OrderChecks.{view_of, needs_succession, Passes}
 use Rattle.mb_model.specs.machine.OrderEffects.{entry_signed_by, state_after_succession, state_after_change, state_after_new_key, ready_for, codes_after, state_after_act, state_after_order}
-use Rattle.mb_model.specs.records.OrderFormat.{body_format, order_format}
-use Rattle.mb_model.specs.owners.Rules.{kind_of, least_layer, MayBeFor}
+use Rattle.mb_model.specs.records.OrderFormat.{order_format}
+use Rattle.mb_model.specs.owners.Rules.{kind_of}
 use Rattle.mb_model.specs.memories.Sectors.{header_sector, BeginsAs}
 use Rattle.mb_model.specs.memories.StoredLog.{entries_signed_for, outgoing_of, log_completed_by}
 use Rattle.mb_model.specs.memories.Valid.{IsValidState}
@@ -39,6 +37,7 @@ use Rattle.mb_orders.specs.declared.plan.Plan.{Plan}
 use Rattle.mb_orders.specs.Judging.{plan_by}
 use Rattle.mb_model_lemmas.proofs.AdditionLemmas.{device_is, uses_are}
 use Rattle.mb_model_lemmas.proofs.PublicLemmas.{entry_from_signed}
+use Rattle.mb_model_lemmas.proofs.OneFlash.{sector_short}
 use Rattle.mb_model_memory.specs.Commits.{root_for, new_entries, at_rest}
 use Rattle.mb_model_memory.specs.Holding.{Holds, IsReady}
 use Rattle.mb_model_memory.specs.NextHeaders.{code_brought, texts_of_entries, header_after}
@@ -46,7 +45,7 @@ use Rattle.mb_model_memory.specs.Storable.{IsStorableState}
 use Rattle.mb_model_memory.proofs.CommitLemmas.{kept_ready, obeyed_serial, committed_log, commit_counted}
 use Rattle.mb_model_memory.proofs.FlashHeaders.{entries_have_texts, code_brought_short}
 use Rattle.mb_model_memory.proofs.StorableMemories.{stands_storable}
-use Rattle.mb_model_memory.proofs.StorableOrders.{obeyed_storable}
+use Rattle.mb_model_memory.proofs.StorableOrders.{obeyed_storable, least_one, may_be_for}
 use Rattle.mb_layout.specs.declared.room.Room.{Room}
 use Rattle.mb_boot.specs.Settling.{IsOnlyRoot}
 use Rattle.mb_device_orders.specs.declared.judging.Judged.{Judged}
@@ -57,7 +56,7 @@ use Rattle.mb_signer.specs.Tree.{IsTreeOf}
 use Rattle.mb_device_orders.specs.declared.remembering.Known.{Known}
 use Rattle.mb_device_orders.specs.Remembering.{IsDeviceTree, Knows}
 use Rattle.mb_device_orders.specs.Planning.{BringsShortCode, CanTake, IsToWrite, PassesAs, HasPassed, IsCommit}
-use Rattle.mb_device_orders.proofs.Remembered.{rest_in, root_is, public_in, sector_short}
+use Rattle.mb_device_orders.proofs.Remembered.{rest_in, root_is, public_in}
 
 -- ---- the codes
 
@@ -161,18 +160,6 @@ new_fit state order draw valid is allowed passes =
     }
 
 -- ---- the header
-
--- the layer of an order that has a spelling
-least_one : (kind : OrderKind) → 1 ≤ least_layer kind
-least_one kinds.Establish = omega arith
-least_one kinds.Surrender = omega arith
-least_one kinds.Load = omega arith
-least_one kinds.Emergency = omega arith
-least_one kinds.NewKey = omega arith
-
-may_be_for : (order : Order) → order_format.Allowed order → MayBeFor (kind_of order.act) order.layer
-unfolding order_format body_format
-may_be_for order allowed = allowed.0.1.0
 
 pub order_layer : (order : Order) → order_format.Allowed order → (1 ≤ order.layer) × (order.layer ≤ 3)
 order_layer order allowed = let is = may_be_for order allowed in (omega (arith, is.0, least_one (kind_of order.act)), is.1)

@@ -1,10 +1,9 @@
 -- What the memory of a device that is ready tells of its state.
-use Rattle.std.proofs.Common.{◌≡◌, ◌≤◌, ◌*◌, ℕ, List, [], length, drop, Option, None, Some, Result, Ok, Err, sym, ap, subst, ◌∙◌, arith}
+use Rattle.std.proofs.Common.{◌≡◌, ◌≤◌, ℕ, List, [], length, Option, None, Some, Result, Ok, Err, sym, ap, subst, ◌∙◌, arith}
 use Rattle.std.specs.Prelude.{IfSome}
 use Rattle.std.specs.Result.{result_ok}
-use Rattle.std.proofs.lemmas.List.{length-take, take_all}
-use Rattle.mb_format.specs.Format.{Format, IsBytes, SpelledAt, Spells}
-use Rattle.mb_format.specs.Reading.{IsExact}
+use Rattle.std.proofs.lemmas.List.{take_all}
+use Rattle.mb_format.specs.Format.{IsBytes, SpelledAt, Spells}
 use Rattle.mb_format.proofs.Exact.{IsClear-from_exact}
 use Rattle.mb_bytes.specs.declared.cursor.Cursor.{Cursor}
 use Rattle.mb_bytes.specs.Reads.{bad_at, ReadsExactly}
@@ -17,14 +16,15 @@ use Rattle.mb_model.specs.declared.stored.Root.{Root}
 use Rattle.mb_model.specs.outside.Board.{Memory}
 use Rattle.mb_model.specs.memories.Clean.{root_of}
 use Rattle.mb_model.specs.records.EntryFormat.{entry_format}
-use Rattle.mb_model.specs.memories.Flash.{sector, HoldsHeader, HoldsEntry, HoldsLog, HoldsPublic}
+use Rattle.mb_model.specs.memories.Flash.{HoldsHeader, HoldsEntry, HoldsLog, HoldsPublic}
 use Rattle.mb_model.specs.records.HeaderFormat.{entry_bytes_format, header_format, log_format}
 use Rattle.mb_model.specs.owners.Log.{figures_of, entries_of}
 use Rattle.mb_model.specs.memories.Meaning.{RootIn}
 use Rattle.mb_model.specs.memories.Sectors.{BeginsAs}
 use Rattle.mb_model.proofs.EntryFormatLaws.{entry_exact}
-use Rattle.mb_model.proofs.HeaderFormatLaws.{header_exact, log_exact}
+use Rattle.mb_model.proofs.HeaderFormatLaws.{log_exact}
 use Rattle.mb_model_lemmas.proofs.HeldSegments.{begins_with, small_header}
+use Rattle.mb_model_lemmas.proofs.OneFlash.{one_begun}
 use Rattle.mb_model_memory.specs.Commits.{at_rest}
 use Rattle.mb_model_memory.specs.Holding.{Holds, IsReady, HasReady}
 use Rattle.mb_model_memory.proofs.RestLemmas.{clean_and_stands, rests_by_root}
@@ -91,17 +91,6 @@ device_in_force memory root known is only =
 
 pub small_header_signed : (bytes : List ℕ) (header : Header) → BeginsAs header_format bytes header → header.signed ≤ 128
 small_header_signed bytes header begins = (small_header header begins.spelled.allowed).most
-
-pub sector_short : (flash : List ℕ) (n : ℕ) → length (sector flash n) ≤ 4096
-unfolding sector
-sector_short flash n = omega (arith, length-take 4096 (drop (4096 * n) flash))
-
-one_begun : {A : Type 0} (format : Format A) → IsExact format → (bytes : List ℕ) (a b : A) → IsBytes bytes → BeginsAs format bytes a → BeginsAs format bytes b → a ≡ b
-one_begun format exact bytes a b are one other =
-    ((IsClear-from_exact exact).one_value bytes 0 a b one.after other.after (record { are_bytes = are; within = omega arith }) one.spelled other.spelled).0
-
-pub one_header : (bytes : List ℕ) (a b : Header) → IsBytes bytes → BeginsAs header_format bytes a → BeginsAs header_format bytes b → a ≡ b
-one_header bytes a b are one other = one_begun header_format header_exact bytes a b are one other
 
 -- the text of an entry, and its signature
 one_log : (bytes text other_text signature other_signature : List ℕ) → IsBytes bytes → BeginsAs log_format bytes (text, signature) → BeginsAs log_format bytes (other_text, other_signature) → text ≡ other_text

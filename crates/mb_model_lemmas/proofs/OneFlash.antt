@@ -1,7 +1,8 @@
 -- A flash in segments holds one header in an area, one list of codes, and one log.
-use Rattle.std.proofs.Common.{◌≡◌, ◌<◌, ℕ, zero, suc, ◌+◌, ◌*◌, List, [], ◌∷◌, ◌++◌, length, drop, Option, None, Some, refl, sym, ap, subst, ◌∙◌, arith}
+use Rattle.std.proofs.Common.{◌≡◌, ◌<◌, ℕ, zero, suc, ◌+◌, ◌*◌, List, [], ◌∷◌, ◌++◌, length, drop, Option, None, Some, refl, sym, ap, subst, ◌∙◌, arith, ◌≤◌}
 use Rattle.std.specs.Int.{w8, w16, to_be_bytes}
 use Rattle.std.proofs.Math.Seq.{drop-append_seam}
+use Rattle.std.proofs.lemmas.List.{length-take}
 use Rattle.mb_format.specs.Format.{Format, IsBytes, Spells}
 use Rattle.mb_format.specs.Reading.{IsExact}
 use Rattle.mb_format.specs.Combinators.{number_bytes, items}
@@ -27,6 +28,10 @@ pub IsBytes-sector : (flash : List ℕ) (n : ℕ) → IsBytes flash → IsBytes 
 unfolding sector
 IsBytes-sector flash n are = IsBytes-take 4096 (drop (4096 * n) flash) (IsBytes-drop (4096 * n) flash are)
 
+pub sector_short : (flash : List ℕ) (n : ℕ) → length (sector flash n) ≤ 4096
+unfolding sector
+sector_short flash n = omega (arith, length-take 4096 (drop (4096 * n) flash))
+
 pub front_bytes : (front rest : List ℕ) → IsBytes (front ++ rest) → IsBytes front
 front_bytes front rest are = IsBytes-spelled (front ++ rest) front rest are refl
 
@@ -40,6 +45,9 @@ begun_bytes format bytes a are begins = IsBytes-spelled (drop 0 bytes) (format.s
 pub one_begun : {A : Type 0} (format : Format A) → IsExact format → (bytes : List ℕ) (a b : A) → IsBytes bytes → BeginsAs format bytes a → BeginsAs format bytes b → a ≡ b
 one_begun format exact bytes a b are one other =
     ((IsClear-from_exact exact).one_value bytes 0 a b one.after other.after (record { are_bytes = are; within = omega arith }) one.spelled other.spelled).0
+
+pub one_header_begun : (bytes : List ℕ) (a b : Header) → IsBytes bytes → BeginsAs header_format bytes a → BeginsAs header_format bytes b → a ≡ b
+one_header_begun bytes a b are one other = one_begun header_format header_exact bytes a b are one other
 
 pub one_header : (flash : List ℕ) (area : ℕ) (a b : Header) → IsBytes flash → HoldsHeader flash area a → HoldsHeader flash area b → a ≡ b
 one_header flash area a b are one other = one_begun header_format header_exact (sector flash (header_sector area)) a b (IsBytes-sector flash (header_sector area) are) one other

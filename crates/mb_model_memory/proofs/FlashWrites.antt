@@ -61,11 +61,11 @@ order_held before after old new codes signed unsigned layer act first second hol
 
 -- ---- what an order writes
 
-free_by : (b : Bool) → (1 ≤ (if b then 2 else 1)) × ((if b then 2 else 1) ≤ 2)
-free_by true = (omega arith, omega arith)
-free_by false = (omega arith, omega arith)
+pub one_or_two : (b : Bool) → (1 ≤ (if b then 2 else 1)) × ((if b then 2 else 1) ≤ 2)
+one_or_two true = (omega arith, omega arith)
+one_or_two false = (omega arith, omega arith)
 
-not_named : (b : Bool) (which : ℕ) → (which == 1) ≡ b → which ≢ (if b then 2 else 1)
+pub not_named : (b : Bool) (which : ℕ) → (which == 1) ≡ b → which ≢ (if b then 2 else 1)
 not_named true which e same = omega (arith, eqb-true which 1 e, same)
 not_named false which e same = absurd (grind (arith, e, same))
 
@@ -79,7 +79,7 @@ code_agrees : (before between : List ℕ) (area layer : ℕ) (header : Header) (
     → IsCodeWritten layer (slot_in header layer) code before between → AgreeForArea before between area
 code_agrees before between area layer header None only low least most sized same = subst (λ (f : List ℕ). AgreeForArea before f area) (sym same) (agree_same before area)
 code_agrees before between area layer header (Some code) only low least most sized written =
-    let free = free_by ((slot_in header layer).which == 1) in
+    let free = one_or_two ((slot_in header layer).which == 1) in
     torn_code before between area layer (free_slot (slot_in header layer)) low least most free.0 free.1 (free_is before area layer header only) sized written.0
 
 code_sized : (before between : List ℕ) (layer : ℕ) (slot : Slot) (code : Option (List ℕ)) → length before ≡ 1048576 → IsCodeWritten layer slot code before between → length between ≡ 1048576
@@ -92,7 +92,7 @@ code_over : (before between after : List ℕ) (area layer : ℕ) (slot : Slot) (
 code_over before between after area layer slot act bytes low most sized code written = by_code (code_brought act) code
   where
     same : code_slot after layer (free_slot slot) ≡ code_slot between layer (free_slot slot)
-    same = slot_apart layer (free_slot slot) (header_sector area) 1 between after most (free_by (slot.which == 1)).1 (inl (omega (arith, low))) sized written.same
+    same = slot_apart layer (free_slot slot) (header_sector area) 1 between after most (one_or_two (slot.which == 1)).1 (inl (omega (arith, low))) sized written.same
 
     by_code : (brought : Option (List ℕ)) → IsCodeWritten layer slot brought before between → IfSome brought (BeginsWithBytes (code_slot after layer (free_slot slot)))
     by_code None is = tt

@@ -217,9 +217,9 @@ least_one kinds.Load = omega arith
 least_one kinds.Emergency = omega arith
 least_one kinds.NewKey = omega arith
 
-pub order_layer : (order : Order) → order_format.Allowed order → MayBeFor (kind_of order.act) order.layer
+pub may_be_for : (order : Order) → order_format.Allowed order → MayBeFor (kind_of order.act) order.layer
 unfolding order_format body_format
-order_layer order allowed = allowed.0.1.0
+may_be_for order allowed = allowed.0.1.0
 
 pub order_act : (order : Order) → order_format.Allowed order → (act_by (kind_of order.act) (differs_in order.act)).Allowed order.act
 unfolding order_format body_format
@@ -236,7 +236,7 @@ load_owned layers (act.NewKey kind) k is load = absurd (grind (arith, load))
 can_bring : (ready : State) (order : Order) → IsStorableState ready → order_format.Allowed order → Condition ready.layers (change_by order) order.layer
     → length ready.log + 1 ≤ 128 → CanBring ready order
 can_bring ready order is allowed condition room =
-    let layer = order_layer order allowed in
+    let layer = may_be_for order allowed in
     let brings = order_act order allowed in
     record {
       least = omega (arith, layer.0, least_one (kind_of order.act));
@@ -289,5 +289,5 @@ obeyed_storable state order draw allowed passes is =
     let condition : Condition ready.layers (change_by order) order.layer =
     subst (λ (l : Layers). Condition l (change_by order) order.layer) (sym (kept_ready (λ (s : State). s.layers) state order draw (succeeded_layers state draw))) passes.condition
     in
-    carried_storable ready order order.act draw ready_is (can_bring ready order ready_is allowed condition (ready_room state draw needed passes.log)) (order_layer order allowed).0
+    carried_storable ready order order.act draw ready_is (can_bring ready order ready_is allowed condition (ready_room state draw needed passes.log)) (may_be_for order allowed).0
     (ready_keys state order draw order.layer order.act passes.keys)

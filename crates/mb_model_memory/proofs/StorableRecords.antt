@@ -1,6 +1,6 @@
 -- What can be stored has its records, and these have room.
 use Rattle.std.proofs.Common.{sym, ◌≡◌, ◌≢◌, ◌≤◌, ℕ, ◌+◌, List, [], ◌∷◌, ◌++◌, inl, inr, length, map, Bool, true, false, refl, subst, arith, lit≤, length-append}
-use Rattle.std.specs.Prelude.{◌==◌, nat_lt, All, Option, None, Some, IfSome, if◌then◌else◌}
+use Rattle.std.specs.Prelude.{◌==◌, nat_lt, All, if◌then◌else◌}
 use Rattle.std.specs.List.{AllByRecursion}
 use Rattle.std.proofs.lemmas.List.{length-map}
 use Rattle.std.proofs.lemmas.List.Elements.{All-nil, All-cons, All-head, All-tail, recursion_from_All}
@@ -34,8 +34,7 @@ use Rattle.mb_model.specs.records.RootFormat.{region_key_format, outgoing_format
 use Rattle.mb_model.specs.records.RootFormat.{root_format}
 use Rattle.mb_model.specs.records.RegionFormat.{secret_format, secrets_format, keys_format, region_by, region_format, CanBeWritten}
 use Rattle.mb_model.specs.records.OrderFormat.{order_format}
-use Rattle.mb_model.specs.memories.PublicRecord.{code_format, codes_format, public_entry_format, public_format}
-use Rattle.mb_model.specs.memories.WrittenFlash.{CodesFitSlots}
+use Rattle.mb_model.specs.memories.PublicRecord.{codes_format, public_entry_format, public_format}
 use Rattle.mb_model.specs.memories.WrittenImage.{FitsImage}
 use Rattle.mb_model.specs.memories.OldFlash.{with_signature, without_signature, public_of_parts}
 use Rattle.mb_model.specs.machine.OrderChecks.{needs_succession, Passes, view_of}
@@ -59,6 +58,7 @@ use Rattle.mb_model_memory.specs.Commits.{root_for}
 use Rattle.mb_model_memory.specs.Storable.{IsStorableRegion, IsStorableState}
 use Rattle.mb_model_memory.proofs.StorableFormats.{keep_allowed, some_allowed, none_allowed, born_public_allowed, succession_allowed}
 use Rattle.mb_model_memory.proofs.StorableOrders.{small_length, key_made_allowed, ready_by_storable, obeyed_storable}
+use Rattle.mb_model_memory.proofs.FlashWrites.{one_or_two}
 
 -- ---- the root
 
@@ -109,10 +109,6 @@ outgoing_allowed : (next : Bool) (state : State) → IsValidState state → IsSt
 unfolding outgoing_format
 outgoing_allowed true state valid is = (tt, (is.device, (omega arith, omega (arith, used_few state valid))))
 outgoing_allowed false state valid is = (tt, refl)
-
-one_or_two : (needed : Bool) → (1 ≤ (if needed then 2 else 1)) × ((if needed then 2 else 1) ≤ 2)
-one_or_two true = (omega arith, omega arith)
-one_or_two false = (omega arith, omega arith)
 
 ready_storable : (state : State) (order : Order) (draw : List ℕ) → IsStorableState state → Passes (view_of state) order → IsStorableState (ready_for state order draw)
 ready_storable state order draw is passes = ready_by_storable state draw (needs_succession (view_of state) order) is passes.log

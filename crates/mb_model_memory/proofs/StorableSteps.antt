@@ -171,7 +171,6 @@ uses_allowed number (key ∷ keys) found up are is left =
 pub found_number : (number : ℕ) (keys : List RegionKey) (found : RegionKey) → find (has_number number) keys ≡ Some found → found.number ≡ number
 found_number number keys found is = eqb-true found.number number (found_is (has_number number) keys found is).1
 
-
 -- a region whose keys stand in the order of their numbers can be stored with one more use of a key that has one left
 pub use_region : (number : ℕ) (found : RegionKey) (region : Region) → AllPairs (λ a b. a.number < b.number) region.keys → IsStorableRegion region
     → find (has_number number) region.keys ≡ Some found → found.uses < 32 → IsStorableRegion (record region { keys = with_use number region.keys })

@@ -1,9 +1,9 @@
 -- What a torn write leaves, byte by byte.
 use Rattle.std.proofs.Common.{◌≡◌, ℕ, ◌+◌, ◌-◌, ◌<◌, ◌≤◌, ◌⊎◌, inl, inr, List, [], ◌∷◌, length, get_or, drop, refl, ap, sym, ◌∙◌, arith}
-use Rattle.std.proofs.lemmas.List.{ext_get_or, get_or-take, get_or-drop}
+use Rattle.std.proofs.lemmas.List.{get_or-take, get_or-drop}
 use Rattle.mb_model.specs.outside.Pieces.{part}
 use Rattle.mb_model.specs.outside.Board.{memory_with_bytes}
-use Rattle.mb_model.proofs.Places.{length-part, length-put, take-put_below, drop-put_above, part-put}
+use Rattle.mb_model.proofs.Places.{length-put, take-put_below, drop-put_above, part-put}
 use Rattle.mb_model_memory.proofs.FlashFrames.{part_same}
 use Rattle.mb_board.specs.Calls.{Torn}
 use Rattle.mb_slot.specs.Slots.{IsOutside, IsSameOutside}

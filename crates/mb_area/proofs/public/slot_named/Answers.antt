@@ -1,8 +1,9 @@
 use Rattle.std.proofs.Common.{◌∙◌, ap, length, List, ℕ, arith}
 use Rattle.mb_model.specs.records.HeaderFormat.{header_format}
 use Rattle.mb_model.specs.memories.Sectors.{BeginsAs}
+use Rattle.mb_model_lemmas.proofs.OneFlash.{sector_short}
 use Rattle.mb_area.specs.Flashes.{BeginWithHeader}
-use Rattle.mb_area.proofs.Published.{sector_short, as_read}
+use Rattle.mb_area.proofs.Published.{as_read}
 use Rattle.mb_area.proofs.public.slot_named.Goals as goal
 
 pub slot_at-requires-clause-short : goal.slot_at-requires-clause-short
