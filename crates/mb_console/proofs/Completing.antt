@@ -18,12 +18,12 @@ unfolding count_after_call
 raised_rises n = rises n count_limit (nat_lt n count_limit) refl
 
 -- a line that is printed leaves the read faults
-says_reads : (line : List ℕ) (before after : Outside) → SaysLine line before after → after.read_faults ≡ before.read_faults
+pub says_reads : (line : List ℕ) (before after : Outside) → SaysLine line before after → after.read_faults ≡ before.read_faults
 says_reads line before after (inl prints) = ap (λ o. o.read_faults) prints.stays
 says_reads line before after (inr fails) = ap (λ o. o.read_faults) fails.stays
 
 -- a line that is printed leaves a risen count of write faults risen
-says_writes : (line : List ℕ) (n : ℕ) (before after : Outside) → before.write_faults ≡ count_after_call n → SaysLine line before after → HasRisen n after.write_faults
+pub says_writes : (line : List ℕ) (n : ℕ) (before after : Outside) → before.write_faults ≡ count_after_call n → SaysLine line before after → HasRisen n after.write_faults
 says_writes line n before after is (inl prints) = subst (λ m. HasRisen n m) (sym (ap (λ o. o.write_faults) prints.stays ∙ is)) (raised_rises n)
 says_writes line n before after is (inr fails) =
     subst (λ m. HasRisen n m) (sym (ap (λ o. o.write_faults) fails.stays)) (later n before.write_faults (subst (λ m. HasRisen n m) (sym is) (raised_rises n)) (raised_rises before.write_faults))

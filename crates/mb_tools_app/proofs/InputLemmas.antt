@@ -33,7 +33,7 @@ one_instruction code i j m n are a b =
     ((IsClear-from_exact instruction_exact).one_value code 0 i j m n (record { are_bytes = are; within = omega arith }) a b).0
 
 -- the first instruction of a code stands at its beginning
-stands_first : (code : List ℕ) (i : Instruction) (rest : List ℕ) → instruction_format.Allowed i → code ≡ instruction_format.spelling i ++ rest
+pub stands_first : (code : List ℕ) (i : Instruction) (rest : List ℕ) → instruction_format.Allowed i → code ≡ instruction_format.spelling i ++ rest
     → Stands code 0 i (length (instruction_format.spelling i))
 stands_first code i rest allowed is = record {
   allowed = allowed;
@@ -44,7 +44,7 @@ stands_first code i rest allowed is = record {
 }
 
 -- bytes after others begin as many places later
-drop_past : (front code : List ℕ) (place : ℕ) → drop (length front + place) (front ++ code) ≡ drop place code
+pub drop_past : (front code : List ℕ) (place : ℕ) → drop (length front + place) (front ++ code) ≡ drop place code
 drop_past front code place =
     sym (drop-drop place (length front) (front ++ code)) ∙ ap (drop place) (drop_at front code (length front) refl)
 

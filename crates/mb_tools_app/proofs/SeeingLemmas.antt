@@ -64,10 +64,10 @@ record TellsLine (line : List ℕ) (status : ℕ) (e : Ended) : Type 0 where
   prints : Prints (line_with_lf line) e.before e.after
   status_is : e.status ≡ status
 
-abbrev IsComplete : Ended → Type 0
+abbrev pub IsComplete : Ended → Type 0
 IsComplete e = (e.status ≡ 0) ⊎ (e.status ≡ 7)
 
-never_lacks : (past : Past) (e : Ended) → IsComplete e → WantsMemory past e → ⊥
+pub never_lacks : (past : Past) (e : Ended) → IsComplete e → WantsMemory past e → ⊥
 never_lacks past e (inl zero) wants = omega (arith, zero, wants.stops.status_is)
 never_lacks past e (inr seven) wants = omega (arith, seven, wants.stops.status_is)
 

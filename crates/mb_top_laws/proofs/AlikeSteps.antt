@@ -7,25 +7,13 @@ use Rattle.mb_format.proofs.Fields.{same_bytes-refl, same_bytes-true}
 use Rattle.mb_model.specs.declared.limits.TheConstants.{FILE_LIMIT}
 use Rattle.mb_model.specs.outside.Texts.{line_with_lf}
 use Rattle.mb_model_commands.specs.declared.role.Place.{Place}
-use Rattle.mb_model_commands.specs.Outside.{Outside, HasRisen, count_after_call, read_once, by_fault, by_absence, WritesFile, Prints}
+use Rattle.mb_model_commands.specs.Outside.{Outside, HasRisen, read_once, by_fault, by_absence, WritesFile, Prints}
 use Rattle.mb_model_commands.specs.Commands.{Input, Output, Command, read, find, either_command, write, print, refuse, lack, Past, Ended, SaysLine, Stops, WantsMemory, HasRead, InputEnds, input_is_too_long, input_is_faulty, input_is_not_read, memory_lacks, WriteEnds, PrintEnds, text_is_printed, text_is_not_printed, CommandEnds, IsFaultless, end_seen_from, at_first, input_line, role_word, place_words}
 use Rattle.mb_model_histories.specs.KeyFileLaws.{Files}
 use Rattle.mb_top_laws.specs.EndLaws.{ShowsAll, EndsUndisturbed, AreAlike}
-use Rattle.mb_console.proofs.Completing.{raised_rises}
+use Rattle.mb_console.proofs.Completing.{raised_rises, says_reads, says_writes}
 
 -- ---- faults
-
--- a line that is printed leaves a risen count of write faults risen
-says_writes : (line : List ℕ) (n : ℕ) (before after : Outside) → before.write_faults ≡ count_after_call n → SaysLine line before after → HasRisen n after.write_faults
-says_writes line n before after is (inl prints) = subst (λ (m : ℕ). HasRisen n m) (sym (ap (λ (o : Outside). o.write_faults) prints.stays ∙ is)) (raised_rises n)
-says_writes line n before after is (inr fails) =
-    subst (λ (m : ℕ). HasRisen n m) (sym (ap (λ (o : Outside). o.write_faults) fails.stays)) (later n before.write_faults (subst (λ (m : ℕ). HasRisen n m) (sym is) (raised_rises n)) (raised_rises before.write_faults))
-  where
-    later : (n mid : ℕ) → HasRisen n mid → HasRisen mid (count_after_call mid) → HasRisen n (count_after_call mid)
-    later n mid (inl rose) (inl more) = inl (omega arith)
-    later n mid (inl rose) (inr full) = inr full
-    later n mid (inr full) (inl more) = inr (omega arith)
-    later n mid (inr full) (inr still) = inr still
 
 -- ---- what is seen
 
@@ -114,11 +102,6 @@ data Ends {A : Type 0} (input : Input A) (past : Past) (files : Files) (printed 
 
 read_shown : (before : Outside) (files : Files) (printed : List ℕ) → ShowsAll before files printed → ShowsAll (read_once before) files printed
 read_shown before files printed shown = record { files_are = shown.files_are; printed_is = shown.printed_is }
-
--- a line that is printed leaves the read faults
-says_reads : (line : List ℕ) (before after : Outside) → SaysLine line before after → after.read_faults ≡ before.read_faults
-says_reads line before after (inl prints) = ap (λ (o : Outside). o.read_faults) prints.stays
-says_reads line before after (inr fails) = ap (λ (o : Outside). o.read_faults) fails.stays
 
 input_ends : {A : Type 0} (input : Input A) (past : Past) (files : Files) (printed : List ℕ) (e : Ended) → ShowsAll e.before files printed → IsFaultless e.before e.after → e.status ≢ 6
     → InputEnds input past e → Ends input past files printed e

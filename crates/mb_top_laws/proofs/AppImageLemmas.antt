@@ -1,5 +1,5 @@
 -- The ends of `app` over two images.
-use Rattle.std.proofs.Common.{◌≡◌, ◌≢◌, ◌≤◌, ◌⊎◌, ℕ, List, [], ◌∷◌, ◌++◌, codes, length, inl, inr, Option, None, Some, Bool, true, false, refl, sym, ap, ◌∙◌, subst, arith, length-append, if◌then◌else◌}
+use Rattle.std.proofs.Common.{◌≡◌, ◌≢◌, ◌≤◌, ℕ, List, [], ◌∷◌, ◌++◌, codes, length, inl, inr, Option, None, Some, Bool, true, false, refl, sym, ap, ◌∙◌, subst, arith, length-append, if◌then◌else◌}
 use Rattle.std.specs.Prelude.{◌==◌, find}
 use Rattle.std.proofs.lemmas.List.{append_cancel_left}
 use Rattle.std.proofs.lemmas.Option.{same_Some}
@@ -30,7 +30,7 @@ use Rattle.mb_model_histories.specs.KeyFileLaws.{Files}
 use Rattle.mb_tools_app.specs.AppCommand.{RunsStoredCode, AppNames, app, app_device, run_stored_code, code_of_layer, app_line, tell_end}
 use Rattle.mb_tools_app.specs.AppInputs.{app_input}
 use Rattle.mb_tools_app.specs.Seeing.{ShowsPrinted}
-use Rattle.mb_tools_app.proofs.SeeingLemmas.{app_sees_nothing_else}
+use Rattle.mb_tools_app.proofs.SeeingLemmas.{app_sees_nothing_else, IsComplete, never_lacks}
 use Rattle.mb_model_histories.proofs.KeyFileLemmas.{stopped_files}
 use Rattle.mb_top_laws.proofs.FileLemmas.{input_undone}
 use Rattle.mb_top_laws.proofs.StoredCodes.{image_codes}
@@ -201,13 +201,6 @@ images_alike_have_equal_ends names past e files now image other told holds (live
 )
 
 -- ---- what is printed
-
-abbrev IsComplete : Ended → Type 0
-IsComplete e = (e.status ≡ 0) ⊎ (e.status ≡ 7)
-
-never_lacks : (past : Past) (e : Ended) → IsComplete e → WantsMemory past e → ⊥
-never_lacks past e (inl done) wants = omega (arith, done, wants.stops.status_is)
-never_lacks past e (inr refused) wants = omega (arith, refused, wants.stops.status_is)
 
 never_stops : (line : List ℕ) (status : ℕ) (past : Past) (e : Ended) → IsComplete e → status ≢ 7 → status ≢ 0 → Stops line status past e → ⊥
 never_stops line status past e (inl done) not_seven not_zero stops = not_zero (sym stops.status_is ∙ done)

@@ -8,6 +8,7 @@ use Rattle.std.proofs.lemmas.Option.{same_Some}
 use Rattle.mb_format.specs.Format.{IsBytes}
 use Rattle.mb_format.specs.Combinators.{same_bytes}
 use Rattle.mb_format.proofs.Fields.{same_bytes-refl, same_bytes-true}
+use Rattle.mb_format.proofs.Exact.{IsBytes-none, IsBytes-append, IsBytes-replicate}
 use Rattle.mb_model.specs.declared.event.Event.{Event}
 use Rattle.mb_model.specs.declared.event.Event.TheVariants as event
 use Rattle.mb_model.specs.declared.event.Answered.{Answered}
@@ -35,7 +36,7 @@ use Rattle.mb_model_runs.proofs.StatementLemmas.{statements_stay_accepted}
 use Rattle.mb_model_histories.specs.PowerLaws.{HasOwnAnswer}
 use Rattle.mb_model_histories.specs.KeyFileLaws.{Files}
 use Rattle.mb_top_laws.specs.EndLaws.{EndsUndisturbed, dead_names, dead_files, LackingRunsDiffer, ImagesMayDiffer}
-use Rattle.mb_top_laws.proofs.FreshHosts.{fresh, after_print, after_write, printed_so, written_so, has_read, none_risen, no_bytes}
+use Rattle.mb_top_laws.proofs.FreshHosts.{fresh, after_print, after_write, printed_so, written_so, has_read, none_risen}
 use Rattle.mb_top_laws.proofs.AlikeSteps.{files_with}
 use Rattle.mb_top_laws.proofs.AlikeRuns.{written_here}
 
@@ -49,19 +50,9 @@ image_is : image_of (memory_of 255) ≡ written_image None
 unfolding written_image erased_bytes zeros memory_of
 image_is = refl
 
-bytes_of : (n byte : ℕ) → byte < 256 → IsBytes (replicate n byte)
-bytes_of zero byte less i = lit≤ tt
-bytes_of (suc n) byte less zero = less
-bytes_of (suc n) byte less (suc i) = bytes_of n byte less i
-
-bytes_on : (n byte : ℕ) (rest : List ℕ) → byte < 256 → IsBytes rest → IsBytes (replicate n byte ++ rest)
-bytes_on zero byte rest less are i = are i
-bytes_on (suc n) byte rest less are zero = less
-bytes_on (suc n) byte rest less are (suc i) = bytes_on n byte rest less are i
-
 image_bytes : IsBytes (written_image None)
 unfolding written_image erased_bytes zeros
-image_bytes = bytes_on 1048576 255 (replicate 28672 0) (lit≤ tt) (bytes_of 28672 0 (lit≤ tt))
+image_bytes = IsBytes-append (replicate 1048576 255) (replicate 28672 0) (IsBytes-replicate 1048576 255 (lit≤ tt)) (IsBytes-replicate 28672 0 (lit≤ tt))
 
 image_fits : length (written_image None) ≤ 4194304
 image_fits = omega (arith, length-image None tt)
@@ -114,7 +105,7 @@ module _ (this : Event) (answer : Reply) (byte : ℕ) (leaves : LeavesDead this 
         last = dead_world;
         run = steps;
         shown = record { stands = stands byte; phase = refl; armed = refl };
-        bytes = record { flash = bytes_of 1048576 byte leaves.is_byte; bbram = bytes_of 28672 0 (lit≤ tt) };
+        bytes = record { flash = IsBytes-replicate 1048576 byte leaves.is_byte; bbram = IsBytes-replicate 28672 0 (lit≤ tt) };
         clean = λ when. (zero_length, blank);
         kept = tt;
         sound = run_is_sound dead_world (told this answer) dead_world steps tt;
@@ -199,7 +190,7 @@ module _ (script printed : List ℕ) (this : Event) (answer : Reply) (byte : ℕ
           is.reads,
           inr (
             [],
-            has_read (codes "noise") [] (dead_files script) (read_once (read_once before)) refl (at_noise script) no_bytes (lit≤ tt),
+            has_read (codes "noise") [] (dead_files script) (read_once (read_once before)) refl (at_noise script) IsBytes-none (lit≤ tt),
             (
               this ∷ [],
               is.drawn,

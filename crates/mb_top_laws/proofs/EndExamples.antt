@@ -2,6 +2,7 @@
 use Rattle.std.proofs.Common.{ℕ, List, [], ◌++◌, refl, inl, inr, arith, lit≤}
 use Rattle.std.specs.Prelude.{codes}
 use Rattle.std.proofs.lemmas.List.Elements.{All-nil}
+use Rattle.mb_format.proofs.Exact.{IsBytes-none}
 use Rattle.mb_model.specs.outside.Board.{Held, held_at_load, not_used}
 use Rattle.mb_model.specs.outside.Texts.{line_with_lf}
 use Rattle.mb_model_commands.specs.Outside.{Outside, count_after_call, read_once, by_fault}
@@ -13,7 +14,7 @@ use Rattle.mb_top.specs.Top.{command_of}
 use Rattle.mb_tools_app.specs.AppInputs.{IsCodeOf}
 use Rattle.mb_tools_app.specs.AssemblyCommands.{line_of_count, disasm}
 use Rattle.mb_top_laws.specs.EndLaws.{empty_files, DisturbedEndsDiffer}
-use Rattle.mb_top_laws.proofs.FreshHosts.{fresh, after_print, after_write, printed_so, written_so, has_read, none_risen, no_bytes}
+use Rattle.mb_top_laws.proofs.FreshHosts.{fresh, after_print, after_write, printed_so, written_so, has_read, none_risen}
 
 -- a board that was loaded with nothing
 abbrev empty_held : Held
@@ -41,7 +42,7 @@ module _ (given : List Argument) (printed : List ℕ) where
   unfolding CommandEnds disasm
   done_ends = inr (
     [],
-    has_read _ [] empty_files start refl refl no_bytes (lit≤ tt),
+    has_read _ [] empty_files start refl refl IsBytes-none (lit≤ tt),
     (
       [],
       no_code,

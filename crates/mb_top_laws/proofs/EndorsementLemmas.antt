@@ -1,9 +1,9 @@
 -- What calls of `endorse` and `endorsed` come to.
-use Rattle.std.proofs.Common.{zero, suc, ◌≡◌, ◌≢◌, ◌<◌, ◌≤◌, ◌⊎◌, ◌^◌, ◌%◌, ◌/◌, ℕ, ◌+◌, ◌-◌, List, [], ◌∷◌, ◌++◌, inl, inr, Option, None, Some, Bool, true, false, true≢false, refl, sym, ap, ◌∙◌, subst, arith, codes, length, length-append, if◌then◌else◌}
+use Rattle.std.proofs.Common.{suc, ◌≡◌, ◌≢◌, ◌<◌, ◌≤◌, ◌⊎◌, ◌^◌, ◌%◌, ◌/◌, ℕ, ◌+◌, ◌-◌, List, [], ◌∷◌, ◌++◌, inl, inr, None, Some, Bool, true, false, refl, sym, ap, ◌∙◌, subst, arith, codes, length, length-append, if◌then◌else◌}
 use Rattle.std.specs.Prelude.{All, map}
 use Rattle.std.specs.Int.{w32, w64, to_be_bytes}
 use Rattle.mb_format.specs.Combinators.{number_bytes}
-use Rattle.mb_format.proofs.Exact.{IsBytes-spelled}
+use Rattle.mb_format.proofs.Exact.{IsBytes-spelled, IsBytes-none, IsBytes-append, IsBytes-cons}
 use Rattle.std.proofs.lemmas.List.Elements.{All-nil, All-cons, All-weaker}
 use Rattle.std.proofs.lemmas.List.Kept.{AllPairs-cons}
 use Rattle.std.proofs.lemmas.Option.{same_Some}
@@ -24,11 +24,11 @@ use Rattle.mb_model.proofs.KeyFormatLaws.{public_key_exact}
 use Rattle.mb_model_commands.specs.declared.role.Place.{Place}
 use Rattle.mb_model_commands.specs.declared.role.Role.{Role}
 use Rattle.mb_model_commands.specs.declared.role.Role.TheVariants as role
-use Rattle.mb_model_commands.specs.Commands.{Input, Command, read, write, print, HasRead, Past, Ended, end_seen_from, SaysLine, input_is_too_long, input_is_faulty, input_is_not_read, memory_lacks, PrintEnds, text_is_printed, text_is_not_printed, CommandEnds, at_first, IsFaultless, HasInputsFor, ComesToRefusal, role_word}
+use Rattle.mb_model_commands.specs.Commands.{Input, Command, read, write, print, HasRead, Past, Ended, end_seen_from, input_is_too_long, input_is_faulty, input_is_not_read, memory_lacks, PrintEnds, text_is_printed, text_is_not_printed, CommandEnds, at_first, IsFaultless, HasInputsFor, ComesToRefusal, role_word}
 use Rattle.mb_model_commands.specs.Inputs.{binary_input, root_input}
 use Rattle.mb_model_commands.specs.Outside.{Outside, read_once, by_fault, by_absence, WritesFile, Adds, HasRisen, count_after_call}
 use Rattle.mb_model_commands.specs.Sign.{index_text}
-use Rattle.mb_console.proofs.Completing.{raised_rises, command_completes}
+use Rattle.mb_console.proofs.Completing.{raised_rises, command_completes, says_reads}
 use Rattle.mb_hss.specs.declared.key.HssKey.{HssKey}
 use Rattle.mb_hss.specs.declared.maker.Maker.{Maker}
 use Rattle.mb_hss.specs.ExactFormats.{hss_key_exact, maker_exact}
@@ -42,27 +42,12 @@ use Rattle.mb_hss.proofs.VerifyLemmas.{makers_verify}
 use Rattle.mb_tools_hss.specs.Endorse.{EndorseNames, endorse, endorse_by, endorse_root, use_number, endorsed_text, number_used}
 use Rattle.mb_tools_hss.specs.Endorsed.{EndorsedNames, endorsed, endorsed_under, endorsed_root, judge_endorsement}
 use Rattle.mb_tools_hss.specs.MakerInputs.{maker_input, endorsement_input}
-use Rattle.mb_model_histories.proofs.KeyFileLemmas.{stopped_files}
+use Rattle.mb_model_histories.proofs.KeyFileLemmas.{stopped_files, same_files, out_left}
 use Rattle.mb_top_laws.proofs.FileLemmas.{LeavesFiles, stops_undone, input_undone}
 use Rattle.mb_model_histories.specs.KeyFileLaws.{Files}
 use Rattle.mb_top_laws.specs.EndorsementLaws.{HoldsValue, JudgesEndorsement, SaysEndorsed, EndorsementsAreAccepted, EmptyFilesAreRefused, LeavesMaker, leaves_all, fails_to_write_key, uses_up_number, EndorsingUsesUpItsNumber, EndorseCall, IsCallOn, AreCallsInTurn, UsesNumber, DoneCallsUseNumbers, NumbersInTurnDiffer, IsDoneOver, OldMakersEndorseAgain}
 
 -- ---- files by name
-
-printed_files : (text : List ℕ) (past : Past) (ending : Ended) → past.wrote ≡ true → CommandEnds (print text) past ending → ending.after.files ≡ ending.before.files
-unfolding CommandEnds
-printed_files text past ending wrote (inl (text_is_printed prints used status)) = ap (λ (o : Outside). o.files) prints.stays
-printed_files text past ending wrote (inl (text_is_not_printed mid fails stops)) = stopped_files _ 5 past (end_seen_from mid ending) stops ∙ ap (λ (o : Outside). o.files) fails.stays
-printed_files text past ending wrote (inr wants) = absurd (true≢false (sym wrote ∙ wants.first))
-
--- the files of one name apart
-abbrev ButFor : List ℕ → Files → Files → Type 0
-ButFor name before after = (other : List ℕ) → other ≢ name → after other ≡ before other
-
-same_files : (before after : Files) (o p : Option Files) → o ≡ Some before → p ≡ Some after → p ≡ o → (name : List ℕ) → after name ≡ before name
-same_files before after o p is_before is_after same name =
-    let equal : after ≡ before = same_Some after before (sym is_after ∙ same ∙ is_before) in
-    ap (λ (f : Files). f name) equal
 
 -- a file that is read spells the value that it holds
 one_value : {A : Type 0} (format : Format A) → IsExact format → (name found : List ℕ) (value read_value : A) (outside : Outside) (files : Files) → outside.files ≡ Some files
@@ -72,22 +57,6 @@ one_value format exact name found value read_value outside files is holds has sp
     (IsClearWhole-from_exact exact).one_value found read_value value has.are_bytes spelled (subst (λ b. Spells format b value) (sym same) holds.3)
 
 -- ---- a number is used
-
--- OUT after KEY was written
-out_left : (name text bytes : List ℕ) (role_of : Role) (between after : Files) (ending : Ended) → ending.before.files ≡ Some between → ending.after.files ≡ Some after
-    → CommandEnds (write (record { role = role_of; name = name; bytes = bytes }) (print text)) (record at_first { wrote = true }) ending
-    → ButFor name between after × ((after name ≡ Some bytes) ⊎ (ending.status ≡ 5))
-unfolding CommandEnds
-out_left name text bytes role_of between after ending is_between is_after (inl ends) =
-    let kept = ends.fails.others between is_between in
-    let same : after ≡ kept.0 = same_Some after kept.0 (sym is_after ∙ stopped_files _ 5 _ (end_seen_from ends.mid ending) ends.stops ∙ kept.1) in
-    (λ other apart. ap (λ (f : Files). f other) same ∙ kept.2 other apart, inr ends.stops.status_is)
-out_left name text bytes role_of between after ending is_between is_after (inr (inl (mid, writes, rest))) =
-    let kept = writes.others between is_between in
-    let printed : ending.after.files ≡ mid.files = printed_files text (record at_first { wrote = true }) (end_seen_from mid ending) refl rest in
-    let same : after ≡ kept.0 = same_Some after kept.0 (sym is_after ∙ printed ∙ kept.1) in
-    (λ other apart. ap (λ (f : Files). f other) same ∙ kept.2 other apart, inl (ap (λ (f : Files). f name) same ∙ writes.holds kept.0 kept.1))
-out_left name text bytes role_of between after ending is_between is_after (inr (inr wants)) = absurd (true≢false wants.first)
 
 next_allowed : (maker : Maker) → maker_format.Allowed maker → maker.next ≢ 32 ^ maker.levels → maker_format.Allowed (number_used maker)
 unfolding maker_format
@@ -99,23 +68,12 @@ next_below maker allowed left = omega (arith, allowed.1.1.1.1, left)
 
 -- ---- bytes of a maker's file
 
-cons_bytes : (byte : ℕ) (bytes : List ℕ) → byte < 256 → IsBytes bytes → IsBytes (byte ∷ bytes)
-cons_bytes byte bytes less are zero = less
-cons_bytes byte bytes less are (suc i) = are i
-
-no_bytes : IsBytes []
-no_bytes i = omega arith
-
-append_bytes : (first second : List ℕ) → IsBytes first → IsBytes second → IsBytes (first ++ second)
-append_bytes [] second are also = also
-append_bytes (byte ∷ first) second are also = cons_bytes byte (first ++ second) (are 0) (append_bytes first second (λ i. are (suc i)) also)
-
 byte_of : (n : ℕ) → n % 256 < 256
 byte_of n = omega arith
 
 all_bytes : (numbers : List ℕ) → IsBytes (map (λ n. n % 256) numbers)
-all_bytes [] = no_bytes
-all_bytes (n ∷ numbers) = cons_bytes (n % 256) (map (λ n. n % 256) numbers) (byte_of n) (all_bytes numbers)
+all_bytes [] = IsBytes-none
+all_bytes (n ∷ numbers) = IsBytes-cons (n % 256) (map (λ n. n % 256) numbers) (byte_of n) (all_bytes numbers)
 
 number_is_bytes : (n : ℕ) → IsBytes (to_be_bytes w64 n)
 number_is_bytes n =
@@ -126,9 +84,9 @@ unfolding maker_format number_bytes
 maker_bytes maker are =
     let front : List ℕ = 77 ∷ 66 ∷ 75 ∷ 50 ∷ maker.levels % 256 ∷ [] in
     let seed : IsBytes maker.seed = IsBytes-spelled (maker.seed ++ to_be_bytes w64 maker.next) maker.seed (to_be_bytes w64 maker.next) (λ i. are (suc (suc (suc (suc (suc i)))))) refl in
-    append_bytes front (maker.seed ++ to_be_bytes w64 (maker.next + 1))
+    IsBytes-append front (maker.seed ++ to_be_bytes w64 (maker.next + 1))
     (IsBytes-spelled (maker_format.spelling maker) front (maker.seed ++ to_be_bytes w64 maker.next) are refl)
-    (append_bytes maker.seed (to_be_bytes w64 (maker.next + 1)) seed (number_is_bytes (maker.next + 1)))
+    (IsBytes-append maker.seed (to_be_bytes w64 (maker.next + 1)) seed (number_is_bytes (maker.next + 1)))
 
 -- ---- what a call leaves
 
@@ -443,11 +401,6 @@ old_makers_endorse_again names second_root files maker root other holds held als
 
 -- ---- what `endorsed` comes to
 
--- a line that is said changes no count of reads
-said_reads : (line : List ℕ) (before after : Outside) → SaysLine line before after → after.read_faults ≡ before.read_faults
-said_reads line before after (inl prints) = ap (λ (o : Outside). o.read_faults) prints.stays
-said_reads line before after (inr fails) = ap (λ (o : Outside). o.read_faults) fails.stays
-
 -- An input that is there, short enough and not at fault is read, or memory is lacking.
 read_goes : {A : Type 0} (input : Input A) (rest : A → Command) (past : Past) (e : Ended) (files : Files) (bytes : List ℕ) → e.before.files ≡ Some files → files input.name ≡ Some bytes
     → length bytes ≤ 4194304 → ((place : Place) → IsBytes bytes → input.FaultyAt bytes place → ⊥) → IsFaultless e.before e.after → CommandEnds (read input rest) past e
@@ -463,7 +416,7 @@ read_goes input rest past e files bytes told has fits faultless well (inl (input
     let same : other ≡ bytes = same_Some other bytes (sym (had.held files told) ∙ has) in
     absurd (faultless place (subst IsBytes same had.are_bytes) (subst (λ b. input.FaultyAt b place) same fault))
 read_goes input rest past e files bytes told has fits faultless well (inl (input_is_not_read mid (by_fault is) stops)) =
-    let reads : e.after.read_faults ≡ count_after_call e.before.read_faults = said_reads (codes "read failed " ++ role_word input.role) mid e.after stops.says ∙ ap (λ (o : Outside). o.read_faults) is in
+    let reads : e.after.read_faults ≡ count_after_call e.before.read_faults = says_reads (codes "read failed " ++ role_word input.role) mid e.after stops.says ∙ ap (λ (o : Outside). o.read_faults) is in
     absurd (well.read (subst (λ (n : ℕ). HasRisen e.before.read_faults n) (sym reads) (raised_rises e.before.read_faults)))
 read_goes input rest past e files bytes told has fits faultless well (inl (input_is_not_read mid (by_absence none is) stops)) =
     absurd (grind (arith, sym has ∙ none files told))

@@ -1,21 +1,15 @@
 -- The orders among the events of a script are bytes.
-use Rattle.std.proofs.Common.{◌≡◌, ℕ, List, [], ◌∷◌, length, get_or, inl, inr, sym, ap, subst, arith}
+use Rattle.std.proofs.Common.{◌≡◌, ℕ, List, [], ◌∷◌, length, sym, ap, subst, arith}
 use Rattle.std.specs.Prelude.{All, map, not, filter}
 use Rattle.std.specs.List.{AllZip}
 use Rattle.std.proofs.lemmas.List.Elements.{All-nil, All-cons, All-head, All-tail, All-map, All-weaker}
-use Rattle.hex.proofs.HexLemmas.{decode_of-ok}
-use Rattle.mb_format.specs.Format.{IsBytes}
 use Rattle.mb_model.specs.declared.event.Event.{Event}
 use Rattle.mb_model.specs.declared.event.Event.TheVariants as event
 use Rattle.mb_model.specs.declared.event.Answered.{Answered}
-use Rattle.mb_model.specs.outside.Texts.{IsHex}
 use Rattle.mb_model.specs.chains.Script.{SaysEvent, is_skipped, IsScript, with_before, drawn_event, drawn_events, Drawn}
 use Rattle.mb_model_lemmas.specs.RefusalLaws.{BringsBytes}
 use Rattle.mb_model_lemmas.proofs.LineLemmas.{cons_same}
-
-hex_bytes : (word bytes : List ℕ) → IsHex word bytes → IsBytes bytes
-hex_bytes word bytes (inl dash) = λ i. omega (arith, ap (λ (x : List ℕ). get_or x i 0) dash.1)
-hex_bytes word bytes (inr digits) = (decode_of-ok word bytes digits.1).3
+use Rattle.mb_model_lemmas.proofs.OrderLineLemmas.{IsHex-bytes}
 
 says_bytes : (line : List ℕ) (this : Event) → SaysEvent line this → BringsBytes this
 says_bytes line event.Boot says = tt
@@ -24,7 +18,7 @@ says_bytes line event.Tamper says = tt
 says_bytes line event.Status says = tt
 says_bytes line event.Go says = tt
 says_bytes line (event.Cut count tear) says = tt
-says_bytes line (event.Command text draw) says = hex_bytes says.0.0 text says.0.1
+says_bytes line (event.Command text draw) says = IsHex-bytes says.0.0 text says.0.1
 says_bytes line (event.Put region name value) says = tt
 says_bytes line (event.Get region name) says = tt
 says_bytes line (event.Drop region name) says = tt

@@ -1,5 +1,5 @@
 -- What a host shows that has not been called, and after calls that do not fail.
-use Rattle.std.proofs.Common.{◌≡◌, ◌≢◌, ℕ, ◌≤◌, List, [], ◌++◌, length, Some, refl, sym, ◌∙◌, ap, inl, inr, arith, lit≤}
+use Rattle.std.proofs.Common.{◌≡◌, ◌≢◌, ℕ, ◌≤◌, List, ◌++◌, length, Some, refl, sym, ◌∙◌, ap, inl, inr, arith}
 use Rattle.std.proofs.lemmas.Option.{same_Some}
 use Rattle.mb_format.specs.Format.{IsBytes}
 use Rattle.mb_model_commands.specs.Outside.{Outside, HasRisen, count_after_call, WritesFile, Prints}
@@ -43,6 +43,3 @@ has_read name bytes files outside is at are fits = record {
 pub none_risen : HasRisen 0 0 → ⊥
 none_risen (inl less) = omega (arith, less)
 none_risen (inr full) = omega (arith, full)
-
-pub no_bytes : IsBytes []
-no_bytes i = lit≤ tt

@@ -1,7 +1,7 @@
 -- A code that is listed has one list of instructions, or fails at one place.
 use Rattle.std.proofs.Common.{◌≡◌, ℕ, ◌+◌, List, [], ◌∷◌, ◌++◌, length, drop, refl, sym, ◌∙◌, ap, subst, inl, inr, arith, append_assoc, length-append, append-nil}
 use Rattle.std.specs.Prelude.{All}
-use Rattle.std.proofs.lemmas.List.{drop-drop, drop_at, append_cancel_left}
+use Rattle.std.proofs.lemmas.List.{drop_at, append_cancel_left}
 use Rattle.std.proofs.lemmas.List.Elements.{All-head, All-tail}
 use Rattle.std.proofs.lemmas.List.Concat.{flat_map-cons}
 use Rattle.mb_format.specs.Format.{IsBytes}
@@ -15,27 +15,12 @@ use Rattle.mb_appvm.proofs.Instructions.{instruction_exact}
 use Rattle.mb_appvm.proofs.Listings.{spelling_some}
 use Rattle.mb_appvm.proofs.Clear.{assemblies_are_clear}
 use Rattle.mb_tools_app.specs.AppInputs.{assembly_input, ListingFailsAt, listing_input}
-use Rattle.mb_tools_app.proofs.InputLemmas.{listing_clear}
+use Rattle.mb_tools_app.proofs.InputLemmas.{listing_clear, stands_first, drop_past}
 use Rattle.mb_top_laws.proofs.AlikeSteps.{IsReadOnce}
 
 -- no whole instruction stands at the beginning
 abbrev BeginsWithNone : List ℕ → Type 0
 BeginsWithNone code = (it : Instruction) (next : ℕ) → Stands code 0 it next → ⊥
-
--- the first instruction of a code stands at its beginning
-stands_first : (code : List ℕ) (i : Instruction) (rest : List ℕ) → instruction_format.Allowed i → code ≡ instruction_format.spelling i ++ rest
-    → Stands code 0 i (length (instruction_format.spelling i))
-stands_first code i rest allowed is = record {
-  allowed = allowed;
-  here = is ∙ ap (λ (b : List ℕ). instruction_format.spelling i ++ b) (sym (drop_at (instruction_format.spelling i) rest (length (instruction_format.spelling i)) refl)
-      ∙ ap (drop (length (instruction_format.spelling i))) (sym is));
-  ends = omega arith;
-  within = omega (arith, ap length is, length-append (instruction_format.spelling i) rest);
-}
-
--- bytes after others begin as many places later
-drop_past : (front code : List ℕ) (place : ℕ) → drop (length front + place) (front ++ code) ≡ drop place code
-drop_past front code place = sym (drop-drop place (length front) (front ++ code)) ∙ ap (drop place) (drop_at front code (length front) refl)
 
 stands_after : (front code : List ℕ) (it : Instruction) (next : ℕ) → Stands code 0 it next → Stands (front ++ code) (length front) it (length front + next)
 stands_after front code it next stands = record {
