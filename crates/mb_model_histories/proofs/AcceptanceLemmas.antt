@@ -1,13 +1,11 @@
 -- A statement that is accepted was made, if nothing was forged.
-use Rattle.std.proofs.Common.{◌≡◌, ◌≢◌, ◌<◌, ◌≤◌, ℕ, ◌+◌, ◌^◌, List, [], ◌∷◌, ◌++◌, length, inl, inr, Option, None, Some, Bool, true, false, refl, sym, ap, ◌∙◌, subst, arith, append_assoc, append-nil, length-append}
-use Rattle.std.specs.Prelude.{Result, Ok, Err, not, nat_lt, ◌||◌, IsSomeAnd, IsTrue, unwrap_or, if◌then◌else◌}
+use Rattle.std.proofs.Common.{◌≡◌, ◌≢◌, ◌<◌, ◌≤◌, ℕ, ◌+◌, ◌^◌, List, [], ◌∷◌, ◌++◌, length, inl, inr, Option, None, Some, Bool, true, false, refl, sym, ap, ◌∙◌, subst, arith, length-append}
+use Rattle.std.specs.Prelude.{Result, Ok, Err, not, nat_lt, ◌||◌, IsSomeAnd, IsTrue, if◌then◌else◌}
 use Rattle.std.specs.Int.{w32, to_be_bytes}
-use Rattle.std.specs.Option.{option_or}
 use Rattle.std.proofs.lemmas.Bool.{cases_lt}
 use Rattle.std.proofs.lemmas.List.{map-append}
 use Rattle.std.proofs.lemmas.Option.{same_Some}
 use Rattle.mb_model.specs.declared.entry.Entry.{Entry}
-use Rattle.mb_model.specs.declared.entry.Entry.TheVariants.{Birth, Change, NewKey, Succession}
 use Rattle.mb_model.specs.declared.entry.SignedEntry.{SignedEntry}
 use Rattle.mb_model.specs.declared.entry.Statement.{Statement}
 use Rattle.mb_model.specs.declared.event.Answered.{Answered}
@@ -22,7 +20,7 @@ use Rattle.mb_model.specs.chains.Acceptance.{KeyEntry, key_of, IfStatement, IsCu
 use Rattle.mb_model.specs.owners.Layers.{is_runnable, is_upper, Runnable}
 use Rattle.mb_model.specs.machine.LayerEvents.{Outcome, sign_event}
 use Rattle.mb_model.specs.owners.Lives.{Alive, configuration}
-use Rattle.mb_model.specs.owners.Log.{figures_of, entries_of, is_change, layers_in, serial_in, last_of, number_of, layers_of, serial_of, Ruled, RuledLog}
+use Rattle.mb_model.specs.owners.Log.{entries_of, last_of, number_of, layers_of, serial_of, RuledLog}
 use Rattle.mb_model.specs.machine.Machine.{ratchet, World, Told, running_state_in, region_event, Step, machine_step, lacks_memory, loses_power, Run}
 use Rattle.mb_model.specs.machine.Runs.{BeginsWith}
 use Rattle.mb_model.specs.machine.SignedTexts.{statement_text}
@@ -31,9 +29,9 @@ use Rattle.mb_model.specs.memories.Valid.{IsValidState, Valid}
 use Rattle.mb_model.proofs.KeyLemmas.{same_parts, word_same}
 use Rattle.mb_model_lemmas.proofs.ChainLemmas.{honest_is_front}
 use Rattle.mb_model_lemmas.proofs.LineLemmas.{cons_same}
-use Rattle.mb_model_lemmas.proofs.LogLemmas.{layers_of-push, number_of-push, number_of-append, number_of-le-length, length-entries_of, RuledLog-front, serial_on, layers_on}
+use Rattle.mb_model_lemmas.proofs.LogLemmas.{number_of-le-length, length-entries_of, RuledLog-front, serial_on, layers_on}
 use Rattle.mb_model_lemmas.proofs.PresentLemmas.{alive_lives_now}
-use Rattle.mb_model_lemmas.proofs.ReaderLemmas.{stays_made, flagged_lives, made_on}
+use Rattle.mb_model_lemmas.proofs.ReaderLemmas.{flagged_lives, made_on}
 use Rattle.mb_model_lemmas.proofs.RefusalLemmas.{awake_state}
 use Rattle.mb_model_lemmas.proofs.ValidStates.{valid_is_ruled}
 use Rattle.mb_model_lemmas.proofs.ValidSteps.{run_valid}

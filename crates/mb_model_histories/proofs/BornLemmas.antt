@@ -1,5 +1,5 @@
 -- From the factory on: the chain of a device is accepted under its maker's key, with each statement that was ever answered.
-use Rattle.std.proofs.Common.{◌≡◌, ◌<◌, ℕ, List, [], ◌∷◌, ◌++◌, length, inl, inr, Some, refl, sym, ap, ◌∙◌, subst, arith, length-append}
+use Rattle.std.proofs.Common.{◌≡◌, ◌<◌, ℕ, List, [], ◌∷◌, ◌++◌, inl, inr, Some, refl, sym, ap, ◌∙◌, subst, arith}
 use Rattle.std.specs.Prelude.{All}
 use Rattle.std.proofs.lemmas.List.Elements.{All-nil, All-cons, All-head, All-tail, All-weaker}
 use Rattle.std.proofs.lemmas.Option.{same_Some}
@@ -12,7 +12,7 @@ use Rattle.mb_model.specs.declared.state.State.{State}
 use Rattle.mb_model.specs.chains.Acceptance.{IsBornOf}
 use Rattle.mb_model.specs.memories.Factory.{birth_entry, state_at_birth, IsFactoryImage}
 use Rattle.mb_model.specs.memories.Flash.{HoldsPublic}
-use Rattle.mb_model.specs.owners.Log.{figures_of, entries_of}
+use Rattle.mb_model.specs.owners.Log.{figures_of}
 use Rattle.mb_model.specs.machine.Machine.{World, opening_world, Run}
 use Rattle.mb_model.specs.signatures.Merkle.{Verifies}
 use Rattle.mb_model.specs.machine.OrderEffects.{entry_signed_by}

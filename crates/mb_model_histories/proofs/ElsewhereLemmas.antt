@@ -1,6 +1,6 @@
 -- A statement that was made elsewhere: it is accepted, and no history that leads back to its world makes it.
-use Rattle.std.proofs.Common.{◌≡◌, ◌<◌, ℕ, List, [], ◌∷◌, ◌++◌, Option, Some, refl, sym, ap, ◌∙◌, subst, arith, append_assoc, append-nil}
-use Rattle.std.specs.Prelude.{All, AllPairs, Contains, IsSomeAnd}
+use Rattle.std.proofs.Common.{◌≡◌, ◌<◌, ℕ, List, [], ◌∷◌, ◌++◌, Some, refl, sym, ap, ◌∙◌, subst, arith, append_assoc, append-nil}
+use Rattle.std.specs.Prelude.{All, AllPairs, Contains}
 use Rattle.mb_model.specs.declared.entry.Chain.{Chain}
 use Rattle.mb_model.specs.declared.entry.Entry.{Entry}
 use Rattle.mb_model.specs.declared.entry.SignedEntry.{SignedEntry}
@@ -25,7 +25,7 @@ use Rattle.mb_model_lemmas.proofs.ReaderLemmas.{living_is_flagged}
 use Rattle.mb_model_lemmas.proofs.SignatureLemmas.{signature_verifies}
 use Rattle.mb_model_lemmas.proofs.Splits.{All-split}
 use Rattle.mb_model_lemmas.proofs.ValidStates.{valid_is_ruled}
-use Rattle.mb_model_lemmas.proofs.ListLemmas.{pairs_head}
+use Rattle.mb_model_lemmas.proofs.ListLemmas.{pairs_head, pairs_back}
 use Rattle.mb_model_runs.specs.StatementLaws.{key_entry_of}
 use Rattle.mb_model_runs.proofs.BirthLemmas.{log_is_good, key_of-split}
 use Rattle.mb_model_runs.proofs.KeyLemmas.{key_lives}
@@ -33,7 +33,7 @@ use Rattle.mb_model_runs.proofs.SpentLemmas.{Goes, indices_increase}
 use Rattle.mb_model_runs.proofs.StatementLemmas.{stated_by}
 use Rattle.mb_model_histories.specs.AcceptanceLaws.{WasMade, whole_chain, StatementsMayBeMadeElsewhere}
 use Rattle.mb_model_histories.proofs.AgreementLemmas.{own_chains_are_honest}
-use Rattle.mb_model_histories.proofs.HistoryLemmas.{pairs_back, run_on, runs_lead}
+use Rattle.mb_model_histories.proofs.HistoryLemmas.{run_on, runs_lead}
 
 -- ---- the chain with a statement
 

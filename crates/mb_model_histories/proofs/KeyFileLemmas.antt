@@ -50,10 +50,10 @@ printed_files text past ending wrote (inr wants) = absurd (true≢false (sym wro
 -- ---- files by name
 
 -- the files of one name apart
-abbrev ButFor : List ℕ → Files → Files → Type 0
+abbrev pub ButFor : List ℕ → Files → Files → Type 0
 ButFor name before after = (other : List ℕ) → other ≢ name → after other ≡ before other
 
-same_files : (before after : Files) (o p : Option Files) → o ≡ Some before → p ≡ Some after → p ≡ o → (name : List ℕ) → after name ≡ before name
+pub same_files : (before after : Files) (o p : Option Files) → o ≡ Some before → p ≡ Some after → p ≡ o → (name : List ℕ) → after name ≡ before name
 same_files before after o p is_before is_after same name =
     let equal : after ≡ before = same_Some after before (sym is_after ∙ same ∙ is_before) in
     ap (λ (f : Files). f name) equal
@@ -61,7 +61,7 @@ same_files before after o p is_before is_after same name =
 -- ---- the key is used
 
 -- OUT after the key was written
-out_left : (name text line : List ℕ) (role_of : Role) (between after : Files) (ending : Ended) → ending.before.files ≡ Some between → ending.after.files ≡ Some after
+pub out_left : (name text line : List ℕ) (role_of : Role) (between after : Files) (ending : Ended) → ending.before.files ≡ Some between → ending.after.files ≡ Some after
     → CommandEnds (write (record { role = role_of; name = name; bytes = line }) (print text)) (record at_first { wrote = true }) ending
     → ButFor name between after × ((after name ≡ Some line) ⊎ (ending.status ≡ 5))
 unfolding CommandEnds

@@ -36,10 +36,10 @@ use Rattle.mb_model_lemmas.proofs.LineLemmas.{cons_same}
 use Rattle.mb_model_lemmas.proofs.LogLemmas.{made-le-length, length-entries_of}
 use Rattle.mb_model_lemmas.proofs.ValidStates.{valid_is_ruled, region_is_valid}
 use Rattle.mb_model_runs.proofs.KeptByRuns.{IsKept, run_kept}
+use Rattle.mb_model_runs.proofs.KeyLemmas.{upper_of}
 use Rattle.mb_model_histories.specs.Histories.{History}
 use Rattle.mb_model_histories.specs.KeyLaws.{Collide, device_key_text, officer_key_text, DeviceKeysDiffer, OfficersKeysDiffer, KeysOfDevicesAreNoOfficers, OneNoiseMakesOneKey, IsDerived, HasDerivedKeys, KeysAreDerived, KeysOfOneDeviceDiffer}
 use Rattle.mb_model_histories.proofs.HistoryLemmas.{histories_stay_valid}
-use Rattle.mb_model_histories.proofs.SinceLemmas.{key_upper}
 
 -- ---- texts and hashes
 
@@ -204,7 +204,7 @@ keys_are_derived maker index owner code noise runs live history =
 -- the keys of a state have small numbers
 small_number : (state : State) (layer : ℕ) (key : RegionKey) → IsValidState state → length state.log ≤ 128 → Contains (region_of state layer).keys key → key.number < 2 ^ 32
 small_number state layer key valid short within =
-    let region = region_is_valid state layer (key_upper state layer key within) valid in
+    let region = region_is_valid state layer (upper_of state layer key within) valid in
     let born = All-contains (λ (k : RegionKey). KeyAdmitted (entries_of state.log) layer k.number) (region_of state layer).keys key region.kept.keys within in
     let rules = (valid_is_ruled state valid born.before (NewKey born.position born.number key.number layer born.kind born.key) born.later born.split).1 in
     let front : length (entries_of state.log) ≡ length born.before + length (NewKey born.position born.number key.number layer born.kind born.key ∷ born.later) =

@@ -49,23 +49,6 @@ ordered_few state order draw =
     let whole : length (state_after_order state order draw).log ≡ length (log_with ready (own_entry ready order draw)) = ap length (appends_own state order draw) in
     omega (arith, few, one, whole)
 
-ready_serial : (b : Bool) (state : State) (draw : List ℕ) → (if b then state_after_succession state draw else state).serial ≡ state.serial
-unfolding state_after_succession
-ready_serial true state draw = refl
-ready_serial false state draw = refl
-
-act_serial : (ready : State) (order : Order) (a : Act) (draw : List ℕ) → (state_after_act ready order a draw).serial ≡ ready.serial
-unfolding state_after_change state_after_new_key
-act_serial ready order (act.Establish owner trust) draw = refl
-act_serial ready order act.Surrender draw = refl
-act_serial ready order (act.Load payload) draw = refl
-act_serial ready order (act.Emergency payload) draw = refl
-act_serial ready order (act.NewKey kind) draw = refl
-
-pub ordered_serial : (state : State) (order : Order) (draw : List ℕ) → (state_after_order state order draw).serial ≡ state.serial
-unfolding state_after_order
-ordered_serial state order draw = act_serial (ready_for state order draw) order order.act draw ∙ ready_serial (needs_succession (view_of state) order) state draw
-
 -- ---- the layers
 
 ready_layers : (b : Bool) (state : State) (draw : List ℕ) → (if b then state_after_succession state draw else state).layers ≡ state.layers

@@ -23,12 +23,10 @@ use Rattle.mb_model.specs.machine.OrderEffects.{state_after_order}
 use Rattle.mb_model.specs.records.OrderFormat.{order_body}
 use Rattle.mb_model.specs.owners.Regions.{empty_region, region_of}
 use Rattle.mb_model.specs.owners.Rules.{kind_of, change_of, Condition, layer_from_order, signing_layer}
-use Rattle.mb_model.specs.signatures.Signing.{public_of}
 use Rattle.mb_model.specs.machine.SignedTexts.{order_text, IsSignedBy}
 use Rattle.mb_model.specs.memories.Valid.{IsValidState, Valid}
 use Rattle.mb_model_lemmas.proofs.RegionLemmas.{at_upper}
 use Rattle.mb_model_lemmas.proofs.RuleLemmas.{ruled_are_layers}
-use Rattle.mb_model_lemmas.proofs.ValidLogs.{named_is_some}
 use Rattle.mb_model_lemmas.proofs.ValidStates.{valid_is_ruled, region_is_valid}
 use Rattle.mb_model_lemmas.proofs.ListLemmas.{contains_none}
 use Rattle.mb_model_runs.proofs.StatementLemmas.{some_log}

@@ -1,6 +1,6 @@
 -- What a `get` reads: a secret of its region that its layer has admitted ever since.
 use Rattle.std.proofs.Common.{◌≡◌, ℕ, List, [], ◌∷◌, Option, None, Some, Bool, true, false, refl, sym, ap, subst, arith}
-use Rattle.std.specs.Prelude.{Result, Ok, Err, not, nat_lt, ◌||◌, find, if◌then◌else◌, Contains, zero, suc, cond}
+use Rattle.std.specs.Prelude.{Result, Ok, Err, not, nat_lt, ◌||◌, find, if◌then◌else◌, Contains, zero, suc}
 use Rattle.std.proofs.lemmas.Option.{same_Some}
 use Rattle.mb_format.proofs.Fields.{same_bytes-true}
 use Rattle.mb_model.specs.declared.entry.Entry.{Entry}

@@ -1,5 +1,5 @@
 -- A region changes only at an event of its own layer, or at an order that is obeyed.
-use Rattle.std.proofs.Common.{◌≡◌, ◌≢◌, ◌⊎◌, ℕ, ◌+◌, List, inl, inr, length, Option, None, Some, Bool, true, false, refl, sym, ap, ◌∙◌, subst, arith}
+use Rattle.std.proofs.Common.{◌≡◌, ◌≢◌, ◌⊎◌, ℕ, List, inl, inr, length, Option, None, Some, Bool, true, false, refl, sym, ap, ◌∙◌, subst, arith}
 use Rattle.std.specs.Prelude.{◌==◌, Result, Ok, Err, not, nat_lt, nat_le, ◌&&◌, ◌||◌, find, if◌then◌else◌}
 use Rattle.std.specs.List.{list_any}
 use Rattle.std.proofs.lemmas.Option.{same_Some}
@@ -9,18 +9,18 @@ use Rattle.mb_model.specs.declared.order.Order.{Order}
 use Rattle.mb_model.specs.declared.region.Region.{Region}
 use Rattle.mb_model.specs.declared.region.RegionKey.{RegionKey}
 use Rattle.mb_model.specs.declared.reply.Refusal.{Refusal}
-use Rattle.mb_model.specs.declared.reply.Refusal.TheVariants.{WrongLayer, WrongPhase}
+use Rattle.mb_model.specs.declared.reply.Refusal.TheVariants.{WrongLayer}
 use Rattle.mb_model.specs.declared.reply.Reply.{Reply}
-use Rattle.mb_model.specs.declared.reply.Reply.TheVariants as reply
 use Rattle.mb_model.specs.declared.state.State.{State}
 use Rattle.mb_model.specs.machine.LayerEvents.{Outcome, on_region, has_name, has_number, put_event, get_event, drop_event, sign_with, sign_event}
 use Rattle.mb_model.specs.owners.Layers.{is_runnable}
-use Rattle.mb_model.specs.machine.Machine.{Phase, off, dead, ratchet, World, Told, boot_event, running_state_in, status_event, go_event, region_event, CommandStep, Machine, Step, machine_step, lacks_memory, loses_power}
+use Rattle.mb_model.specs.machine.Machine.{off, ratchet, World, Told, boot_event, running_state_in, status_event, go_event, region_event, CommandStep, Machine, Step, machine_step, lacks_memory, loses_power}
 use Rattle.mb_model.specs.machine.OrderStep.{OrderStep, spells_none, fails_check, is_obeyed}
 use Rattle.mb_model.specs.machine.Refusals.{refusal_reply}
 use Rattle.mb_model.specs.owners.Regions.{empty_region, region_of, with_region}
 use Rattle.mb_model_lemmas.proofs.RefusalLemmas.{awake_state}
 use Rattle.mb_model_lemmas.proofs.Splits.{none_is_some}
+use Rattle.mb_model_memory.proofs.StorableSteps.{booted_state, status_state, gone_state}
 use Rattle.mb_model_histories.specs.ObeyedOrders.{ObeysAt, layer_asked, ActsOnRegion}
 use Rattle.mb_model_histories.specs.OwnerLaws.{RegionsChangeByTheirLayer}
 use Rattle.mb_model_histories.proofs.StepLemmas.{awake_phase, obeyed_there}
@@ -140,26 +140,6 @@ quiet_state here other does (Ok on) is each =
     quiet true = refl
     quiet false = each on.1
 
-boot_state : (here : World) (phase : Phase) (state : Option State) → (boot_event here phase state).1.state ≡ here.state
-boot_state here off (Some state) = refl
-boot_state here off None = refl
-boot_state here dead state = refl
-boot_state here (ratchet level) state = refl
-
-status_state : (here : World) (on : Result (ℕ × State) Refusal) → (status_event here on).1.state ≡ here.state
-status_state here (Err refusal) = refl
-status_state here (Ok on) = refl
-
-either_state : (here : World) (b : Bool) (x y : Told) → x.1.state ≡ here.state → y.1.state ≡ here.state → (if b then x else y).1.state ≡ here.state
-either_state here true x y first second = first
-either_state here false x y first second = second
-
-go_state : (here : World) (on : Result (ℕ × State) Refusal) → (go_event here on).1.state ≡ here.state
-go_state here (Err refusal) = refl
-go_state here (Ok on) =
-    either_state here (nat_lt 2 on.0) (refusal_reply WrongPhase, here) _ refl
-    (either_state here (is_runnable on.1.layers (on.0 + 1)) (reply.At (on.0 + 1), record here { phase = ratchet (on.0 + 1) }) (refusal_reply WrongLayer, here) refl refl)
-
 -- what a step leaves of a region
 abbrev Leaves : World → Event → ℕ → World → Type 0
 Leaves here this layer next = Regional here this layer next.state ⊎ ((order : Order) × ObeysAt here this next order)
@@ -204,13 +184,13 @@ no_state : (here : World) (this : Event) (layer : ℕ) → Regional here this la
 no_state here this layer = λ before now was is. absurd (none_is_some None now refl is)
 
 machine_leaves : (here : World) (this : Event) (answer : Reply) (next : World) (layer : ℕ) → Machine here this answer next → Leaves here this layer next
-machine_leaves here event.Boot answer next layer x = told_same here _ layer answer next (boot_event here here.phase here.state) x (boot_state here here.phase here.state)
+machine_leaves here event.Boot answer next layer x = told_same here _ layer answer next (boot_event here here.phase here.state) x (booted_state here here.phase here.state)
 machine_leaves here event.Off answer next layer x = left_same here _ layer next (record here { phase = off }) x.1 refl
 machine_leaves here event.Tamper answer next layer x = inl (subst (Regional here event.Tamper layer) (sym (ap (λ (w : World). w.state) x.1)) (no_state here event.Tamper layer))
 machine_leaves here (event.Cut count tear) answer next layer x = left_same here _ layer next (record here { armed = true }) x.1 refl
 machine_leaves here event.Status answer next layer x = told_same here _ layer answer next (status_event here (running_state_in here)) x (status_state here (running_state_in here))
 machine_leaves here (event.Command text draw) answer next layer x = command_leaves here text draw layer (running_state_in here) answer next refl x
-machine_leaves here event.Go answer next layer x = told_same here _ layer answer next (go_event here (running_state_in here)) x (go_state here (running_state_in here))
+machine_leaves here event.Go answer next layer x = told_same here _ layer answer next (go_event here (running_state_in here)) x (gone_state here (running_state_in here))
 machine_leaves here (event.Put asked name value) answer next layer x =
     told_regional here _ layer answer next (region_event here asked (put_event asked name value) (running_state_in here)) x
     (region_regional here (event.Put asked name value) layer asked (put_event asked name value) (running_state_in here) refl refl (put_replaces asked name value))

@@ -43,6 +43,7 @@ use Rattle.mb_model.specs.memories.Valid.{IsValidState}
 use Rattle.mb_model_lemmas.proofs.RuleLemmas.{ruled_are_layers}
 use Rattle.mb_model_lemmas.proofs.SignatureLemmas.{length-signature_of}
 use Rattle.mb_model_lemmas.proofs.ValidStates.{valid_is_ruled}
+use Rattle.mb_model_lemmas.proofs.WordLemmas.{upper_within}
 use Rattle.mb_model_runs.specs.OfficerLaws.{IsRightlySigned, IsRightlyCountersigned, PassesTheRest}
 use Rattle.mb_model_runs.proofs.OfficerLemmas.{right_signature, right_order_obeyed}
 use Rattle.mb_model_runs.proofs.StatementLemmas.{some_log}
@@ -234,29 +235,26 @@ layer_one_can_be_loaded here state keyfile payload draw valid was has can room =
 
 -- ---- layers 2 and 3
 
-upper_two : (layer : ℕ) → IsTrue (is_upper layer) → (2 ≤ layer) × (layer ≤ 3)
-upper_two layer is = (grind (arith, is), grind (arith, is))
-
 upper_number : (layer : ℕ) → IsTrue (is_upper layer) → IsTrue (is_layer_number layer)
 upper_number layer is = grind (arith, is)
 
 pub layers_can_be_recovered : LayersCanAlwaysBeRecovered
 layers_can_be_recovered here state layer keyfile payload draw was upper owned has can room =
-    let fits = upper_two layer upper in
+    let fits = upper_within layer upper in
     let beneath : is_owned state.layers (layer - 1) ≡ true = ap is_some has.owns in
     can_be_given here state keyfile layer (act.Emergency payload) draw was Emergency refl (upper_number layer upper) (emergency_allowed layer payload fits.0 fits.1 can)
     (grind (arith, upper, owned, beneath)) has (omega (arith, two_or_one (needs_succession (view_of state) (plain_order keyfile layer (act.Emergency payload))), room))
 
 pub layers_can_be_given : LayersCanAlwaysBeGiven
 layers_can_be_given here state layer keyfile owner trust draw was upper unowned has sized room =
-    let fits = upper_two layer upper in
+    let fits = upper_within layer upper in
     let beneath : is_owned state.layers (layer - 1) ≡ true = ap is_some has.owns in
     can_be_given here state keyfile layer (act.Establish owner trust) draw was Establish refl (upper_number layer upper) (establish_allowed layer owner trust fits.0 fits.1 sized)
     (grind (arith, upper, unowned, beneath)) has (omega (arith, two_or_one (needs_succession (view_of state) (plain_order keyfile layer (act.Establish owner trust))), room))
 
 pub owners_can_give_up : OwnersCanGiveUp
 owners_can_give_up here state layer keyfile draw was upper has room =
-    let fits = upper_two layer upper in
+    let fits = upper_within layer upper in
     let owned : is_owned state.layers layer ≡ true = ap is_some has.owns in
     can_be_given here state keyfile layer act.Surrender draw was Surrender refl (upper_number layer upper) (surrender_allowed layer fits.0 fits.1)
     (grind (arith, upper, owned)) has (omega (arith, two_or_one (needs_succession (view_of state) (plain_order keyfile layer act.Surrender)), room))

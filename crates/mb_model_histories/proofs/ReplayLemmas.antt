@@ -17,8 +17,8 @@ use Rattle.mb_model.specs.memories.Valid.{IsValidState}
 use Rattle.mb_model_lemmas.proofs.FateLemmas.{keys_increase, found_by_number}
 use Rattle.mb_model_lemmas.proofs.Splits.{All-from_splits}
 use Rattle.mb_model_lemmas.proofs.ValidStates.{valid_is_ruled, region_is_valid}
+use Rattle.mb_model_runs.proofs.KeyLemmas.{upper_of}
 use Rattle.mb_model_histories.specs.HistoryLaws.{ReplayedImagesSignAgain}
-use Rattle.mb_model_histories.proofs.SinceLemmas.{key_upper}
 
 -- a key of a valid state is found by its number
 key_found : (state : State) (layer : ℕ) (key : RegionKey) → IsValidState state → Contains (region_of state layer).keys key → find (has_number key.number) (region_of state layer).keys ≡ Some key
@@ -26,7 +26,7 @@ key_found state layer key valid within =
     let keys : List RegionKey = (region_of state layer).keys in
     let Found : RegionKey → Type 0 = λ k. find (has_number k.number) keys ≡ Some k in
     let Below : RegionKey → RegionKey → Type 0 = λ a b. a.number < b.number in
-    let region = region_is_valid state layer (key_upper state layer key within) valid in
+    let region = region_is_valid state layer (upper_of state layer key within) valid in
     let up : AllPairs Below keys = keys_increase (entries_of state.log) layer keys (valid_is_ruled state valid) region.keys in
     let each : All Found keys = All-from_splits Found keys (λ front k rest split.
     subst (λ (ks : List RegionKey). find (has_number k.number) ks ≡ Some k) (sym split) (found_by_number front k rest (subst (AllPairs Below) split up))) in
@@ -68,7 +68,7 @@ running_world state = record { state = Some state; phase = ratchet 1; armed = fa
 signed_reply : (state : State) (layer : ℕ) (key : RegionKey) (message : List ℕ) → IsValidState state → Contains (region_of state layer).keys key → key.uses < 32 → Runnable state.layers layer
     → (on_region 1 layer (sign_event layer key.number message) state).0 ≡ reply.Signed key.number key.uses (signed_bytes state key message)
 signed_reply state layer key message valid within few runs =
-    signs_here state layer key message (key_found state layer key valid within) (not_past layer (key_upper state layer key within)) runs (fresh key.uses few)
+    signs_here state layer key message (key_found state layer key valid within) (not_past layer (upper_of state layer key within)) runs (fresh key.uses few)
 
 pub boot_step : (state : State) → Step (opening_world (Some state)) event.Boot reply.Booted (running_world state)
 boot_step state = machine_step refl

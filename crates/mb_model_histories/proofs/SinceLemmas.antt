@@ -1,6 +1,6 @@
 -- Since something came into a region and was kept there, the owner of its layer has stayed.
 use Rattle.std.proofs.Common.{◌≡◌, ◌<◌, ◌≤◌, ℕ, ◌+◌, List, [], ◌∷◌, ◌++◌, length, inl, inr, Option, Some, Bool, true, false, refl, sym, ap, ◌∙◌, subst, arith, append_assoc, append-nil}
-use Rattle.std.specs.Prelude.{◌==◌, ◌&&◌, nat_lt, Contains, IsTrue, unwrap_or, if◌then◌else◌}
+use Rattle.std.specs.Prelude.{◌==◌, ◌&&◌, nat_lt, Contains, IsTrue, unwrap_or, if◌then◌else◌, ◌||◌}
 use Rattle.std.proofs.lemmas.Bool.{cases_lt}
 use Rattle.std.proofs.lemmas.List.Elements.{All-contains}
 use Rattle.std.proofs.lemmas.List.Sums.{sum_by-append}
@@ -22,11 +22,11 @@ use Rattle.mb_model.specs.owners.Log.{figures_of, entries_of, keys_in, layers_in
 use Rattle.mb_model.specs.owners.Regions.{empty_region, region_of, AdmittedSince, KeyAdmitted}
 use Rattle.mb_model.specs.owners.Rules.{CanPlace, is_own_load, admits, Admits}
 use Rattle.mb_model.specs.memories.Valid.{IsValidState}
-use Rattle.mb_model_lemmas.proofs.LineLemmas.{cons_same}
 use Rattle.mb_model_lemmas.proofs.LogLemmas.{layers_of-push, number_of-append}
 use Rattle.mb_model_lemmas.proofs.RegionLemmas.{at_upper, layer_of-after}
 use Rattle.mb_model_lemmas.proofs.ValidStates.{valid_is_ruled, region_is_valid}
 use Rattle.mb_model_lemmas.proofs.ListLemmas.{contains_none, front_of}
+use Rattle.mb_model_runs.proofs.KeyLemmas.{upper_of}
 
 -- ---- one entry
 
@@ -104,17 +104,14 @@ module _ (log : List Entry) (layer since : ℕ) (upper : IsTrue (is_upper layer)
 
 -- ---- secrets and keys
 
--- a region that holds anything is that of an upper layer
-upper_of : {X : Type 0} (items : Region → List X) (state : State) (layer : ℕ) (x : X) → items empty_region ≡ [] → Contains (items (region_of state layer)) x → IsTrue (is_upper layer)
-upper_of items state layer x none within = by (layer == 2) (layer == 3) refl refl within
-  where
-    by : (b c : Bool) → (layer == 2) ≡ b → (layer == 3) ≡ c → Contains (items (if b then state.two else if c then state.three else empty_region)) x → IsTrue (is_upper layer)
-    by true c e f there = grind (arith, e)
-    by false true e f there = grind (arith, f)
-    by false false e f there = absurd (contains_none x (subst (λ xs. Contains xs x) none there))
+upper_by : (b c : Bool) (two three : Region) (secret : Secret) → Contains (if b then two else if c then three else empty_region).secrets secret → (b || c) ≡ true
+upper_by true c two three secret within = refl
+upper_by false true two three secret within = refl
+upper_by false false two three secret within = absurd (contains_none secret within)
 
+-- a layer whose region has a secret is 2 or 3
 pub secret_upper : (state : State) (layer : ℕ) (secret : Secret) → Contains (region_of state layer).secrets secret → IsTrue (is_upper layer)
-secret_upper state layer secret within = upper_of (λ (r : Region). r.secrets) state layer secret refl within
+secret_upper state layer secret within = upper_by (layer == 2) (layer == 3) state.two state.three secret within
 
 pub secret_admitted : (state : State) (layer : ℕ) (secret : Secret) → IsValidState state → Contains (region_of state layer).secrets secret → AdmittedSince (entries_of state.log) secret.born layer
 secret_admitted state layer secret valid within =
@@ -138,7 +135,7 @@ pub keys_keep_their_owner : (state : State) (layer : ℕ) (before rest : List En
     → entries_of state.log ≡ before ++ rest → key.number < keys_made_by before → (layer_of (layers_of before) layer).owner ≡ (layer_of state.layers layer).owner
 keys_keep_their_owner state layer before rest key valid within split made =
     let log : List Entry = entries_of state.log in
-    let upper : IsTrue (is_upper layer) = key_upper state layer key within in
+    let upper : IsTrue (is_upper layer) = upper_of state layer key within in
     let ruled : RuledLog log = valid_is_ruled state valid in
     let region = region_is_valid state layer upper valid in
     let born : KeyAdmitted log layer key.number = All-contains (λ (k : RegionKey). KeyAdmitted log layer k.number) (region_of state layer).keys key region.kept.keys within in

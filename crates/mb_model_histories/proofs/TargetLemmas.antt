@@ -1,6 +1,6 @@
 -- What targets bind, and how many orders a log has room for.
 use Rattle.std.proofs.Common.{◌≡◌, ◌<◌, ◌≤◌, ℕ, ◌+◌, ◌-◌, zero, suc, List, [], ◌∷◌, ◌++◌, length, inl, inr, Option, None, Some, Bool, true, false, refl, sym, ap, ◌∙◌, subst, arith, length-append}
-use Rattle.std.specs.Prelude.{◌==◌, ◌&&◌, not, All, Contains, IsTrue, Result, Ok, is_some, if◌then◌else◌}
+use Rattle.std.specs.Prelude.{◌==◌, ◌&&◌, not, All, Contains, IsTrue, Result, is_some, if◌then◌else◌}
 use Rattle.std.proofs.lemmas.Bool.{cases_lt}
 use Rattle.std.proofs.lemmas.List.Elements.{All-nil, All-cons, All-contains, All-weaker}
 use Rattle.std.proofs.lemmas.List.Sums.{sum_by-append, sum_by-cons}
@@ -25,7 +25,7 @@ use Rattle.mb_model.specs.declared.state.State.{State}
 use Rattle.mb_model.specs.owners.Layers.{layer_of, is_owned, is_layer_number}
 use Rattle.mb_model.specs.chains.Listing.{is_done, replies_that}
 use Rattle.mb_model.specs.owners.Log.{entries_of, number_of}
-use Rattle.mb_model.specs.machine.Machine.{Phase, ratchet, World, opening_world, running_state, running_state_in, CommandStep, Step, machine_step, Run}
+use Rattle.mb_model.specs.machine.Machine.{ratchet, World, opening_world, CommandStep, Step, machine_step, Run}
 use Rattle.mb_model.specs.machine.OrderChecks.{view_of, change_by, needs_succession, entries_needed, IsCountersigned, LogHasRoom, RegionHasRoom, TargetHoldsIn, Passes}
 use Rattle.mb_model.specs.machine.OrderEffects.{state_after_order}
 use Rattle.mb_model.specs.records.OrderFormat.{order_body, order_format}
@@ -33,6 +33,7 @@ use Rattle.mb_model.specs.machine.OrderStep.{OrderStep, is_obeyed}
 use Rattle.mb_model.specs.owners.Rules.{kind_of, change_of, is_load, layer_from_order, loaded_layer, signing_layer}
 use Rattle.mb_model.specs.owners.Rules.{Condition}
 use Rattle.mb_model.specs.machine.SignedTexts.{order_text, countersigned_text, IsSignedBy}
+use Rattle.mb_model_memory.proofs.CommitLemmas.{obeyed_serial}
 use Rattle.mb_model_runs.proofs.GrowthLemmas.{logs_grow}
 use Rattle.mb_model_runs.proofs.KeptByRuns.{IsKept, run_kept}
 use Rattle.mb_model_runs.proofs.OfficerLemmas.{runs_first}
@@ -40,7 +41,7 @@ use Rattle.mb_model_histories.specs.Histories.{History, all_answered, ComesAfter
 use Rattle.mb_model_histories.specs.ObeyedOrders.{ObeysAt, Becomes, stays, is_ordered, is_distrusted}
 use Rattle.mb_model_histories.specs.TargetLaws.{IsFreeLoad, FreeLoadsPassAgain, IsFilledFor, OneFreeLoadFillsTheLog}
 use Rattle.mb_model_histories.proofs.HistoryLemmas.{runs_lead}
-use Rattle.mb_model_histories.proofs.ObeyedLemmas.{and_false, ordered_longer, ordered_serial, ordered_becomes, ordered_own}
+use Rattle.mb_model_histories.proofs.ObeyedLemmas.{and_false, ordered_longer, ordered_becomes, ordered_own}
 use Rattle.mb_model_histories.proofs.StepLemmas.{Keeps, keeps, obeys, step_comes}
 
 -- ---- lengths
@@ -99,7 +100,7 @@ serial_kept = record {
   dies = λ o. tt;
   secrets = λ state L secrets. refl;
   used = λ state L number. refl;
-  order = ordered_serial;
+  order = obeyed_serial;
 }
 
 pub serials_stay : (first last : World) (answered : List Answered) (a b : State) → Run first answered last → first.state ≡ Some a → last.state ≡ Some b → b.serial ≡ a.serial

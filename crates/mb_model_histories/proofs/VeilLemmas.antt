@@ -36,6 +36,7 @@ use Rattle.mb_model.specs.owners.Regions.{empty_region, region_of, with_region, 
 use Rattle.mb_model.specs.owners.Rules.{admits}
 use Rattle.mb_model_lemmas.specs.RefusalLaws.{BringsBytes}
 use Rattle.mb_model_lemmas.proofs.ValidRegions.{filter-map}
+use Rattle.mb_model_lemmas.proofs.ListLemmas.{found_is}
 use Rattle.mb_model_histories.specs.SightLaws.{HiddenSecrets, veiled_value, veiled_secret, veiled_region, veiled_state, veiled_world, veiled_event, veiled_answered, asks_hidden, HiddenValuesAreNotSeen, HiddenValuesAreNotSeenInRuns, HiddenValuesChangeNoAnswer, AskedValuesAreSeen}
 use Rattle.mb_model_histories.specs.PowerLaws.{HasOwnAnswer}
 use Rattle.mb_model_histories.proofs.ChangeLemmas.{Agrees, with_value, step_seen, region_changed, put_changed}
@@ -104,14 +105,7 @@ module _ (hidden : List ℕ → Bool) where
 
   -- what is found has the name
   found_name : (name : List ℕ) (secrets : List Secret) (secret : Secret) → find (has_name name) secrets ≡ Some secret → secret.name ≡ name
-  found_name name [] secret e = absurd (grind (arith, e))
-  found_name name (first ∷ secrets) secret e = by (has_name name first) refl e (found_name name secrets secret)
-    where
-      by : (b : Bool) → has_name name first ≡ b → cond b (Some first) (find (has_name name) secrets) ≡ Some secret → (find (has_name name) secrets ≡ Some secret → secret.name ≡ name) → secret.name ≡ name
-      by true is e more =
-          let same : first ≡ secret = cc in
-          sym (ap (λ (s : Secret). s.name) same) ∙ same_bytes-true first.name name is
-      by false is e more = more e
+  found_name name secrets secret e = same_bytes-true secret.name name (found_is (has_name name) secrets secret e).1
 
   value_unhidden : (name : List ℕ) (found : Option Secret) → hidden name ≡ false → ((secret : Secret) → found ≡ Some secret → secret.name ≡ name)
       → value_reply (option_map (veiled_secret hidden) found) ≡ value_reply found

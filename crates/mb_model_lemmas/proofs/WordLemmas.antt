@@ -39,6 +39,9 @@ number_front m n xs ys fm fn e =
 pub upper_cases : (n : ℕ) → IsTrue (is_upper n) → (n ≡ 2) ⊎ (n ≡ 3)
 upper_cases n upper = grind (arith, upper)
 
+pub upper_within : (n : ℕ) → IsTrue (is_upper n) → (2 ≤ n) × (n ≤ 3)
+upper_within n upper = (grind (arith, upper), grind (arith, upper))
+
 -- a layer with a region, and a number with no limit of its own, are below 2 ^ 64
 pub upper_fits : (n : ℕ) → IsTrue (is_upper n) → n < 2 ^ 64
 upper_fits n upper = grind (arith, upper)

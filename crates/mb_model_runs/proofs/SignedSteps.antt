@@ -1,6 +1,6 @@
 -- What a step comes to that is answered by a statement: a key of a region has signed it.
-use Rattle.std.proofs.Common.{◌≡◌, ◌<◌, ℕ, List, [], ◌∷◌, Option, None, Some, Bool, true, false, refl, sym, ap, ◌∙◌, arith}
-use Rattle.std.specs.Prelude.{Result, Ok, Err, not, nat_lt, nat_le, ◌||◌, find, if◌then◌else◌, Contains, suc, cond}
+use Rattle.std.proofs.Common.{◌≡◌, ◌<◌, ℕ, List, Option, None, Some, Bool, true, false, refl, sym, ap, ◌∙◌, arith}
+use Rattle.std.specs.Prelude.{Result, Ok, Err, not, nat_lt, nat_le, ◌||◌, find, if◌then◌else◌, Contains}
 use Rattle.mb_model.specs.declared.event.Event.{Event}
 use Rattle.mb_model.specs.declared.event.Event.TheVariants as event
 use Rattle.mb_model.specs.declared.region.RegionKey.{RegionKey}

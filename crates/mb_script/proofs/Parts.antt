@@ -11,12 +11,11 @@ use Rattle.hex.specs.declared.error.FromHexError.{FromHexError}
 use Rattle.hex.proofs.HexLemmas.{decode_of-ok, decode_sized-ok, decode_sized-twice}
 use Rattle.mb_model.specs.declared.limits.TheConstants.{NAME_LIMIT}
 use Rattle.mb_model.specs.records.RegionFormat.{is_name, is_name_byte}
-use Rattle.mb_model.specs.owners.Layers.{is_upper}
 use Rattle.mb_model.specs.chains.Lines.{IsNumber, number_limit}
 use Rattle.mb_model.specs.declared.event.Tear.{Tear}
 use Rattle.mb_model.specs.chains.Script.{IsName, tear_of}
 use Rattle.mb_model_lemmas.proofs.LineLemmas.{Without, isnt, cons_same, first_same, first_none}
-use Rattle.mb_model_lemmas.proofs.WordLemmas.{number_front, decimal_spaceless, upper_fits, name_spaceless}
+use Rattle.mb_model_lemmas.proofs.WordLemmas.{number_front, decimal_spaceless, upper_fits, name_spaceless, upper_within}
 use Rattle.mb_words.specs.Words.{IsSplit}
 use Rattle.mb_script.specs.Reading.{HasNumberFirst, HasRegionFirst, HasNameFirst, SaysSecret, SaysTail, kept_some, none, IsFill}
 
@@ -51,9 +50,6 @@ number_same most text m n a b small ha hb =
 
 pub region_same : (text : List ℕ) (m n : ℕ) (a b : List ℕ) → HasRegionFirst text m a → HasRegionFirst text n b → (m ≡ n) × (a ≡ b)
 region_same text m n a b ha hb = number_front m n a b (upper_fits m ha.upper) (upper_fits n hb.upper) (sym ha.whole ∙ hb.whole)
-
-upper_within : (region : ℕ) → IsTrue (is_upper region) → (2 ≤ region) × (region ≤ 3)
-upper_within region upper = (grind (arith, upper), grind (arith, upper))
 
 -- a region is a number of at most 3, and at least 2
 pub region_number : (text : List ℕ) (region : ℕ) (rest : List ℕ) → HasRegionFirst text region rest → HasNumberFirst 3 text region rest × (2 ≤ region)

@@ -53,7 +53,7 @@ skip_line text rest line remaining events number is splits some skipped =
     one_more text rest line remaining events events number is splits some
     (record { said = subst (λ (x : List (List ℕ)). AllZip SaysEvent x events) (sym same) is.stands.said; most = is.stands.most })
 
-push_said : (lines : List (List ℕ)) (events : List Event) (line : List ℕ) (e : Event) → AllZip SaysEvent lines events → SaysEvent line e → AllZip SaysEvent (lines ++ line ∷ []) (events ++ e ∷ [])
+pub push_said : (lines : List (List ℕ)) (events : List Event) (line : List ℕ) (e : Event) → AllZip SaysEvent lines events → SaysEvent line e → AllZip SaysEvent (lines ++ line ∷ []) (events ++ e ∷ [])
 push_said [] [] line e said says = (says, tt)
 push_said [] (x ∷ events) line e said says = absurd said
 push_said (y ∷ lines) [] line e said says = absurd said

@@ -17,6 +17,7 @@ use Rattle.mb_model.specs.machine.Machine.{Phase, off, dead, ratchet, World, Tol
 use Rattle.mb_model.specs.machine.LayerEvents.{Outcome, put_event, get_event, drop_event, sign_event}
 use Rattle.mb_model_lemmas.proofs.LineLemmas.{cons_same}
 use Rattle.mb_model_lemmas.proofs.RefusalLemmas.{machine_is_whole}
+use Rattle.mb_model_memory.proofs.StorableSteps.{booted_state}
 use Rattle.mb_tools_device.specs.MachineRuns.{MachineRun, is_cut, IsPlain}
 
 -- ---- the machine does not look at whether a power loss is armed
@@ -149,12 +150,6 @@ pub one_more : (world mid next : World) (events : List Event) (e : Event) (answe
 one_more world mid next [] e answer run m = (answer, next, subst (λ w. Machine w e answer next) run m, refl)
 one_more world mid next (this ∷ events) e answer run m = (run.0, run.1, run.2, one_more run.1 mid next events e answer run.3 m)
 
-boot_leaves : (world : World) (phase : Phase) (state : Option State) → (boot_event world phase state).1.state ≡ world.state
-boot_leaves world off (Some state) = refl
-boot_leaves world off None = refl
-boot_leaves world dead state = refl
-boot_leaves world (ratchet r) state = refl
-
 abbrev pub IsFound : Answered → Type 0
 IsFound a = a.reply ≢ reply.NoMemory
 
@@ -191,7 +186,7 @@ after_boot : (stopped up next : World) (boot off_ : Reply) → stopped.armed ≡
 after_boot stopped up next boot off_ none boot_found off_found booted offed =
     let m = own_step stopped event.Boot boot up none boot_found booted in
     let n = own_step up event.Off off_ next (armed_stays stopped event.Boot boot up refl m ∙ none) off_found offed in
-    ap (λ (w : World). w.state) n.1 ∙ ap (λ (t : Told). t.1.state) m ∙ boot_leaves stopped stopped.phase stopped.state
+    ap (λ (w : World). w.state) n.1 ∙ ap (λ (t : Told). t.1.state) m ∙ booted_state stopped stopped.phase stopped.state
 
 stopped_counts : (world armed : World) (last : Event) (answer : Reply) (stopped : World) → world.armed ≡ false → armed ≡ record world { armed = true } → is_cut last ≡ false
     → answer ≡ reply.Stopped → Step armed last answer stopped
