@@ -2,7 +2,7 @@
 use Rattle.std.proofs.Common.{◌≡◌, ℕ, ◌+◌, ◌%◌, ◌<◌, ◌≤◌, ◌^◌, ◌⊎◌, inl, inr, List, [], ◌∷◌, length, Option, Some, None, refl, sym, ap, subst, ◌∙◌, arith}
 use Rattle.std.specs.Prelude.{codes, All, Bool, true, false, cond, nat_lt, nat_le, ◌&&◌}
 use Rattle.std.specs.List.{list_all}
-use Rattle.std.proofs.lemmas.Bool.{ltb-true, le-leb, leb-true}
+use Rattle.std.proofs.lemmas.Bool.{ltb-true, le-leb, leb-true, and_parts}
 use Rattle.std.specs.Fmt.{decimal}
 use Rattle.std.proofs.lemmas.Fmt.{decimal_by_steps, decimal_injective, decimal_nonempty}
 use Rattle.std.proofs.lemmas.List.Elements.{All-nil, All-cons, All-head, All-tail, All-append, All-weaker}
@@ -242,15 +242,11 @@ name_bytes (x ∷ xs) all =
     let high : nat_le x 0x7E ≡ true = le-leb x 0x7E here.1 in
     rw (low, high) (name_bytes xs (All-tail P x xs all))
 
-and_true : (a b : Bool) → (a && b) ≡ true → (a ≡ true) × (b ≡ true)
-and_true true b e = (refl, e)
-and_true false b e = absurd cc
-
 bytes_name : (name : List ℕ) → is_name name ≡ true → All (λ byte. (0x21 ≤ byte) × (byte ≤ 0x7E)) name
 bytes_name [] e = All-nil (λ byte. (0x21 ≤ byte) × (byte ≤ 0x7E))
 bytes_name (x ∷ xs) e =
-    let both = and_true (is_name_byte x) (is_name xs) e in
-    let ends = and_true (nat_le 0x21 x) (nat_le x 0x7E) both.0 in
+    let both = and_parts (is_name_byte x) (is_name xs) e in
+    let ends = and_parts (nat_le 0x21 x) (nat_le x 0x7E) both.0 in
     All-cons (λ byte. (0x21 ≤ byte) × (byte ≤ 0x7E)) x xs (leb-true 0x21 x ends.0, leb-true x 0x7E ends.1) (bytes_name xs both.1)
 
 pub get_sayable : (name : List ℕ) → IsName name → IsSayable (says.Whole (instruction.Get name))

@@ -8,6 +8,7 @@ use Rattle.std.proofs.lemmas.Fmt.{digits_value-decimal}
 use Rattle.std.proofs.lemmas.Str.Parse.{numerals_by_value, tells_digits}
 use Rattle.std.proofs.lemmas.List.Splits.{slice_split_at, slice_split_none, length-slice_split}
 use Rattle.std.proofs.lemmas.List.Elements.{All-weaker}
+use Rattle.std.proofs.lemmas.Bool.{and_parts}
 use Rattle.mb_format.specs.Combinators.{same_bytes}
 use Rattle.mb_format.proofs.Fields.{same_bytes-true, same_bytes-refl}
 use Rattle.mb_model.specs.owners.Layers.{is_layer_number}
@@ -50,11 +51,6 @@ guarded : (b : Bool) (n : ℕ) → (b ≡ true → ⊥) → cond b (Some n) None
 guarded true n never = absurd (never refl)
 guarded false n never = refl
 
-both_true : (a b : Bool) → (a && b) ≡ true → (a ≡ true) × (b ≡ true)
-both_true true true e = (refl, refl)
-both_true true false e = absurd cc
-both_true false b e = absurd cc
-
 le_true : (m n : ℕ) → nat_le m n ≡ true → m ≤ n
 le_true m n e = grind (arith, e)
 
@@ -75,7 +71,7 @@ pub number_none : (most : ℕ) (word : List ℕ) → ((n : ℕ) → IsNumber mos
 unfolding number_in
 number_none most word none =
     guarded (same_bytes word (decimal (digits_value 10 word)) && nat_le (digits_value 10 word) most) (digits_value 10 word)
-    (λ e. let both = both_true _ _ e in none (digits_value 10 word) (same_bytes-true word (decimal (digits_value 10 word)) both.0, le_true (digits_value 10 word) most both.1))
+    (λ e. let both = and_parts _ _ e in none (digits_value 10 word) (same_bytes-true word (decimal (digits_value 10 word)) both.0, le_true (digits_value 10 word) most both.1))
 
 -- what `read_number` gives is the number in the word
 pub number_given : (most : ℕ) (word : List ℕ) (result : Option ℕ) → most ≤ number_limit → FindsSome (IsNumber most word) result → number_in most word ≡ result
@@ -84,7 +80,7 @@ number_given most word None fits none = number_none most word none
 
 number_said_by : (b : Bool) (most d n : ℕ) (word : List ℕ) → (same_bytes word (decimal d) && nat_le d most) ≡ b → cond b (Some d) None ≡ Some n → IsNumber most word n
 number_said_by true most d n word is e =
-    let both = both_true (same_bytes word (decimal d)) (nat_le d most) is in
+    let both = and_parts (same_bytes word (decimal d)) (nat_le d most) is in
     let same : d ≡ n = cc in
     subst (λ m. IsNumber most word m) same (same_bytes-true word (decimal d) both.0, le_true d most both.1)
 number_said_by false most d n word is e = absurd cc
