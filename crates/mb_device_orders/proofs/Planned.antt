@@ -3,8 +3,7 @@ use Rattle.std.proofs.Common.{◌≡◌, ◌≤◌, ℕ, ◌+◌, ◌-◌, ◌==
 use Rattle.std.specs.Prelude.{All, IfSome}
 use Rattle.std.specs.Global.{Vec}
 use Rattle.std.proofs.lemmas.List.{length-map, map-append}
-use Rattle.std.proofs.lemmas.List.Elements.{All-nil, All-cons, All-head, All-tail, All-drop}
-use Rattle.std.proofs.Math.Seq.{drop-append_seam}
+use Rattle.std.proofs.lemmas.List.Elements.{All-nil, All-cons, All-head, All-tail}
 use Rattle.mb_format.specs.Format.{IsBytes, Spells}
 use Rattle.mb_model.specs.declared.key.KeySeed.{KeySeed}
 use Rattle.mb_model.specs.declared.entry.Entry.{Entry}
@@ -38,6 +37,7 @@ use Rattle.mb_orders.specs.Judging.{plan_by}
 use Rattle.mb_model_lemmas.proofs.AdditionLemmas.{device_is, uses_are}
 use Rattle.mb_model_lemmas.proofs.PublicLemmas.{entry_from_signed}
 use Rattle.mb_model_lemmas.proofs.OneFlash.{sector_short}
+use Rattle.mb_model_lemmas.proofs.ListLemmas.{All-back}
 use Rattle.mb_model_memory.specs.Commits.{root_for, new_entries, at_rest}
 use Rattle.mb_model_memory.specs.Holding.{Holds, IsReady}
 use Rattle.mb_model_memory.specs.NextHeaders.{code_brought, texts_of_entries, header_after}
@@ -136,9 +136,6 @@ entries_allowed [] are = All-nil entry_format.Allowed
 entries_allowed (signed ∷ log) are =
     All-cons entry_format.Allowed signed.entry (entries_of log) (entry_from_signed signed (All-head signed_entry_format.Allowed signed log are)) (entries_allowed log (All-tail signed_entry_format.Allowed signed log are))
 
-all_back : (front back : List Entry) → All entry_format.Allowed (front ++ back) → All entry_format.Allowed back
-all_back front back are = subst (All entry_format.Allowed) (drop-append_seam front back) (All-drop entry_format.Allowed (length front) (front ++ back) are)
-
 record NewEntriesFit (state : State) (order : Order) (draw : List ℕ) : Type 0 where
   new_allowed : All entry_format.Allowed (new_entries state order draw)
   together : length state.log + length (new_entries state order draw) ≤ 128
@@ -148,7 +145,7 @@ new_fit state order draw valid is allowed passes =
     let after : IsStorableState (state_after_order state order draw) = obeyed_storable state order draw allowed passes is in
     let are : entries_of (state_after_order state order draw).log ≡ entries_of state.log ++ new_entries state order draw = obeyed_entries state order draw valid in
     record {
-      new_allowed = all_back (entries_of state.log) (new_entries state order draw) (subst (All entry_format.Allowed) are (entries_allowed (state_after_order state order draw).log after.log));
+      new_allowed = All-back entry_format.Allowed (entries_of state.log) (new_entries state order draw) (subst (All entry_format.Allowed) are (entries_allowed (state_after_order state order draw).log after.log));
       together = omega (
         arith,
         after.few,

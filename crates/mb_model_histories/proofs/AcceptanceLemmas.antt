@@ -46,7 +46,7 @@ use Rattle.mb_model_histories.proofs.HistoryLemmas.{runs_lead}
 use Rattle.mb_model_histories.proofs.StepLemmas.{awake_phase}
 use Rattle.mb_model_histories.proofs.TargetLemmas.{serials_stay}
 
--- ---- more entries
+-- ---- prefixes of a log
 
 -- of two prefixes of a log with as many changes the layers are the same
 same_layers : (log a b x y : List Entry) → RuledLog log → log ≡ a ++ x → log ≡ b ++ y → a ≢ [] → b ≢ [] → number_of a ≡ number_of b → layers_of a ≡ layers_of b

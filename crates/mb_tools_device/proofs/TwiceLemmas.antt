@@ -3,13 +3,15 @@ use Rattle.std.proofs.Common.{◌≡◌, ◌≢◌, ℕ, ◌-◌, ◌≤◌, Lis
 use Rattle.std.specs.Prelude.{suc, All}
 use Rattle.std.proofs.Math.Seq.{drop-cons}
 use Rattle.std.proofs.lemmas.List.{take-append-drop}
-use Rattle.std.proofs.lemmas.List.Elements.{All-nil, All-cons, All-head, All-tail}
+use Rattle.std.proofs.lemmas.List.Elements.{All-nil, All-cons, All-append}
 use Rattle.mb_model.specs.declared.event.Event.{Event}
 use Rattle.mb_model.specs.declared.event.Event.TheVariants as event
 use Rattle.mb_model.specs.declared.event.Tear.{Tear}
 use Rattle.mb_model.specs.declared.event.Answered.{Answered}
 use Rattle.mb_model.specs.declared.reply.Reply.TheVariants as reply
 use Rattle.mb_model.specs.chains.Script.{IsScriptEvent, tear_of}
+use Rattle.mb_model_lemmas.proofs.ListLemmas.{All-front}
+use Rattle.mb_model_lemmas.proofs.Splits.{All-split}
 use Rattle.mb_script.specs.Reading.{IsFill}
 use Rattle.mb_tools_device.specs.CutCommand.{AreUncut, CutRun, IsCutRun, LastIsStopped}
 use Rattle.mb_tools_device.specs.TwoRuns.{AreRuns, CanBeCut}
@@ -45,18 +47,6 @@ not_stopped_there list third long there other is =
 
 -- ---- the events
 
-all_front : (P : Event → Type 0) (xs ys : List Event) → All P (xs ++ ys) → All P xs
-all_front P [] ys all = All-nil P
-all_front P (x ∷ xs) ys all = All-cons P x xs (All-head P x (xs ++ ys) all) (all_front P xs ys (All-tail P x (xs ++ ys) all))
-
-all_last : (P : Event → Type 0) (xs : List Event) (y : Event) → All P (xs ++ y ∷ []) → P y
-all_last P [] y all = All-head P y [] all
-all_last P (x ∷ xs) y all = all_last P xs y (All-tail P x (xs ++ y ∷ []) all)
-
-all_both : (P : Event → Type 0) (xs ys : List Event) → All P xs → All P ys → All P (xs ++ ys)
-all_both P [] ys front back = back
-all_both P (x ∷ xs) ys front back = All-cons P x (xs ++ ys) (All-head P x xs front) (all_both P xs ys (All-tail P x xs front) back)
-
 pushed : (first copies one two three four : List Event) (count : ℕ) (tear : Tear) (last : Event) → copies ≡ first → one ≡ copies ++ event.Cut count tear ∷ [] → two ≡ one ++ last ∷ []
     → three ≡ two ++ event.Boot ∷ [] → four ≡ three ++ event.Off ∷ [] → four ≡ first ++ event.Cut count tear ∷ last ∷ event.Boot ∷ event.Off ∷ []
 pushed first copies one two three four count tear last is_first is_one is_two is_three is_four =
@@ -84,14 +74,14 @@ can_be_cut first last count tear fill uncut scripted least most some short torn 
         };
       },
     )
-    (All-cons IsScriptEvent last (event.Boot ∷ event.Off ∷ []) (all_last IsScriptEvent first last scripted)
+    (All-cons IsScriptEvent last (event.Boot ∷ event.Off ∷ []) (All-split IsScriptEvent first last [] scripted)
     (All-cons IsScriptEvent event.Boot (event.Off ∷ []) tt (All-cons IsScriptEvent event.Off [] tt (All-nil IsScriptEvent)))) in
     record {
-      uncut = all_front IsUncut first (last ∷ []) uncut.uncut;
-      last = all_last IsUncut first last uncut.uncut;
-      first = all_front IsScriptEvent first (last ∷ []) scripted;
+      uncut = All-front IsUncut first (last ∷ []) uncut.uncut;
+      last = All-split IsUncut first last [] uncut.uncut;
+      first = All-front IsScriptEvent first (last ∷ []) scripted;
       first_most = omega (arith, uncut.most, length-append first (last ∷ []));
-      second = all_both IsScriptEvent first (event.Cut count tear ∷ last ∷ event.Boot ∷ event.Off ∷ []) (all_front IsScriptEvent first (last ∷ []) scripted) ends;
+      second = All-append IsScriptEvent first (event.Cut count tear ∷ last ∷ event.Boot ∷ event.Off ∷ []) (All-front IsScriptEvent first (last ∷ []) scripted) ends;
       most = omega (arith, uncut.most, length-append first (last ∷ []), length-append first (event.Cut count tear ∷ last ∷ event.Boot ∷ event.Off ∷ []));
     }
 

@@ -13,8 +13,6 @@ use Rattle.mb_model_histories.specs.KeyFileLaws.{Files}
 use Rattle.mb_top_laws.specs.EndLaws.{ShowsAll, EndsUndisturbed, AreAlike}
 use Rattle.mb_console.proofs.Completing.{raised_rises, says_reads, says_writes}
 
--- ---- faults
-
 -- ---- what is seen
 
 -- a command has ended so from one of its steps on, and nothing disturbed it

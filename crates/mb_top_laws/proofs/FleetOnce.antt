@@ -121,8 +121,6 @@ spelled_bytes (item ∷ listed) are = (
 pub items_bytes : (bytes : List ℕ) (listed : List Item) → IsBytes bytes → AreItems bytes listed → AllByRecursion IsOfBytes listed
 items_bytes bytes listed are is = spelled_bytes listed (subst IsBytes is.whole are)
 
--- ---- rows stay in order
-
 -- ---- items over rows
 
 step_same : (maker : PublicKey) (rows after later : List Row) (item : Item) (lines others : List (List ℕ)) → AreOrdered rows → IsOfBytes item
