@@ -11,7 +11,7 @@ ghost use Rattle.mb_model.specs.memories.Spared.{SparesSectors};
 ghost use Rattle.mb_model_memory.specs.Holding.{KeepsContents, KeepsMeaning};
 ghost use Rattle.mb_boot.specs.Settling.{IsLive, IsLiveBoard};
 ghost use Rattle.mb_boot.specs.Booting.{IsFoundAs, Rests, IsWiped, Cleans, IsQuiet, StandsForValid, KeepsState, IfUnwritten, stop_of, power_at, HasLevel, is_zeroised};
-ghost use Rattle.mb_boot.specs.Signers.{HasSigners, DeviceKeySigns};
+ghost use Rattle.mb_boot.specs.Signers.{HasSigners, HoldsDeviceTree, DeviceKeySigns};
 ghost use Rattle.mb_signer.specs.Benches.{HasTree};
 ghost use Rattle.mb_lms.specs.declared.hash_count.TheConstants.{LEAF_HASHES, SIGNING_HASHES};
 
@@ -136,7 +136,8 @@ fn come_up<B: Board, L: Ledger>(
 /// Does the pending work of a committed order, and wipes what it replaced. The entries are signed by the trees on the
 /// bench; one that is not there is built. The memory has to mean a state that a device can have. It means the same
 /// state wherever power fails, and afterwards it is clean. There are at most 15 write calls, and 70,946 hashes; 2,148 if
-/// the trees of the keys that sign are on the bench. The tree of a device key that signs is there afterwards.
+/// the trees of the keys that sign are on the bench. The tree of the device key is there afterwards if no key gives way
+/// and it signs, or if it was there before and the key that signs first found its own tree or room for it.
 #[tactic(auto, using(crate::proofs::Booted::settled_rests, crate::proofs::Booted::cleaned, mb_model_memory::proofs::HoldingLemmas::contents_keep, mb_model_memory::proofs::HoldingLemmas::keeps_then, crate::proofs::Settled::spared_then))]
 pub fn finish_order<B: Board, L: Ledger>(
     u: Unsettled,
@@ -154,6 +155,8 @@ pub fn finish_order<B: Board, L: Ledger>(
     ensures kept { (root : Root) → RootIn (B.seen b.old).memory.bbram root
         → DeviceKeySigns (B.seen b.old).memory.flash root
         → OnOk result (HasTree bench.new root.device) }
+    ensures held { (root : Root) → RootIn (B.seen b.old).memory.bbram root
+        → HoldsDeviceTree bench.old root → OnOk result (HasTree bench.new root.device) }
     ensures cost { hashes.new ≤ hashes.old + 2 * SIGNING_HASHES }
     ensures again { (root : Root) → RootIn (B.seen b.old).memory.bbram root
         → HasSigners bench.old root → hashes.new ≤ hashes.old + 2 * LEAF_HASHES }

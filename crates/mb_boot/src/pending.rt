@@ -1,6 +1,6 @@
 //! Unsigned entries, signed for their sectors of the log, and the header that counts them as signed.
 
-ghost use Rattle.std.specs.Prelude.{◌≡◌, ◌+◌, ◌-◌, ◌*◌, ◌≤◌, ◌∷◌, IfSome, IsSome, length, vec_len, vec_capacity};
+ghost use Rattle.std.specs.Prelude.{◌≡◌, ◌+◌, ◌-◌, ◌*◌, ◌≤◌, ◌∷◌, ◌⊎◌, IfSome, IsSome, length, vec_len, vec_capacity};
 ghost use Rattle.std.specs.Option.{option_copied};
 ghost use Rattle.mb_format.specs.Format.{Spells};
 ghost use Rattle.mb_model.specs.declared.limits.TheConstants.{ENTRY_LIMIT, ENTRY_TEXT_LIMIT, KEY_USES, LAST_INDEX, SECTOR_LENGTH, SIGNATURE_LENGTH};
@@ -15,7 +15,7 @@ ghost use Rattle.mb_segments.specs.Uncopied.{header_of};
 ghost use Rattle.mb_area.specs.Flashes.{IsPlan};
 ghost use Rattle.mb_boot.specs.Completions.{BeginsWithHeader, signer_of, text_at_place, count_of, unsigned_count, IsSignedSector, SignsTextAt};
 ghost use Rattle.mb_boot.specs.Signers.{HasSigner};
-ghost use Rattle.mb_signer.specs.Benches.{HasTree, KeepsTrees};
+ghost use Rattle.mb_signer.specs.Benches.{HasTree, HasRoom, KeepsTrees};
 ghost use Rattle.mb_lms.specs.declared.hash_count.TheConstants.{LEAF_HASHES, SIGNING_HASHES};
 
 use mb_layout::Room;
@@ -159,7 +159,8 @@ fn sign_entry<L: Ledger>(
     requires { index ≤ LAST_INDEX }
     ensures signature { signature.new ≡ signature_of key.now index (ENTRY_TEXT ∷ entry.now) }
     ensures kept { HasTree bench.new key.now }
-    ensures beside { HasTree bench.old key.now → KeepsTrees bench.old bench.new }
+    ensures beside { HasRoom bench.old ⊎ HasTree bench.old key.now
+        → KeepsTrees bench.old bench.new }
     ensures cost { hashes.new ≤ hashes.old + SIGNING_HASHES }
     ensures again { HasTree bench.old key.now → hashes.new ≤ hashes.old + LEAF_HASHES }
 {
@@ -184,7 +185,8 @@ fn sign_text<L: Ledger>(
     ensures signed { IsSignedSector signer.now text.now log.new.items }
     ensures room { SECTOR_LENGTH ≤ vec_capacity log.new }
     ensures kept { HasTree bench.new signer.now.key }
-    ensures beside { HasTree bench.old signer.now.key → KeepsTrees bench.old bench.new }
+    ensures beside { HasRoom bench.old ⊎ HasTree bench.old signer.now.key
+        → KeepsTrees bench.old bench.new }
     ensures cost { hashes.new ≤ hashes.old + SIGNING_HASHES }
     ensures again { HasTree bench.old signer.now.key → hashes.new ≤ hashes.old + LEAF_HASHES }
 {
@@ -220,7 +222,8 @@ pub(crate) fn sign_next<L: Ledger>(
     ensures header { room.new.header ≡ room.old.header }
     ensures kept { (header : Header) → BeginsAs header_format room.old.header.items header
         → IsSome (text_at_place header place) → HasSigner bench.new root.now place }
-    ensures beside { HasSigner bench.old root.now place → KeepsTrees bench.old bench.new }
+    ensures beside { HasRoom bench.old ⊎ HasSigner bench.old root.now place
+        → KeepsTrees bench.old bench.new }
     ensures cost { hashes.new ≤ hashes.old + SIGNING_HASHES }
     ensures again { HasSigner bench.old root.now place → hashes.new ≤ hashes.old + LEAF_HASHES }
 {

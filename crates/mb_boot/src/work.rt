@@ -1,6 +1,6 @@
 //! The pending work of an order.
 
-ghost use Rattle.std.specs.Prelude.{◌≡◌, ◌≤◌, ◌+◌, IsSome, OnOk, ◌*◌};
+ghost use Rattle.std.specs.Prelude.{◌≡◌, ◌≤◌, ◌+◌, ◌⊎◌, IsSome, OnOk, ◌*◌};
 ghost use Rattle.mb_model.specs.declared.stored.Header.{Header};
 ghost use Rattle.mb_model.specs.declared.stored.Root.{Root};
 ghost use Rattle.mb_model.specs.memories.Flash.{sector, HoldsHeader};
@@ -12,8 +12,8 @@ ghost use Rattle.mb_model_memory.specs.FlashInForce.{AgreeForArea};
 ghost use Rattle.mb_model_memory.specs.Holding.{KeepsContents, KeepsMeaning};
 ghost use Rattle.mb_boot.specs.Settling.{IsLiveBoard, IsLiveWith, IsOnlyRoot, AppliesBoth, AddsToLog, CompletesLog, CountsLog, SignsRecord, Settles};
 ghost use Rattle.mb_boot.specs.Completions.{text_at_place};
-ghost use Rattle.mb_boot.specs.Signers.{HasSigner, HasSigners, DeviceKeySigns};
-ghost use Rattle.mb_signer.specs.Benches.{HasTree, KeepsTrees};
+ghost use Rattle.mb_boot.specs.Signers.{HasSigner, HasSigners, HoldsDeviceTree, DeviceKeySigns};
+ghost use Rattle.mb_signer.specs.Benches.{HasTree, HasRoom, KeepsTrees};
 ghost use Rattle.mb_lms.specs.declared.hash_count.TheConstants.{LEAF_HASHES, SIGNING_HASHES};
 
 use crate::pending::{settle_header, sign_next};
@@ -71,7 +71,8 @@ fn write_entry<B: Board, L: Ledger>(
     ensures kept { (header : Header)
         → HoldsHeader (B.seen b.old).memory.flash root.now.area header
         → IsSome (text_at_place header place) → HasSigner bench.new root.now place }
-    ensures beside { HasSigner bench.old root.now place → KeepsTrees bench.old bench.new }
+    ensures beside { HasRoom bench.old ⊎ HasSigner bench.old root.now place
+        → KeepsTrees bench.old bench.new }
     ensures cost { hashes.new ≤ hashes.old + SIGNING_HASHES }
     ensures again { HasSigner bench.old root.now place → hashes.new ≤ hashes.old + LEAF_HASHES }
 {
@@ -101,6 +102,8 @@ fn write_entries<B: Board, L: Ledger>(
         ≡ sector (B.seen b.new).memory.flash (header_sector root.now.area) }
     ensures ran { RanOnFlash 4 result (B.seen b.old) (B.seen b.new) }
     ensures kept { DeviceKeySigns (B.seen b.old).memory.flash root.now
+        → OnOk result (HasTree bench.new root.now.device) }
+    ensures held { HoldsDeviceTree bench.old root.now
         → OnOk result (HasTree bench.new root.now.device) }
     ensures cost { hashes.new ≤ hashes.old + 2 * SIGNING_HASHES }
     ensures again { HasSigners bench.old root.now → hashes.new ≤ hashes.old + 2 * LEAF_HASHES }
@@ -151,6 +154,8 @@ fn write_signed<B: Board, L: Ledger>(
     ensures ran { RanOnFlash 6 result (B.seen b.old) (B.seen b.new) }
     ensures kept { DeviceKeySigns (B.seen b.old).memory.flash root.now
         → OnOk result (HasTree bench.new root.now.device) }
+    ensures held { HoldsDeviceTree bench.old root.now
+        → OnOk result (HasTree bench.new root.now.device) }
     ensures cost { hashes.new ≤ hashes.old + 2 * SIGNING_HASHES }
     ensures again { HasSigners bench.old root.now → hashes.new ≤ hashes.old + 2 * LEAF_HASHES }
 {
@@ -179,6 +184,8 @@ pub(crate) fn settle<B: Board, L: Ledger>(
     ensures kept { (root : Root) → RootIn (B.seen b.old).memory.bbram root
         → DeviceKeySigns (B.seen b.old).memory.flash root
         → OnOk result (HasTree bench.new root.device) }
+    ensures held { (root : Root) → RootIn (B.seen b.old).memory.bbram root
+        → HoldsDeviceTree bench.old root → OnOk result (HasTree bench.new root.device) }
     ensures cost { hashes.new ≤ hashes.old + 2 * SIGNING_HASHES }
     ensures again { (root : Root) → RootIn (B.seen b.old).memory.bbram root
         → HasSigners bench.old root → hashes.new ≤ hashes.old + 2 * LEAF_HASHES }

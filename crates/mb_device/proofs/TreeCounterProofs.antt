@@ -55,9 +55,9 @@ no_tree_forgotten = record {
   read = λ trees own name value is kept. kept.region refl own.place own.number (subst (λ (t : Option RegionTree). IsKeptFor t own.place own.number) (sym is) (refl, refl));
   device_tree = λ trees L key index message statement some kept. let gone : false ≡ true = kept.device refl some in absurd (cc);
   between = λ up running after serial number size one two three some none kept. let gone : false ≡ true = subst IsSome none (kept.device refl some) in absurd (cc);
-  done = λ up before after keys number size counted after_it none signs. let gone : false ≡ true = subst IsSome none (signs.kept refl) in absurd (cc);
-  built = λ before after answer counted has signs. absurd (omega (arith, signs.again has));
-  built_two = λ before after answer counted has signs. absurd (omega (arith, signs.again has));
+  done = λ up after text draw number size none kept. let gone : false ≡ true = subst IsSome none (kept refl) in absurd (cc);
+  built = λ before counted has costs. absurd (omega (arith, costs has));
+  built_two = λ before counted has costs. absurd (omega (arith, costs has));
   no_key = λ state order kind text draw spelled is makes. absurd (omega (arith, one_at_least state order kind draw is, makes order spelled));
   refused = λ own number left. let gone = left refl in absurd (cc);
   ordered = λ before after number apart left. apart (left refl);

@@ -1,5 +1,5 @@
 -- What becomes of the trees that a device keeps.
-use Rattle.std.proofs.Common.{◌≡◌, ℕ, arith, true, false, Option, Some, refl, sym, subst}
+use Rattle.std.proofs.Common.{◌≡◌, ℕ, true, false, Option, Some, refl, sym, subst}
 use Rattle.std.specs.Prelude.{List, Result, Ok, Err, IfOk, IsSome}
 use Rattle.mb_ratchet.specs.declared.state.Off.{Off}
 use Rattle.mb_model.specs.declared.event.Event.{Event}
@@ -19,7 +19,7 @@ use Rattle.mb_device_regions.specs.Statements.{KeepsTree, LeavesTree}
 use Rattle.mb_device.specs.declared.device.Device.{Device}
 use Rattle.mb_device.specs.declared.device.Device.TheVariants as device
 use Rattle.mb_device.specs.Regions.{region_named}
-use Rattle.mb_device.specs.KeptTrees.{region_tree_in, HasDeviceTree, IsKeptToSign, IsKeptOnceSigned, leaves_tree, leaves_device_tree, TreesAreKept, trees_of, HasTreeFor, KeepsItsTrees, MakesKeysOf, SignsByDeviceTree}
+use Rattle.mb_device.specs.KeptTrees.{region_tree_in, HasDeviceTree, IsKeptToSign, IsKeptOnceSigned, leaves_tree, leaves_device_tree, TreesAreKept, trees_of, HasTreeFor, KeepsItsTrees, KeepsTreeOnceDone, MakesKeysOf}
 
 -- ---- answers
 
@@ -169,11 +169,8 @@ tree_to_sign L e old before named was own =
     subst (λ (n : ℕ). IsKeptToSign before n e) (sym named) (subst (λ (t : Option Trees). IsKeptToSign t (region_named e) e) was own)
 
 -- an order that is refused
-pub refused_order : (before after : Device) (keys : ℕ) (answer : Reply) (counted : ℕ) (refusal : Refusal) → answer ≡ refusal_reply refusal → SignsByDeviceTree before keys answer after counted counted
-refused_order before after keys answer counted refusal told = record {
-  kept = λ done. let undone = refused_undone refusal answer told in absurd (cc);
-  again = λ has. omega arith;
-}
+pub refused_undone_order : (after : Device) (text draw : List ℕ) (answer : Reply) (refusal : Refusal) → answer ≡ refusal_reply refusal → KeepsTreeOnceDone (event.Command text draw) answer after
+refused_undone_order after text draw answer refusal told = λ done. let undone = refused_undone refusal answer told in absurd (cc)
 
 -- the order whose bytes were taken as a slice
 pub makes_with : (world : World) (keys : ℕ) (e : Event) (text slice draw : List ℕ) → e ≡ event.Command text draw → slice ≡ text → MakesKeysOf world e keys → MakesKeysOf world (event.Command slice draw) keys

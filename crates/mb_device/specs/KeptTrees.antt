@@ -11,7 +11,7 @@ use Rattle.mb_lms.specs.declared.hash_count.TheConstants.{LEAF_HASHES, TREE_HASH
 use Rattle.mb_outbound.specs.declared.kept.RegionTree.{RegionTree}
 use Rattle.mb_outbound.specs.KeptTrees.{IsKeptFor}
 use Rattle.mb_device_orders.specs.declared.remembering.Trees.{Trees}
-use Rattle.mb_device_orders.specs.Obeying.{LeavesDeviceKey, MakesKeys}
+use Rattle.mb_device_orders.specs.Obeying.{MakesKeys}
 use Rattle.mb_device.specs.declared.device.Device.{Device}
 use Rattle.mb_device.specs.declared.device.Device.TheVariants as device
 use Rattle.mb_device.specs.Regions.{region_named}
@@ -80,10 +80,10 @@ abbrev pub KeepsItsTrees : Device → Event → Reply → Device → Type 0
 KeepsItsTrees before event answer after =
     TreesAreKept (region_named event) event answer (trees_of before) (trees_of after)
 
--- the event is an order that leaves the device key of this world
-abbrev pub LeavesKeyOf : World → Event → Type 0
-LeavesKeyOf world (event.Command text draw) = (state : State) → world.state ≡ Some state → LeavesDeviceKey state text
-LeavesKeyOf world other = ⊥
+-- once an order is done, the device keeps the tree of its key, be it a new one or not
+abbrev pub KeepsTreeOnceDone : Event → Reply → Device → Type 0
+KeepsTreeOnceDone (event.Command text draw) answer after = is_done answer ≡ true → HasDeviceTree (trees_of after)
+KeepsTreeOnceDone other answer after = Unit {0}
 
 -- the event is an order that makes this many keys in this world
 abbrev pub MakesKeysOf : World → Event → ℕ → Type 0
@@ -91,14 +91,8 @@ MakesKeysOf world (event.Command text draw) keys =
     (state : State) → world.state ≡ Some state → MakesKeys state text draw keys
 MakesKeysOf world other keys = ⊥
 
--- What an order that leaves the device key and makes this many keys does with the tree of that key, where `counted`
--- hashes were counted before it and `after_it` are then. Once it is done, the tree is kept. If the tree was kept
--- before, only those of the new keys are built, and at most two signatures made.
-pub record SignsByDeviceTree
-    (before : Device)
-    (keys : ℕ)
-    (answer : Reply)
-    (after : Device)
-    (counted after_it : ℕ) : Type 0 where
-  pub kept : is_done answer ≡ true → HasDeviceTree (trees_of after)
-  pub again : HasDeviceTree (trees_of before) → after_it ≤ counted + keys * TREE_HASHES + 2 * LEAF_HASHES
+-- What an order costs that makes this many keys, where `counted` hashes were counted before it and `after_it` are then:
+-- if the tree of the device key was kept before, only those of the new keys are built, and at most two signatures made.
+abbrev pub SignsByDeviceTree : Device → ℕ → ℕ → ℕ → Type 0
+SignsByDeviceTree before keys counted after_it =
+    HasDeviceTree (trees_of before) → after_it ≤ counted + keys * TREE_HASHES + 2 * LEAF_HASHES

@@ -9,7 +9,6 @@ use Rattle.mb_model.specs.declared.event.Event.TheVariants as event
 use Rattle.mb_model.specs.declared.order.Act.TheVariants as act
 use Rattle.mb_model.specs.declared.order.KeyKind.{KeyKind}
 use Rattle.mb_model.specs.declared.order.Order.{Order}
-use Rattle.mb_model.specs.declared.reply.Reply.{Reply}
 use Rattle.mb_model.specs.declared.reply.Reply.TheVariants as reply
 use Rattle.mb_model.specs.declared.reply.Standing.{Standing}
 use Rattle.mb_model.specs.declared.state.State.{State}
@@ -24,7 +23,7 @@ use Rattle.mb_device.specs.declared.device.Device.{Device}
 use Rattle.mb_device.specs.declared.device.Device.TheVariants as device
 use Rattle.mb_device.specs.declared.device.Running.{Running}
 use Rattle.mb_device.specs.KeptTrees.{HasDeviceTree, IsKeptToSign, TreesAreKept, trees_of, HasTreeFor, KeepsItsTrees}
-use Rattle.mb_device.specs.KeptTrees.{SignsByDeviceTree}
+use Rattle.mb_device.specs.KeptTrees.{KeepsTreeOnceDone, SignsByDeviceTree}
 
 -- Events after which a tree is gone, and trees that are no use.
 pub record TreeCounterExamples : Type 0 where
@@ -43,16 +42,16 @@ pub record TreeCounterExamples : Type 0 where
       → IsSome running.known.trees.value.device → after.known.trees.value.device ≡ None
       → KeepsItsTrees (device.One up running) event.Status (reply.Status serial number size one two three)
       (device.One up after) → ⊥
-  -- an order that leaves the device key is done, and the device has no tree of that key
-  pub done : (up : Up R1) (before : Device) (after : Running) (keys number size counted after_it : ℕ)
+  -- an order is done, and the device has no tree of its key
+  pub done : (up : Up R1) (after : Running) (text draw : List ℕ) (number size : ℕ)
       → after.known.trees.value.device ≡ None
-      → SignsByDeviceTree before keys (reply.Done number size) (device.One up after) counted after_it → ⊥
+      → KeepsTreeOnceDone (event.Command text draw) (reply.Done number size) (device.One up after) → ⊥
   -- an order makes no key, the tree of the device key is kept, and a tree is built
-  pub built : (before after : Device) (answer : Reply) (counted : ℕ) → HasDeviceTree (trees_of before)
-      → SignsByDeviceTree before 0 answer after counted (counted + TREE_HASHES) → ⊥
+  pub built : (before : Device) (counted : ℕ) → HasDeviceTree (trees_of before)
+      → SignsByDeviceTree before 0 counted (counted + TREE_HASHES) → ⊥
   -- an order makes one key, the tree of the device key is kept, and two trees are built
-  pub built_two : (before after : Device) (answer : Reply) (counted : ℕ) → HasDeviceTree (trees_of before)
-      → SignsByDeviceTree before 1 answer after counted (counted + 2 * TREE_HASHES) → ⊥
+  pub built_two : (before : Device) (counted : ℕ) → HasDeviceTree (trees_of before)
+      → SignsByDeviceTree before 1 counted (counted + 2 * TREE_HASHES) → ⊥
   -- an order for a key of a region counts as one that makes none
   pub no_key : (state : State) (order : Order) (kind : KeyKind) (text draw : List ℕ)
       → Spells order_format text order → order.act ≡ act.NewKey kind → MakesKeys state text draw 0 → ⊥

@@ -8,7 +8,7 @@ ghost use Rattle.mb_model.specs.memories.Spared.{SparesSectors};
 ghost use Rattle.mb_model.specs.machine.Machine.{World};
 ghost use Rattle.mb_device.specs.Sound.{HasSound, IsSoundDevice, StepsFrom};
 ghost use Rattle.mb_device.specs.Stepping.{stop_told, IfNothingTold};
-ghost use Rattle.mb_device.specs.KeptTrees.{KeepsItsTrees, LeavesKeyOf, MakesKeysOf, SignsByDeviceTree};
+ghost use Rattle.mb_device.specs.KeptTrees.{KeepsItsTrees, KeepsTreeOnceDone, MakesKeysOf, SignsByDeviceTree};
 ghost use Rattle.mb_lms.specs.declared.hash_count.TheConstants.{SIGNING_HASHES, TREE_HASHES};
 
 use crate::device::{Device, Running};
@@ -40,11 +40,11 @@ fn take_order<B: Board, L: Ledger>(
     ensures events { KeepsEvents 35 (stop_told result.1) (B.seen b.old) (B.seen b.new) }
     ensures trees { KeepsItsTrees (Device.One up running) (event.Command text.now draw.now) result.1
         result.0 }
+    ensures done { KeepsTreeOnceDone (event.Command text.now draw.now) result.1 result.0 }
     ensures order { (world : World) (keys : ℕ)
         → IsSoundDevice (Device.One up running) (held_in (B.seen b.old)) world
-        → LeavesKeyOf world (event.Command text.now draw.now)
         → MakesKeysOf world (event.Command text.now draw.now) keys
-        → SignsByDeviceTree (Device.One up running) keys result.1 result.0 hashes.old hashes.new }
+        → SignsByDeviceTree (Device.One up running) keys hashes.old hashes.new }
     ensures cost { hashes.new ≤ hashes.old + 2 * TREE_HASHES + 2 * SIGNING_HASHES }
 {
     let mut known = running.known;
@@ -74,11 +74,11 @@ impl Device {
         ensures spared { SparesSectors (B.seen b.old).memory (B.seen b.new).memory }
         ensures events { KeepsEvents 35 (stop_told result.1) (B.seen b.old) (B.seen b.new) }
         ensures trees { KeepsItsTrees self (event.Command text.now draw.now) result.1 result.0 }
+        ensures done { KeepsTreeOnceDone (event.Command text.now draw.now) result.1 result.0 }
         ensures order { (world : World) (keys : ℕ)
             → IsSoundDevice self (held_in (B.seen b.old)) world
-            → LeavesKeyOf world (event.Command text.now draw.now)
             → MakesKeysOf world (event.Command text.now draw.now) keys
-            → SignsByDeviceTree self keys result.1 result.0 hashes.old hashes.new }
+            → SignsByDeviceTree self keys hashes.old hashes.new }
         ensures cost { hashes.new ≤ hashes.old + 2 * TREE_HASHES + 2 * SIGNING_HASHES }
     {
         match self {

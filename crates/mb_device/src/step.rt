@@ -11,7 +11,7 @@ ghost use Rattle.mb_boot.specs.Booting.{IsQuiet};
 ghost use Rattle.mb_device.specs.Sound.{IsSoundDevice, HasSound, taken, CanStep, Steps};
 ghost use Rattle.mb_device.specs.Stepping.{stop_told, IfNothingTold, IfBoot};
 ghost use Rattle.mb_device.specs.Served.{IsServedFrom};
-ghost use Rattle.mb_device.specs.KeptTrees.{HasTreeFor, KeepsItsTrees, LeavesKeyOf, MakesKeysOf, SignsByDeviceTree};
+ghost use Rattle.mb_device.specs.KeptTrees.{HasTreeFor, KeepsItsTrees, KeepsTreeOnceDone, MakesKeysOf, SignsByDeviceTree};
 ghost use Rattle.mb_device.specs.declared.step.TheConstants.{STEP_HASHES};
 ghost use Rattle.mb_lms.specs.declared.hash_count.TheConstants.{LEAF_HASHES};
 
@@ -34,9 +34,9 @@ impl Device {
     /// was stopped.
     ///
     /// Once a region's key has signed, the device keeps its tree, so that the key signs again in at most 1,074 hashes,
-    /// until power goes, an order is done, or another region's key signs. The tree of the device key is kept from the
-    /// first order that is done and leaves that key, until power goes or the key gives way. With it such an order takes
-    /// at most 34,399 hashes for each key that it makes, and 2,148 to sign by: no tree if it makes none.
+    /// until power goes, an order is done, or another region's key signs. From the first order that is done until power
+    /// goes, the device keeps the tree of its own key, a new one's too. With it an order takes at most 34,399 hashes for
+    /// each key that it makes, and 2,148 to sign by.
     #[tactic(auto, using(mb_device_orders::proofs::Spared::same_flash_spared, mb_device_orders::proofs::Spared::same_memory_spared))]
     pub fn step<B: Board, L: Ledger>(
         self,
@@ -58,10 +58,10 @@ impl Device {
         ensures spared { SparesSectors (B.seen b.old).memory (B.seen b.new).memory }
         ensures events { KeepsEvents WRITE_LIMIT (stop_told result.1) (B.seen b.old) (B.seen b.new) }
         ensures trees { KeepsItsTrees self event.now result.1 result.0 }
+        ensures done { KeepsTreeOnceDone event.now result.1 result.0 }
         ensures order { (before : Held) (world : World) (keys : ℕ) → IsSoundDevice self before world
-            → held_in (B.seen b.old) ≡ taken event.now before → LeavesKeyOf world event.now
-            → MakesKeysOf world event.now keys
-            → SignsByDeviceTree self keys result.1 result.0 hashes.old hashes.new }
+            → held_in (B.seen b.old) ≡ taken event.now before → MakesKeysOf world event.now keys
+            → SignsByDeviceTree self keys hashes.old hashes.new }
         ensures cost { hashes.new ≤ hashes.old + STEP_HASHES }
         ensures again { HasTreeFor self event.now → hashes.new ≤ hashes.old + LEAF_HASHES }
     {

@@ -1,5 +1,5 @@
 -- How an order is answered, and what a power loss leaves of it. Is an order obeyed wholly or not at all?
-use Rattle.std.specs.Prelude.{◌≡◌, ℕ, ◌⊎◌, List, false, None, Result, Ok, Err}
+use Rattle.std.specs.Prelude.{◌≡◌, ℕ, ◌⊎◌, List, false, Result, Ok, Err}
 use Rattle.mb_format.specs.Format.{Spells}
 use Rattle.mb_model.specs.declared.order.Order.{Order}
 use Rattle.mb_model.specs.declared.reply.Reply.{Reply}
@@ -8,11 +8,9 @@ use Rattle.mb_model.specs.declared.state.State.{State}
 use Rattle.mb_model.specs.outside.Board.{Memory}
 use Rattle.mb_model.specs.chains.Listing.{is_done}
 use Rattle.mb_model.specs.owners.Log.{keys_made_by}
-use Rattle.mb_model.specs.machine.OrderChecks.{view_of}
-use Rattle.mb_model.specs.machine.OrderEffects.{fact_of, names_next}
 use Rattle.mb_model.specs.records.OrderFormat.{order_format}
 use Rattle.mb_model.specs.machine.OrderStep.{OrderStep}
-use Rattle.mb_model.specs.machine.Work.{outgoing_by, bodies_for}
+use Rattle.mb_model.specs.machine.Work.{bodies_for}
 use Rattle.mb_model_memory.specs.Holding.{Means, IsReady}
 use Rattle.mb_device_orders.specs.declared.remembering.Known.{Known}
 use Rattle.mb_device_orders.specs.Remembering.{Knows}
@@ -44,12 +42,6 @@ Obeys state text draw known before after (Err stop) = IsOrderCut state text draw
 abbrev pub LeavesKnown : {S E : Type 0} → Result (S × Reply) E → Known → Known → Type 0
 LeavesKnown (Ok told) before after = is_done told.1 ≡ false → after ≡ before
 LeavesKnown (Err stop) before after = Unit {0}
-
--- an order that these bytes spell leaves the device key: it does not give way to another
-abbrev pub LeavesDeviceKey : State → List ℕ → Type 0
-LeavesDeviceKey state text =
-    (order : Order) → Spells order_format text order
-    → outgoing_by (view_of state) (names_next (fact_of state.layers order order.act)) ≡ None
 
 -- an order that these bytes spell makes this many keys: the entries that it appends name them
 abbrev pub MakesKeys : State → List ℕ → List ℕ → ℕ → Type 0

@@ -9,7 +9,7 @@ ghost use Rattle.mb_board.specs.Calls.{IsUp, Ran};
 ghost use Rattle.mb_model.specs.memories.Spared.{SparesSectors};
 ghost use Rattle.mb_model_memory.specs.Holding.{Means, IsReady};
 ghost use Rattle.mb_device_orders.specs.Planning.{IsCommit, HasCommit};
-ghost use Rattle.mb_boot.specs.Signers.{HasSigners};
+ghost use Rattle.mb_boot.specs.Signers.{HasSigners, HoldsDeviceTree};
 ghost use Rattle.mb_signer.specs.Benches.{HasTree};
 ghost use Rattle.mb_lms.specs.declared.hash_count.TheConstants.{LEAF_HASHES, SIGNING_HASHES};
 
@@ -48,6 +48,7 @@ pub fn commit<B: Board, L: Ledger>(
     ensures spared { SparesSectors (B.seen b.old).memory (B.seen b.new).memory }
     ensures ran { Ran 35 result (B.seen b.old) (B.seen b.new) }
     ensures kept { outgoing_of root.now.pending ≡ None → OnOk result (HasTree bench.new root.now.device) }
+    ensures held { HoldsDeviceTree bench.old root.now → OnOk result (HasTree bench.new root.now.device) }
     ensures cost { hashes.new ≤ hashes.old + 2 * SIGNING_HASHES }
     ensures again { HasSigners bench.old root.now → hashes.new ≤ hashes.old + 2 * LEAF_HASHES }
 {

@@ -1,6 +1,6 @@
 //! How the bytes of an order are read and judged.
 
-ghost use Rattle.std.specs.Prelude.{◌≡◌, ◌≤◌, ◌+◌, false, IfOk, IfErr, OnErr, ◌*◌};
+ghost use Rattle.std.specs.Prelude.{◌≡◌, ◌≤◌, ◌+◌, false, IfOk, IfErr, IsSome, OnErr, ◌*◌};
 ghost use Rattle.mb_format.specs.Format.{IsBytes};
 ghost use Rattle.mb_model.specs.declared.state.State.{State};
 ghost use Rattle.mb_model.specs.chains.Listing.{is_done};
@@ -13,6 +13,7 @@ ghost use Rattle.mb_model_memory.specs.Holding.{IsReady};
 ghost use Rattle.mb_boot.specs.Settling.{IsOnlyRoot};
 ghost use Rattle.mb_device_orders.specs.Remembering.{Knows, IsRemembered};
 ghost use Rattle.mb_device_orders.specs.Planning.{reply_for, ReadsText, JudgesText};
+ghost use Rattle.mb_signer.specs.Benches.{HasTree, IsBare, HasRoom};
 ghost use Rattle.mb_lms.specs.declared.hash_count.TheConstants.{TREE_HASHES};
 
 use crate::remembering::Known;
@@ -87,7 +88,7 @@ fn view_now<B: Board>(up: &Up<R1>, b: &B, known: &Known, root: &Root, room: &mut
 
 /// Reads the order that the bytes spell, and judges it. The error is the answer to an order that is not obeyed; nothing
 /// is hashed then. New keys are derived from `draw`, in 34,399 hashes for each key that the order's entries name. The
-/// tree of a new device key is on the bench afterwards.
+/// tree of a new device key is on the bench afterwards. A bench that was bare has room for another tree.
 #[tactic(auto, using(crate::proofs::Remembered::remembered_root, mb_boot::proofs::Settled::only_root, crate::proofs::Judgement::none_step))]
 pub fn judge_text<B: Board, L: Ledger>(
     alloc: Global,
@@ -107,6 +108,9 @@ pub fn judge_text<B: Board, L: Ledger>(
         → JudgesText state text.now draw.now result }
     ensures undone { IfErr result (λ answer. is_done answer ≡ false) }
     ensures root { IfOk result (λ judged. IsOnlyRoot (B.seen b.now).memory.bbram judged.root) }
+    ensures at_hand { IfOk result (λ judged. IsSome judged.plan.bodies.outgoing
+        → HasTree bench.new judged.plan.bodies.device) }
+    ensures room { IsBare bench.old → HasRoom bench.new }
     ensures cost { hashes.new ≤ hashes.old + 2 * TREE_HASHES }
     ensures keys { IfOk result (λ judged. hashes.new
         ≤ hashes.old + keys_made_by judged.plan.bodies.entries * TREE_HASHES) }

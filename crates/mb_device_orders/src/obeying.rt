@@ -9,7 +9,7 @@ ghost use Rattle.mb_model.specs.memories.Spared.{SparesSectors};
 ghost use Rattle.mb_model_memory.specs.Holding.{IsReady};
 ghost use Rattle.mb_model_memory.specs.Answering.{TellsOfWrites};
 ghost use Rattle.mb_device_orders.specs.Remembering.{Knows, IsRemembered};
-ghost use Rattle.mb_device_orders.specs.Obeying.{Obeys, LeavesKnown, LeavesDeviceKey, MakesKeys};
+ghost use Rattle.mb_device_orders.specs.Obeying.{Obeys, LeavesKnown, MakesKeys};
 ghost use Rattle.mb_lms.specs.declared.hash_count.TheConstants.{LEAF_HASHES, SIGNING_HASHES, TREE_HASHES};
 
 use crate::committing::commit;
@@ -31,10 +31,10 @@ use std::sync::ledger::Ledger;
 /// that is refused, nor if an allocation fails, which is an answer of its own. There are at most 35 write calls and
 /// 139,744 hashes.
 ///
-/// The order's entries are signed with the tree of the device key, if it is kept: an order that leaves that key then
-/// takes at most 34,399 hashes for each key that it makes, and 2,148 to sign by. Once an order is done, the tree of the
-/// device key that is then current is kept, and that of a region's key is dropped. If the order is refused or an
-/// allocation fails, the trees stay as they are.
+/// The order's entries are signed with the tree of the device key, if it is kept: then there are at most 34,399 hashes
+/// for each key that the order makes, and 2,148 to sign by. Once an order is done, the tree of the device key that is
+/// then current is kept, and that of a region's key is dropped. If the order is refused or an allocation fails, the
+/// trees stay as they are.
 #[tactic(auto, using(crate::proofs::Answered::has_passed))]
 pub fn obey<B: Board, L: Ledger>(
     alloc: Global,
@@ -53,17 +53,16 @@ pub fn obey<B: Board, L: Ledger>(
         → Obeys state text.now draw.now known.new (B.seen b.old).memory (B.seen b.new).memory
         result }
     ensures stays { LeavesKnown result known.old known.new }
-    ensures keeps { (state : State) → IsReady (B.seen b.old).memory state → Knows known.old state
-        → LeavesDeviceKey state text.now
-        → IfOk result (λ told. is_done told.1 ≡ true → IsSome known.new.trees.value.device) }
+    ensures keeps { IfOk result (λ told. is_done told.1 ≡ true
+        → IsSome known.new.trees.value.device) }
     ensures writes { TellsOfWrites result (B.seen b.old).memory (B.seen b.new).memory
         (B.seen b.old).meter (B.seen b.new).meter }
     ensures spared { SparesSectors (B.seen b.old).memory (B.seen b.new).memory }
     ensures ran { Ran 35 result (B.seen b.old) (B.seen b.new) }
     ensures cost { hashes.new ≤ hashes.old + 2 * TREE_HASHES + 2 * SIGNING_HASHES }
     ensures again { (state : State) (keys : ℕ) → IsReady (B.seen b.old).memory state
-        → Knows known.old state → LeavesDeviceKey state text.now
-        → MakesKeys state text.now draw.now keys → IsSome known.old.trees.value.device
+        → Knows known.old state → IsSome known.old.trees.value.device
+        → MakesKeys state text.now draw.now keys
         → hashes.new ≤ hashes.old + keys * TREE_HASHES + 2 * LEAF_HASHES }
 {
     let mut bench = Bench::new();

@@ -1,6 +1,6 @@
 //! What a device remembers of its state.
 
-ghost use Rattle.std.specs.Prelude.{◌≡◌, ◌≤◌, ◌<◌, List, length, IfSome, IsSome, None, Some};
+ghost use Rattle.std.specs.Prelude.{◌≡◌, ◌≤◌, ◌<◌, ◌⊎◌, List, length, IfSome, IsSome, None, Some};
 ghost use Rattle.mb_model.specs.declared.limits.TheConstants.{ENTRY_LIMIT, FILE_LIMIT};
 ghost use Rattle.mb_model.specs.declared.entry.SignedEntry.{SignedEntry};
 ghost use Rattle.mb_model.specs.declared.state.State.{State};
@@ -11,7 +11,7 @@ ghost use Rattle.mb_model.specs.owners.Log.{figures_of, entries_of};
 ghost use Rattle.mb_model.specs.memories.Sectors.{log_sector, BeginsAs};
 ghost use Rattle.mb_board.specs.Calls.{IsPowered, IsUp};
 ghost use Rattle.mb_model_memory.specs.Holding.{IsReady, HasReady};
-ghost use Rattle.mb_signer.specs.Benches.{HasTree};
+ghost use Rattle.mb_signer.specs.Benches.{HasTree, HasRoom, KeepsTrees};
 ghost use Rattle.mb_signer.specs.Tree.{IsTreeOf};
 ghost use Rattle.mb_device_orders.specs.Remembering.{Knows};
 
@@ -67,6 +67,8 @@ impl Known {
         ensures serial { self.new.serial ≡ self.old.serial }
         ensures figures { self.new.figures ≡ self.old.figures }
         ensures lent { IsSome self.old.trees.value.device → HasTree bench.new device.now }
+        ensures beside { HasRoom bench.old → KeepsTrees bench.old bench.new }
+        ensures room { HasRoom bench.old → HasRoom bench.new ⊎ HasTree bench.new device.now }
     {
         if let Some(tree) = self.trees.device.take() {
             bench.put(device, tree);

@@ -1,5 +1,5 @@
 -- What a fact adds, made piece by piece, is all that it adds.
-use Rattle.std.proofs.Common.{◌≡◌, ◌≤◌, ◌+◌, ◌*◌, ℕ, List, [], ◌∷◌, ◌++◌, Bool, true, false, refl, ap, ◌∙◌, arith}
+use Rattle.std.proofs.Common.{◌≡◌, ◌≤◌, ◌+◌, ◌*◌, ℕ, List, [], ◌∷◌, ◌++◌, Bool, true, false, refl, sym, ap, subst, ◌∙◌, arith}
 use Rattle.std.specs.Prelude.{Option, if◌then◌else◌}
 use Rattle.mb_model.specs.declared.key.KeySeed.{KeySeed}
 use Rattle.mb_model.specs.declared.entry.Entry.{Entry}
@@ -14,6 +14,8 @@ use Rattle.mb_model.specs.machine.OrderEffects.{names_next, entry_of, succession
 use Rattle.mb_model.specs.machine.Work.{ready_by, first_by, key_by, outgoing_by, bodies_by}
 use Rattle.mb_model_lemmas.proofs.LogLemmas.{made-push}
 use Rattle.mb_lms.specs.declared.hash_count.TheConstants.{TREE_HASHES}
+use Rattle.mb_signer.specs.declared.bench.Bench.{Bench}
+use Rattle.mb_signer.specs.Benches.{IsBare, HasRoom}
 
 pub bodies_made : (draw : List ℕ) (view ready : View) (fact : Fact) (names : Bool) (none items entries : List Entry) (own : Entry) (device : KeySeed) (uses : ℕ) (outgoing : Option Outgoing) (key : Option RegionKey)
     → names ≡ names_next fact → ready ≡ ready_by view names draw
@@ -23,6 +25,11 @@ pub bodies_made : (draw : List ℕ) (view ready : View) (fact : Fact) (names : B
     → ◌≡◌ {A = Bodies} (record { entries = entries; device = device; uses = uses; outgoing = outgoing; key = key }) (bodies_by view fact draw)
 unfolding bodies_by
 bodies_made draw view ready fact names none items entries own device uses outgoing key names_are ready_is none_is items_are entries_are own_is device_is uses_are outgoing_is key_is = cc
+
+-- at most one of the two pieces puts a tree on the bench
+pub room_left : (next : Bool) (old between new : Bench) → (next ≡ true → between ≡ old) → (IsBare old → HasRoom between) → (next ≡ false → new ≡ between) → (IsBare between → HasRoom new) → IsBare old → HasRoom new
+room_left true old between new stays room same own bare = own (subst IsBare (sym (stays refl)) bare)
+room_left false old between new stays room same own bare = subst HasRoom (sym (same refl)) (room bare)
 
 -- the trees of the two pieces are those of the keys that all entries name
 pub trees_counted : (none items first entries : List Entry) (own : Entry) (before between after : ℕ) → none ≡ [] → items ≡ none ++ first → entries ≡ items ++ own ∷ [] → between ≤ before + keys_made_by first * TREE_HASHES

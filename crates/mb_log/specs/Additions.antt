@@ -1,5 +1,5 @@
 -- When entries can be added. Does the log have room for them, and are the counts of the device in their ranges?
-use Rattle.std.specs.Prelude.{ℕ, ◌+◌, ◌≤◌}
+use Rattle.std.specs.Prelude.{◌+◌, ◌≤◌}
 use Rattle.mb_model.specs.declared.limits.TheConstants.{LAST_INDEX, ENTRY_LIMIT}
 use Rattle.mb_model.specs.declared.state.View.{View}
 use Rattle.mb_model.specs.declared.state.Fact.{Fact}

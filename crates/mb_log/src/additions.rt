@@ -6,9 +6,9 @@ ghost use Rattle.mb_model.specs.owners.Log.{keys_in, keys_made_by};
 ghost use Rattle.mb_model.specs.signatures.Signing.{public_of};
 ghost use Rattle.mb_model.specs.machine.OrderEffects.{names_next, next_key, next_device_key, entry_of, device_after, uses_after};
 ghost use Rattle.mb_model.specs.machine.Work.{ready_by, first_by, key_by, outgoing_by, bodies_by};
-ghost use Rattle.mb_model.specs.machine.OrderChecks.needed_with;
+ghost use Rattle.mb_model.specs.machine.OrderChecks.{needed_with};
 ghost use Rattle.mb_log.specs.Additions.{HasRoomFor, IsInRange};
-ghost use Rattle.mb_signer.specs.Benches.{HasTree};
+ghost use Rattle.mb_signer.specs.Benches.{HasTree, IsBare, HasRoom};
 ghost use Rattle.mb_lms.specs.declared.hash_count.TheConstants.{TREE_HASHES};
 
 use crate::keys::born;
@@ -40,7 +40,8 @@ pub fn needed(uses: u32, names_next: bool) -> u32
 
 /// The entries and keys that the fact adds to a device, in 34,399 hashes for each key that the entries name, of which
 /// there are at most two. New keys are derived from the draw. The tree of a new device key is on the bench afterwards,
-/// to sign by; that of a region's key is not, since the order does not sign by it.
+/// to sign by; that of a region's key is not, since the order does not sign by it. So a bench that was bare has room for
+/// another tree.
 ///
 /// No hash is taken if an allocation fails.
 pub fn bodies<L: Ledger>(
@@ -55,6 +56,7 @@ pub fn bodies<L: Ledger>(
     requires room { HasRoomFor view.now fact.now }
     ensures bodies { IfOk result (λ bodies. bodies ≡ bodies_by view.now fact.now draw.now) }
     ensures at_hand { IfOk result (λ bodies. IsSome bodies.outgoing → HasTree bench.new bodies.device) }
+    ensures room { IsBare bench.old → HasRoom bench.new }
     ensures cost { hashes.new ≤ hashes.old + 2 * TREE_HASHES }
     ensures keys { IfOk result (λ bodies. hashes.new
         ≤ hashes.old + keys_made_by bodies.entries * TREE_HASHES) }
@@ -114,6 +116,8 @@ fn make_ready<L: Ledger>(
     ensures entries { entries.new.items ≡ entries.old.items ++ first_by view.now names_next draw.now }
     ensures room { vec_len entries.new < vec_capacity entries.new }
     ensures at_hand { needed_with view.now.uses names_next ≡ 2 → HasTree bench.new result.device }
+    ensures same { names_next ≡ true → bench.new ≡ bench.old }
+    ensures left { IsBare bench.old → HasRoom bench.new }
     ensures cost { hashes.new ≤ hashes.old + TREE_HASHES }
     ensures keys { hashes.new
         ≤ hashes.old + keys_made_by (first_by view.now names_next draw.now) * TREE_HASHES }
@@ -153,6 +157,7 @@ fn next_device_key<L: Ledger>(
     ensures seed { result.seed ≡ next_key view.now draw.now }
     ensures public { result.public ≡ public_of (next_key view.now draw.now) }
     ensures at_hand { HasTree bench.new result.seed }
+    ensures room { IsBare bench.old → HasRoom bench.new }
     ensures cost { hashes.new ≤ hashes.old + TREE_HASHES }
 {
     let seed = born(draw, &view.serial, view.keys_made);
@@ -186,6 +191,7 @@ fn device_after<L: Ledger>(
     ensures uses { result.uses ≡ (if names_next then 0 else view.now.uses + 1) }
     ensures at_hand { names_next ≡ true → HasTree bench.new result.seed }
     ensures same { names_next ≡ false → bench.new ≡ bench.old }
+    ensures room { IsBare bench.old → HasRoom bench.new }
     ensures cost { hashes.new ≤ hashes.old + TREE_HASHES }
     ensures unmade { names_next ≡ false → hashes.new ≡ hashes.old }
 {
@@ -232,6 +238,7 @@ fn own_addition<L: Ledger>(
     ensures key { result.key ≡ key_by view.now fact.now draw.now }
     ensures at_hand { names_next fact.now ≡ true → HasTree bench.new result.device }
     ensures same { names_next fact.now ≡ false → bench.new ≡ bench.old }
+    ensures room { IsBare bench.old → HasRoom bench.new }
     ensures cost { hashes.new ≤ hashes.old + TREE_HASHES }
     ensures keys { hashes.new ≤ hashes.old + keys_in result.entry * TREE_HASHES }
 {

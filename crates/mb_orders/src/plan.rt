@@ -9,7 +9,7 @@ ghost use Rattle.mb_model.specs.machine.Fates.{change_fate};
 ghost use Rattle.mb_model.specs.machine.Work.{region_fate};
 ghost use Rattle.mb_log.specs.Additions.{IsInRange};
 ghost use Rattle.mb_orders.specs.Judging.{plan_by};
-ghost use Rattle.mb_signer.specs.Benches.{HasTree};
+ghost use Rattle.mb_signer.specs.Benches.{HasTree, IsBare, HasRoom};
 ghost use Rattle.mb_lms.specs.declared.hash_count.TheConstants.{TREE_HASHES};
 
 use mb_authority::{admits, after, kept_regions, layer_of, placed};
@@ -140,6 +140,7 @@ pub fn make_plan<L: Ledger>(
     ensures planned { IfOk result (λ plan. plan ≡ plan_by view.now order.now draw.now) }
     ensures at_hand { IfOk result (λ plan. IsSome plan.bodies.outgoing
         → HasTree bench.new plan.bodies.device) }
+    ensures room { IsBare bench.old → HasRoom bench.new }
     ensures cost { hashes.new ≤ hashes.old + 2 * TREE_HASHES }
     ensures keys { IfOk result (λ plan. hashes.new
         ≤ hashes.old + keys_made_by plan.bodies.entries * TREE_HASHES) }

@@ -13,6 +13,10 @@ IsTreeAt (Some own) seed = own.seed ≡ seed
 abbrev pub HasTree : Bench → KeySeed → Type 0
 HasTree bench seed = IsTreeAt bench.first seed ⊎ IsTreeAt bench.second seed
 
+-- no tree is on the bench
+abbrev pub IsBare : Bench → Type 0
+IsBare bench = (bench.first ≡ None) × (bench.second ≡ None)
+
 -- the bench has room for one more tree
 abbrev pub HasRoom : Bench → Type 0
 HasRoom bench = (bench.first ≡ None) ⊎ (bench.second ≡ None)

@@ -4,7 +4,7 @@ ghost use Rattle.std.specs.Prelude.{◌≡◌, ◌+◌, ◌≤◌, ◌++◌, ◌
 ghost use Rattle.mb_model.specs.declared.key.KeySeed.{KeySeed};
 ghost use Rattle.mb_model.specs.signatures.Signing.{public_of, signature_of};
 ghost use Rattle.mb_signer.specs.Tree.{IsTreeOf};
-ghost use Rattle.mb_signer.specs.Benches.{IsTreeAt, HasTree, HasRoom, KeepsTrees};
+ghost use Rattle.mb_signer.specs.Benches.{IsTreeAt, HasTree, IsBare, HasRoom, KeepsTrees};
 ghost use Rattle.mb_lms.specs.declared.hash_count.TheConstants.{LEAF_HASHES, SIGNING_HASHES, TREE_HASHES};
 
 use crate::key_tree::KeyTree;
@@ -26,8 +26,7 @@ pub struct Bench {
 impl Bench {
     /// A bench without trees.
     pub fn new() -> Bench
-        ensures first { result.first ≡ None }
-        ensures second { result.second ≡ None }
+        ensures { IsBare result }
     {
         Bench {
             first: None,
@@ -35,11 +34,13 @@ impl Bench {
         }
     }
 
-    /// Puts the tree of a key on the bench. If the bench has two trees already, this one replaces the second.
+    /// Puts the tree of a key on the bench. If the bench has two trees already, this one replaces the second; if it had
+    /// none, it has room for another.
     pub fn put(&mut self, seed: &KeySeed, tree: KeptTree)
         requires { IsTreeOf seed.now tree }
         ensures kept { HasTree self.new seed.now }
         ensures beside { HasRoom self.old → KeepsTrees self.old self.new }
+        ensures room { IsBare self.old → HasRoom self.new }
     {
         let own = KeyTree { seed: *seed, tree };
         if self.first.is_none() {
@@ -56,6 +57,7 @@ impl Bench {
         ensures others { (key : KeySeed) → HasTree self.old key
             → HasTree self.new key ⊎ (key ≡ seed.now) }
         ensures room { HasRoom self.old ⊎ IsSome result → HasRoom self.new }
+        ensures bare { IsBare self.old → IsBare self.new }
     {
         match take_from(&mut self.first, seed) {
             Some(tree) => Some(tree),
@@ -71,6 +73,7 @@ impl Bench {
         ensures others { (key : KeySeed) → HasTree self.old key
             → HasTree self.new key ⊎ (key ≡ seed.now) }
         ensures room { HasRoom self.old ⊎ HasTree self.old seed.now → HasRoom self.new }
+        ensures bare { IsBare self.old → IsBare self.new }
     {
         match self.take(seed) {
             Some(tree) => tree,
@@ -79,7 +82,7 @@ impl Bench {
     }
 
     /// The public key of the seed, as `public` gives it. Its tree is on the bench afterwards. Nothing is hashed if it
-    /// was there before (RFC 8554, section 5.3).
+    /// was there before (RFC 8554, section 5.3). A bench that was bare has room for another tree.
     pub fn public<L: Ledger>(&mut self, seed: &KeySeed, hashes: &mut HashCount<L>) -> PublicKey
         ensures key { result ≡ public_of seed.now }
         ensures kept { HasTree self.new seed.now }
@@ -87,6 +90,7 @@ impl Bench {
         ensures again { HasTree self.old seed.now → hashes.new ≡ hashes.old }
         ensures beside { HasRoom self.old ⊎ HasTree self.old seed.now
             → KeepsTrees self.old self.new }
+        ensures room { IsBare self.old → HasRoom self.new }
     {
         let tree = self.take_or_build(seed, hashes);
         let key = public_kept(&tree, seed);

@@ -1,7 +1,7 @@
-use Rattle.std.proofs.Common.{ℕ, List, refl, sym, ap, subst, ◌∙◌}
+use Rattle.std.proofs.Common.{ℕ, ◌⊎◌, List, refl, sym, ap, subst, ◌∙◌}
 use Rattle.mb_model.specs.records.HeaderFormat.{header_format}
 use Rattle.mb_model.specs.memories.Sectors.{BeginsAs}
-use Rattle.mb_signer.specs.Benches.{HasTree}
+use Rattle.mb_signer.specs.Benches.{HasTree, HasRoom}
 use Rattle.std.specs.Option.{option_copied}
 use Rattle.mb_segments.specs.Uncopied.{header_of}
 use Rattle.mb_boot.specs.Completions.{IsSignedSector}
@@ -33,7 +33,7 @@ pub returns-clause-kept : goal.returns-clause-kept
 returns-clause-kept g c = λ header begins some. subst (λ signer. HasTree c.sign_text.new.bench signer.key) c.signer_of-signer.ensures.signer c.sign_text.ensures.kept
 
 pub returns-clause-beside : goal.returns-clause-beside
-returns-clause-beside g c = λ has. c.sign_text.ensures.beside (subst (λ signer. HasTree c.args.bench.now signer.key) (sym c.signer_of-signer.ensures.signer) has)
+returns-clause-beside g c = λ has. c.sign_text.ensures.beside (subst (λ signer. HasRoom c.args.bench.now ⊎ HasTree c.args.bench.now signer.key) (sym c.signer_of-signer.ensures.signer) has)
 
 pub returns-clause-again : goal.returns-clause-again
 returns-clause-again g c = λ has. c.sign_text.ensures.again (subst (λ signer. HasTree c.args.bench.now signer.key) (sym c.signer_of-signer.ensures.signer) has)

@@ -1,7 +1,7 @@
 use Rattle.std.proofs.Common.{sym, subst}
 use Rattle.mb_model.specs.declared.stored.Root.{Root}
 use Rattle.mb_signer.specs.Benches.{HasTree}
-use Rattle.mb_boot.specs.Signers.{HasSigners}
+use Rattle.mb_boot.specs.Signers.{HasSigners, HoldsDeviceTree}
 use Rattle.mb_boot.proofs.Settled.{live_with, only_root, finish_keeps, spared_by_writes, spared_then}
 use Rattle.mb_model_memory.proofs.HoldingLemmas.{keeps_then, contents_keep}
 use Rattle.mb_boot.proofs.Signers.{same_signs}
@@ -74,3 +74,8 @@ returns-in_err-w-clause-again g c = λ root holds has. c.write_signed.ensures.ag
 
 pub returns-clause-again : goal.returns-clause-again
 returns-clause-again g c = λ root holds has. c.write_signed.ensures.again (subst (HasSigners c.args.bench.now) (c.read_root-root.ensures.root root holds) has)
+
+pub returns-clause-held : goal.returns-clause-held
+returns-clause-held g c = λ root holds has.
+    let same = c.read_root-root.ensures.root root holds in
+    subst (λ (r : Root). HasTree c.write_signed.new.bench r.device) (sym same) (c.in_ok-u-2.ensures.held (subst (HoldsDeviceTree c.args.bench.now) same has))

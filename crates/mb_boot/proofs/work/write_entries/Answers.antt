@@ -1,7 +1,7 @@
-use Rattle.std.proofs.Common.{arith}
+use Rattle.std.proofs.Common.{arith, inr}
 use Rattle.mb_model_memory.proofs.FlashFrames.{agree_then}
 use Rattle.mb_boot.proofs.Settled.{bounded, live_with_writes, log_completed}
-use Rattle.mb_boot.proofs.Signers.{device_kept}
+use Rattle.mb_boot.proofs.Signers.{device_kept, device_held}
 use Rattle.mb_boot.proofs.work.write_entries.Goals as goal
 
 pub read_header-requires-clause-area : goal.read_header-requires-clause-area
@@ -27,11 +27,15 @@ pub returns-in_err-u-clause-again : goal.returns-in_err-u-clause-again
 returns-in_err-u-clause-again g c = λ has. omega (arith, c.write_entry.ensures.again has.first)
 
 pub returns-in_err-u-2-clause-again : goal.returns-in_err-u-2-clause-again
-returns-in_err-u-2-clause-again g c = λ has. omega (arith, c.write_entry.ensures.again has.first, c.write_entry-2.ensures.again (c.write_entry.ensures.beside has.first _ has.second))
+returns-in_err-u-2-clause-again g c = λ has. omega (arith, c.write_entry.ensures.again has.first, c.write_entry-2.ensures.again (c.write_entry.ensures.beside (inr has.first) _ has.second))
 
 pub returns-clause-kept : goal.returns-clause-kept
 returns-clause-kept g c = λ signs.
     device_kept c.write_entry.new.bench c.write_entry-2.new.bench c.args.root.now signs.stays (c.write_entry.ensures.kept signs.header signs.holds signs.some) c.write_entry-2.ensures.beside
 
 pub returns-clause-again : goal.returns-clause-again
-returns-clause-again g c = λ has. omega (arith, c.write_entry.ensures.again has.first, c.write_entry-2.ensures.again (c.write_entry.ensures.beside has.first _ has.second))
+returns-clause-again g c = λ has. omega (arith, c.write_entry.ensures.again has.first, c.write_entry-2.ensures.again (c.write_entry.ensures.beside (inr has.first) _ has.second))
+
+pub returns-clause-held : goal.returns-clause-held
+returns-clause-held g c = λ holds.
+    device_held c.args.bench.now c.write_entry.new.bench c.write_entry-2.new.bench c.args.root.now holds c.write_entry.ensures.beside c.write_entry-2.ensures.beside

@@ -47,14 +47,18 @@ returns-in-Ok-clause-trees g c = trees_ordered {E = Off} (Ok (c.in-Ok.up, c.in-O
 pub returns-in-Err-clause-trees : goal.returns-in-Err-clause-trees
 returns-in-Err-clause-trees g c = trees_go 0 (event.Command c.args.text.now c.args.draw.now) reply.Stopped (Some c.args.running.known.trees.value) None refl refl refl
 
+pub returns-in-Ok-clause-done : goal.returns-in-Ok-clause-done
+returns-in-Ok-clause-done g c = c.in-Ok.ensures.keeps
+
+pub returns-in-Err-clause-done : goal.returns-in-Err-clause-done
+returns-in-Err-clause-done g c = λ done. absurd (cc)
+
 pub returns-in-Ok-clause-order : goal.returns-in-Ok-clause-order
-returns-in-Ok-clause-order g c = λ world keys sound leaves makes.
+returns-in-Ok-clause-order g c = λ world keys sound makes has.
     let ready = running_ready (device.One c.args.up c.args.running) 1 _ world sound.fits.state sound sound.fits.phase sound.fits.live in
-    let own = leaves sound.fits.state sound.fits.live in
-    record { kept = c.in-Ok.ensures.keeps sound.fits.state ready sound.fits.knows own; again = c.obey.ensures.again sound.fits.state keys ready sound.fits.knows own (makes sound.fits.state sound.fits.live) }
+    c.obey.ensures.again sound.fits.state keys ready sound.fits.knows has (makes sound.fits.state sound.fits.live)
 
 pub returns-in-Err-clause-order : goal.returns-in-Err-clause-order
-returns-in-Err-clause-order g c = λ world keys sound leaves makes.
+returns-in-Err-clause-order g c = λ world keys sound makes has.
     let ready = running_ready (device.One c.args.up c.args.running) 1 _ world sound.fits.state sound sound.fits.phase sound.fits.live in
-    let own = leaves sound.fits.state sound.fits.live in
-    record { kept = λ done. absurd (cc); again = c.obey.ensures.again sound.fits.state keys ready sound.fits.knows own (makes sound.fits.state sound.fits.live) }
+    c.obey.ensures.again sound.fits.state keys ready sound.fits.knows has (makes sound.fits.state sound.fits.live)

@@ -100,3 +100,6 @@ returns-clause-kept g c = λ stays.
 
 pub returns-clause-again : goal.returns-clause-again
 returns-clause-again g c = λ has. c.finish_order.ensures.again c.args.root.now (root_committed (g.B.Board.seen c.args.b.now).memory (g.B.Board.seen c.write_public.new.b).memory (g.B.Board.seen c.commit_root.new.b).memory c.args.root.now c.args.room.now c.requires.commit.state c.requires.commit.order c.requires.commit.draw c.requires.commit.commit (record { sized = c.requires.up.loaded; kept = c.write_public.ensures.contents; written = c.in_ok-up.ensures.written; commits = c.in_ok-unsettled.ensures.done; sized_after = c.commit_root.ensures.ran.ran.sized })) has
+
+pub returns-clause-held : goal.returns-clause-held
+returns-clause-held g c = λ holds. c.in_ok-up-2.ensures.held c.args.root.now (root_committed (g.B.Board.seen c.args.b.now).memory (g.B.Board.seen c.write_public.new.b).memory (g.B.Board.seen c.commit_root.new.b).memory c.args.root.now c.args.room.now c.requires.commit.state c.requires.commit.order c.requires.commit.draw c.requires.commit.commit (record { sized = c.requires.up.loaded; kept = c.write_public.ensures.contents; written = c.in_ok-up.ensures.written; commits = c.in_ok-unsettled.ensures.done; sized_after = c.commit_root.ensures.ran.ran.sized })) holds

@@ -6,7 +6,7 @@ use Rattle.mb_device_orders.specs.declared.remembering.Trees.{Trees}
 use Rattle.mb_device_orders.proofs.Planned.{knows_next, device_committed}
 use Rattle.mb_device_orders.proofs.Remembered.{device_in_force}
 use Rattle.mb_device_orders.proofs.Answered.{has_commit, answered_same, answered_done, order_cut}
-use Rattle.mb_device_orders.proofs.KeptTrees.{key_stays, lent_signs, keys_planned}
+use Rattle.mb_device_orders.proofs.KeptTrees.{commits_plan, keys_planned, signers_there, device_tree_kept}
 use Rattle.mb_device_orders.proofs.obeying.obey.Goals as goal
 
 pub returns-in-Err-clause-told : goal.returns-in-Err-clause-told
@@ -42,34 +42,42 @@ returns-clause-told g c = λ state ready knows.
     (device_committed c.in-Ok-plan_commit.planned.root state c.in-Ok.judged.order c.args.draw.now (1 - commit.area) c.take.result commit.root_is c.take.ensures.tree))
 
 pub returns-in-Err-clause-keeps : goal.returns-in-Err-clause-keeps
-returns-in-Err-clause-keeps g c = λ state ready knows leaves done. let no = c.in-Err.ensures.undone in absurd (cc)
+returns-in-Err-clause-keeps g c = λ done. let no = c.in-Err.ensures.undone in absurd (cc)
 
 pub returns-clause-keeps : goal.returns-clause-keeps
-returns-clause-keeps g c = λ state ready knows leaves done.
-    let passed = c.in-Ok.ensures.judged state ready knows in
-    let commit = c.in-Ok-plan_commit.ensures.commit state c.args.text.now c.args.draw.now ready passed in
-    c.take.ensures.found (c.in_ok-up.ensures.kept (key_stays (g.B.Board.seen c.args.b.now).memory state c.args.text.now c.args.draw.now c.in-Ok.judged c.in-Ok-plan_commit.planned.root c.plan_commit.new.room passed commit leaves).stays)
+returns-clause-keeps g c = λ done.
+    let is = c.requires.remembered in
+    let passed = c.in-Ok.ensures.judged is.state is.ready is.knows in
+    let commit = c.in-Ok-plan_commit.ensures.commit is.state c.args.text.now c.args.draw.now is.ready passed in
+    let plan = commits_plan (g.B.Board.seen c.args.b.now).memory is.state c.args.text.now c.args.draw.now c.in-Ok.judged c.in-Ok-plan_commit.planned.root c.plan_commit.new.room is.ready c.in-Ok.ensures.root passed commit in
+    let room = c.judge_text.ensures.room c.new-bench.ensures in
+    c.take.ensures.found (device_tree_kept c.in-Ok.judged c.in-Ok-plan_commit.planned.root c.lend.new.bench c.commit.new.bench plan (c.lend.ensures.room room)
+    (λ some. c.lend.ensures.beside room _ (c.in-Ok.ensures.at_hand some)) c.in_ok-up.ensures.kept c.in_ok-up.ensures.held)
 
 pub returns-in-Err-clause-again : goal.returns-in-Err-clause-again
-returns-in-Err-clause-again g c = λ state keys ready knows leaves makes some. omega (arith, c.in-Err.ensures.unhashed)
+returns-in-Err-clause-again g c = λ state keys ready knows some makes. omega (arith, c.in-Err.ensures.unhashed)
 
 pub returns-in-Err-plan_commit-clause-again : goal.returns-in-Err-plan_commit-clause-again
-returns-in-Err-plan_commit-clause-again g c = λ state keys ready knows leaves makes some.
+returns-in-Err-plan_commit-clause-again g c = λ state keys ready knows some makes.
     let counted = keys_planned state c.args.text.now c.args.draw.now c.in-Ok.judged keys (c.in-Ok.ensures.judged state ready knows) makes in
     omega (arith, c.in-Ok.ensures.keys, counted)
 
 pub returns-in_err-up-clause-again : goal.returns-in_err-up-clause-again
-returns-in_err-up-clause-again g c = λ state keys ready knows leaves makes some.
+returns-in_err-up-clause-again g c = λ state keys ready knows some makes.
     let passed = c.in-Ok.ensures.judged state ready knows in
     let commit = c.in-Ok-plan_commit.ensures.commit state c.args.text.now c.args.draw.now ready passed in
-    let has = lent_signs (g.B.Board.seen c.args.b.now).memory state c.args.text.now c.args.draw.now c.in-Ok.judged c.in-Ok-plan_commit.planned.root c.plan_commit.new.room c.lend.new.bench ready c.in-Ok.ensures.root passed commit leaves (c.lend.ensures.lent some) in
+    let plan = commits_plan (g.B.Board.seen c.args.b.now).memory state c.args.text.now c.args.draw.now c.in-Ok.judged c.in-Ok-plan_commit.planned.root c.plan_commit.new.room ready c.in-Ok.ensures.root passed commit in
+    let room = c.judge_text.ensures.room c.new-bench.ensures in
+    let has = signers_there c.in-Ok.judged c.in-Ok-plan_commit.planned.root c.lend.new.bench plan (c.lend.ensures.lent some) (λ out. c.lend.ensures.beside room _ (c.in-Ok.ensures.at_hand out)) in
     let counted = keys_planned state c.args.text.now c.args.draw.now c.in-Ok.judged keys passed makes in
     omega (arith, c.in-Ok.ensures.keys, counted, c.commit.ensures.again has)
 
 pub returns-clause-again : goal.returns-clause-again
-returns-clause-again g c = λ state keys ready knows leaves makes some.
+returns-clause-again g c = λ state keys ready knows some makes.
     let passed = c.in-Ok.ensures.judged state ready knows in
     let commit = c.in-Ok-plan_commit.ensures.commit state c.args.text.now c.args.draw.now ready passed in
-    let has = lent_signs (g.B.Board.seen c.args.b.now).memory state c.args.text.now c.args.draw.now c.in-Ok.judged c.in-Ok-plan_commit.planned.root c.plan_commit.new.room c.lend.new.bench ready c.in-Ok.ensures.root passed commit leaves (c.lend.ensures.lent some) in
+    let plan = commits_plan (g.B.Board.seen c.args.b.now).memory state c.args.text.now c.args.draw.now c.in-Ok.judged c.in-Ok-plan_commit.planned.root c.plan_commit.new.room ready c.in-Ok.ensures.root passed commit in
+    let room = c.judge_text.ensures.room c.new-bench.ensures in
+    let has = signers_there c.in-Ok.judged c.in-Ok-plan_commit.planned.root c.lend.new.bench plan (c.lend.ensures.lent some) (λ out. c.lend.ensures.beside room _ (c.in-Ok.ensures.at_hand out)) in
     let counted = keys_planned state c.args.text.now c.args.draw.now c.in-Ok.judged keys passed makes in
     omega (arith, c.in-Ok.ensures.keys, counted, c.commit.ensures.again has)

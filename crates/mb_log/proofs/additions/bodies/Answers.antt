@@ -1,5 +1,5 @@
-use Rattle.std.proofs.Common.{◌∙◌}
-use Rattle.mb_log.proofs.Added.{bodies_made, trees_counted}
+use Rattle.std.proofs.Common.{sym, ◌∙◌}
+use Rattle.mb_log.proofs.Added.{bodies_made, room_left, trees_counted}
 use Rattle.mb_log.proofs.additions.bodies.Goals as goal
 
 pub returns-clause-bodies : goal.returns-clause-bodies
@@ -9,6 +9,11 @@ returns-clause-bodies g c =
     c.own_addition-own.result.uses c.outgoing.result c.own_addition-own.result.key c.names_next-next_named.ensures
     c.make_ready-ready.ensures.ready c.in_ok-entries.ensures.items c.make_ready-ready.ensures.entries (c.from_vec.ensures ∙ c.put.ensures.items)
     c.own_addition-own.ensures.entry c.own_addition-own.ensures.device c.own_addition-own.ensures.uses c.outgoing.ensures c.own_addition-own.ensures.key
+
+pub returns-clause-room : goal.returns-clause-room
+returns-clause-room g c =
+    room_left c.names_next-next_named.result c.args.bench.now c.make_ready-ready.new.bench c.own_addition-own.new.bench c.make_ready-ready.ensures.same c.make_ready-ready.ensures.left
+    (λ no. c.own_addition-own.ensures.same (sym c.names_next-next_named.ensures ∙ no)) c.own_addition-own.ensures.room
 
 pub returns-clause-keys : goal.returns-clause-keys
 returns-clause-keys g c =

@@ -1,10 +1,14 @@
-use Rattle.std.proofs.Common.{arith, refl}
+use Rattle.std.proofs.Common.{arith, refl, subst}
 use Rattle.mb_model.specs.declared.event.Event.TheVariants as event
 use Rattle.mb_model.specs.declared.reply.Refusal.TheVariants.{PoweredOff, WrongPhase, Zeroised}
+use Rattle.mb_board.specs.Calls.{held_in}
+use Rattle.mb_device.specs.declared.device.Device.{Device}
 use Rattle.mb_device.specs.declared.device.Device.TheVariants as device
+use Rattle.mb_device.specs.KeptTrees.{HasDeviceTree, trees_of}
+use Rattle.mb_device.specs.Sound.{IsSoundDevice}
 use Rattle.mb_device.proofs.Worlds.{awake_off, awake_dead, awake_at, command_refused, command_past}
 use Rattle.mb_device.proofs.Steps.{refuses_as}
-use Rattle.mb_device.proofs.Trees.{refused_order, trees_refused}
+use Rattle.mb_device.proofs.Trees.{refused_undone_order, trees_refused}
 use Rattle.mb_device.proofs.device.Device.command.Goals as goal
 
 pub returns-in-Off-clause-steps : goal.returns-in-Off-clause-steps
@@ -39,14 +43,31 @@ returns-in-Two-clause-trees g c = trees_refused c.args.self (device.Two c.in-Two
 pub returns-in-Three-clause-trees : goal.returns-in-Three-clause-trees
 returns-in-Three-clause-trees g c = trees_refused c.args.self (device.Three c.in-Three.up c.in-Three.running) (device.Three c.in-Three.up c.in-Three.running) (event.Command c.args.text.now c.args.draw.now) c.reply-in-Three.result WrongPhase c.in-Three.is refl c.reply-in-Three.ensures
 
+pub returns-in-Off-clause-done : goal.returns-in-Off-clause-done
+returns-in-Off-clause-done g c = refused_undone_order (device.Off c.in-Off.off) c.args.text.now c.args.draw.now c.reply.result PoweredOff c.reply.ensures
+
+pub returns-in-Dead-clause-done : goal.returns-in-Dead-clause-done
+returns-in-Dead-clause-done g c = refused_undone_order (device.Dead c.in-Dead.dead) c.args.text.now c.args.draw.now c.reply-in-Dead.result Zeroised c.reply-in-Dead.ensures
+
+pub returns-in-Two-clause-done : goal.returns-in-Two-clause-done
+returns-in-Two-clause-done g c = refused_undone_order (device.Two c.in-Two.up c.in-Two.running) c.args.text.now c.args.draw.now c.reply-in-Two.result WrongPhase c.reply-in-Two.ensures
+
+pub returns-in-Three-clause-done : goal.returns-in-Three-clause-done
+returns-in-Three-clause-done g c = refused_undone_order (device.Three c.in-Three.up c.in-Three.running) c.args.text.now c.args.draw.now c.reply-in-Three.result WrongPhase c.reply-in-Three.ensures
+
+pub returns-in-One-clause-order : goal.returns-in-One-clause-order
+returns-in-One-clause-order g c = λ world keys sound makes has.
+    c.take_order.ensures.order world keys (subst (λ (d : Device). IsSoundDevice d (held_in (g.B.Board.seen c.args.b.now)) world) c.in-One.is sound) makes
+    (subst (λ (d : Device). HasDeviceTree (trees_of d)) c.in-One.is has)
+
 pub returns-in-Off-clause-order : goal.returns-in-Off-clause-order
-returns-in-Off-clause-order g c = λ world keys sound leaves makes. refused_order c.args.self (device.Off c.in-Off.off) keys c.reply.result _ PoweredOff c.reply.ensures
+returns-in-Off-clause-order g c = λ world keys sound makes has. omega arith
 
 pub returns-in-Dead-clause-order : goal.returns-in-Dead-clause-order
-returns-in-Dead-clause-order g c = λ world keys sound leaves makes. refused_order c.args.self (device.Dead c.in-Dead.dead) keys c.reply-in-Dead.result _ Zeroised c.reply-in-Dead.ensures
+returns-in-Dead-clause-order g c = λ world keys sound makes has. omega arith
 
 pub returns-in-Two-clause-order : goal.returns-in-Two-clause-order
-returns-in-Two-clause-order g c = λ world keys sound leaves makes. refused_order c.args.self (device.Two c.in-Two.up c.in-Two.running) keys c.reply-in-Two.result _ WrongPhase c.reply-in-Two.ensures
+returns-in-Two-clause-order g c = λ world keys sound makes has. omega arith
 
 pub returns-in-Three-clause-order : goal.returns-in-Three-clause-order
-returns-in-Three-clause-order g c = λ world keys sound leaves makes. refused_order c.args.self (device.Three c.in-Three.up c.in-Three.running) keys c.reply-in-Three.result _ WrongPhase c.reply-in-Three.ensures
+returns-in-Three-clause-order g c = λ world keys sound makes has. omega arith

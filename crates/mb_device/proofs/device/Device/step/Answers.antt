@@ -1,13 +1,11 @@
-use Rattle.std.proofs.Common.{◌≡◌, ℕ, List, Some, sym, subst, refl}
+use Rattle.std.proofs.Common.{◌≡◌, sym, subst, refl}
 use Rattle.mb_model.specs.declared.event.Event.{Event}
 use Rattle.mb_model.specs.declared.event.Event.TheVariants as event
 use Rattle.mb_model.specs.declared.reply.Reply.TheVariants as reply
-use Rattle.mb_model.specs.declared.state.State.{State}
 use Rattle.mb_model.specs.outside.Board.{Held}
 use Rattle.mb_board.specs.Calls.{held_by, held_in}
-use Rattle.mb_device_orders.specs.Obeying.{LeavesDeviceKey}
 use Rattle.mb_device.specs.Sound.{IsSoundDevice, taken, Steps}
-use Rattle.mb_device.specs.KeptTrees.{trees_of, HasTreeFor, KeepsItsTrees, LeavesKeyOf, MakesKeysOf}
+use Rattle.mb_device.specs.KeptTrees.{trees_of, HasTreeFor, KeepsItsTrees, MakesKeysOf}
 use Rattle.mb_device.proofs.Steps.{stays}
 use Rattle.mb_device.proofs.Taken.{goes_off, is_tampered, is_armed, off_same}
 use Rattle.mb_device.proofs.Uses.{unmetered}
@@ -75,39 +73,37 @@ pub returns-in-Command-clause-again : goal.returns-in-Command-clause-again
 returns-in-Command-clause-again g c = λ own. absurd (subst (λ (e : Event). HasTreeFor c.args.self e) c.in-Command.is own)
 
 pub returns-in-Boot-clause-order : goal.returns-in-Boot-clause-order
-returns-in-Boot-clause-order g c = λ before world keys sound same leaves makes. absurd (subst (LeavesKeyOf world) c.in-Boot.is leaves)
+returns-in-Boot-clause-order g c = λ before world keys sound same makes. absurd (subst (λ (e : Event). MakesKeysOf world e keys) c.in-Boot.is makes)
 
 pub returns-in-Off-clause-order : goal.returns-in-Off-clause-order
-returns-in-Off-clause-order g c = λ before world keys sound same leaves makes. absurd (subst (LeavesKeyOf world) c.in-Off.is leaves)
+returns-in-Off-clause-order g c = λ before world keys sound same makes. absurd (subst (λ (e : Event). MakesKeysOf world e keys) c.in-Off.is makes)
 
 pub returns-in-Tamper-clause-order : goal.returns-in-Tamper-clause-order
-returns-in-Tamper-clause-order g c = λ before world keys sound same leaves makes. absurd (subst (LeavesKeyOf world) c.in-Tamper.is leaves)
+returns-in-Tamper-clause-order g c = λ before world keys sound same makes. absurd (subst (λ (e : Event). MakesKeysOf world e keys) c.in-Tamper.is makes)
 
 pub returns-in-Cut-clause-order : goal.returns-in-Cut-clause-order
-returns-in-Cut-clause-order g c = λ before world keys sound same leaves makes. absurd (subst (LeavesKeyOf world) c.in-Cut.is leaves)
+returns-in-Cut-clause-order g c = λ before world keys sound same makes. absurd (subst (λ (e : Event). MakesKeysOf world e keys) c.in-Cut.is makes)
 
 pub returns-in-Status-clause-order : goal.returns-in-Status-clause-order
-returns-in-Status-clause-order g c = λ before world keys sound same leaves makes. absurd (subst (LeavesKeyOf world) c.in-Status.is leaves)
+returns-in-Status-clause-order g c = λ before world keys sound same makes. absurd (subst (λ (e : Event). MakesKeysOf world e keys) c.in-Status.is makes)
 
 pub returns-in-Go-clause-order : goal.returns-in-Go-clause-order
-returns-in-Go-clause-order g c = λ before world keys sound same leaves makes. absurd (subst (LeavesKeyOf world) c.in-Go.is leaves)
+returns-in-Go-clause-order g c = λ before world keys sound same makes. absurd (subst (λ (e : Event). MakesKeysOf world e keys) c.in-Go.is makes)
 
 pub returns-in-Put-clause-order : goal.returns-in-Put-clause-order
-returns-in-Put-clause-order g c = λ before world keys sound same leaves makes. absurd (subst (LeavesKeyOf world) c.in-Put.is leaves)
+returns-in-Put-clause-order g c = λ before world keys sound same makes. absurd (subst (λ (e : Event). MakesKeysOf world e keys) c.in-Put.is makes)
 
 pub returns-in-Get-clause-order : goal.returns-in-Get-clause-order
-returns-in-Get-clause-order g c = λ before world keys sound same leaves makes. absurd (subst (LeavesKeyOf world) c.in-Get.is leaves)
+returns-in-Get-clause-order g c = λ before world keys sound same makes. absurd (subst (λ (e : Event). MakesKeysOf world e keys) c.in-Get.is makes)
 
 pub returns-in-Drop-clause-order : goal.returns-in-Drop-clause-order
-returns-in-Drop-clause-order g c = λ before world keys sound same leaves makes. absurd (subst (LeavesKeyOf world) c.in-Drop.is leaves)
+returns-in-Drop-clause-order g c = λ before world keys sound same makes. absurd (subst (λ (e : Event). MakesKeysOf world e keys) c.in-Drop.is makes)
 
 pub returns-in-Sign-clause-order : goal.returns-in-Sign-clause-order
-returns-in-Sign-clause-order g c = λ before world keys sound same leaves makes. absurd (subst (LeavesKeyOf world) c.in-Sign.is leaves)
+returns-in-Sign-clause-order g c = λ before world keys sound same makes. absurd (subst (λ (e : Event). MakesKeysOf world e keys) c.in-Sign.is makes)
 
 pub returns-in-Command-clause-order : goal.returns-in-Command-clause-order
-returns-in-Command-clause-order g c = λ before world keys sound same leaves makes.
+returns-in-Command-clause-order g c = λ before world keys sound same makes.
     let at : held_in (g.B.Board.seen c.args.b.now) ≡ before = subst (λ (e : Event). held_in (g.B.Board.seen c.args.b.now) ≡ taken e before) c.in-Command.is same in
     let own : IsSoundDevice c.args.self (held_in (g.B.Board.seen c.args.b.now)) world = subst (λ (h : Held). IsSoundDevice c.args.self h world) (sym at) sound in
-    c.command.ensures.order world keys own
-    (subst (λ (text : List ℕ). (state : State) → world.state ≡ Some state → LeavesDeviceKey state text) (sym c.as_slice.ensures) (subst (LeavesKeyOf world) c.in-Command.is leaves))
-    (makes_with world keys _ _ _ _ c.in-Command.is c.as_slice.ensures makes)
+    c.command.ensures.order world keys own (makes_with world keys _ _ _ _ c.in-Command.is c.as_slice.ensures makes)
