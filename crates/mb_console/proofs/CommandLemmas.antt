@@ -82,7 +82,13 @@ unfolding CarriesOutRest CommandEnds
 refuse_here line why past used final before refuses same = λ after says.
     inl (record { says = subst (λ l. SaysLine l before after) refuses.line_is says; used = same; status_is = refuses.status_is })
 
--- an allocation fails before an output, before a text, at a load, before a choice, or while a value is made
+-- an allocation fails before a refusal, an output or a text, at a load, before a choice, or while a value is made
+pub memory_unrefused : (line : List ℕ) (past : Past) (used : Used) (final : Held) (before : Outside)
+    → past.wrote ≡ false → used ≡ past.used → CarriesOutRest (refuse line) past used final before (Err end.NoMemory) before
+unfolding CarriesOutRest CommandEnds
+memory_unrefused line past used final before none same = λ after says.
+    inr (wanted past used final before after none same says)
+
 pub memory_here : (output : Output) (rest : Command) (past : Past) (used : Used) (final : Held) (before : Outside)
     → past.wrote ≡ false → used ≡ past.used → CarriesOutRest (write output rest) past used final before (Err end.NoMemory) before
 unfolding CarriesOutRest CommandEnds

@@ -2,3 +2,4 @@ pub mod WordLemmas
 pub mod CommandLemmas
 pub mod Completing
 pub mod OutputLemmas
+pub mod Leading

@@ -73,6 +73,13 @@ CarriesOutAfter command before result now =
 abbrev pub CarriesOut : Command → Outside → Result (Unit {0}) End → Outside → Type 0
 CarriesOut command before result now = (final : Held) → CarriesOutRest command at_first not_used final before result now
 
+-- Whatever carries out this rest from `mid` on, after the later past, carries out the whole command from `before` on.
+pub record LeadsTo
+    (used : Used) (final : Held) (whole : Command) (past : Past) (before : Outside)
+    (rest : Command) (later : Past) (mid : Outside) : Type 0 where
+  pub lead : (result : Result (Unit {0}) End) (now : Outside)
+      → CarriesOutRest rest later used final mid result now → CarriesOutRest whole past used final before result now
+
 -- ---- inputs
 
 -- the input was read, and its bytes mean this value
