@@ -1,53 +1,27 @@
 -- What carries out `fleet`, and that it is never refused.
-use Rattle.std.proofs.Common.{◌≡◌, ◌≢◌, ℕ, List, [], ◌∷◌, true, Option, Result, Err, refl, sym, ◌∙◌, subst, inl, inr}
-use Rattle.mb_model.specs.outside.Board.{not_used}
+use Rattle.std.proofs.Common.{◌≡◌, ◌≢◌, ℕ, List, true, false, Option, Err, sym, ◌∙◌, inl, inr}
+use Rattle.mb_model.specs.outside.Board.{Held, Used}
 use Rattle.mb_model.specs.declared.key.PublicKey.{PublicKey}
-use Rattle.mb_model_commands.specs.declared.role.Role.TheVariants as role
 use Rattle.mb_model_commands.specs.Outside.{Outside, read_once}
-use Rattle.mb_model_commands.specs.Inputs.{root_input}
-use Rattle.mb_model_commands.specs.Commands.{Input, Command, Past, Ended, InputEnds, input_is_too_long, input_is_faulty, input_is_not_read, memory_lacks, PrintEnds, text_is_printed, text_is_not_printed, CommandEnds, ComesToRefusal, read, print, at_first}
-use Rattle.mb_console.specs.declared.end.End.{End}
+use Rattle.mb_model_commands.specs.Commands.{Input, Command, Past, Ended, InputEnds, input_is_too_long, input_is_faulty, input_is_not_read, memory_lacks, PrintEnds, text_is_printed, text_is_not_printed, CommandEnds, ComesToRefusal, read, find, at_first}
 use Rattle.mb_console.specs.declared.end.End.TheVariants as end
-use Rattle.mb_console.specs.Ending.{CarriesOutAfter, CarriesOut}
-use Rattle.mb_console.specs.Outputs.{writes}
-use Rattle.mb_console.proofs.CommandLemmas.{finds, memory_unfound, memory_here, lack_here}
+use Rattle.mb_console.specs.Ending.{CarriesOutRest, LeadsTo}
+use Rattle.mb_console.proofs.Leading.{finds, lacks_memory}
 use Rattle.mb_fleet.specs.declared.row.Row.{Row}
 use Rattle.mb_fleet.specs.declared.item.Item.{Item}
 use Rattle.mb_fleet.specs.declared.end.ServeEnd.{ServeEnd}
 use Rattle.mb_fleet.specs.declared.end.ServeEnd.TheVariants as serving
-use Rattle.mb_fleet.specs.RegisterFormat.{register_format}
-use Rattle.mb_fleet.specs.Serving.{AreServed}
 use Rattle.mb_fleet.specs.Ends.{ServesItems}
-use Rattle.mb_fleet.specs.Laws.{register_input, items_input}
-use Rattle.mb_tools_fleet.specs.FleetCommand.{FleetNames, FleetOutcome, all_served, text_too_long, ServingComesTo, keep_register, answer_items, fleet_with, fleet_under, fleet, FleetIsNotRefused}
+use Rattle.mb_tools_fleet.specs.FleetCommand.{FleetNames, FleetOutcome, all_served, text_too_long, ServingComesTo, keep_register, fleet, FleetIsNotRefused}
 
--- ---- the register is kept
+-- ---- items are not answered
 
-pub register_kept : (name : List ℕ) (rows : List Row) (bytes text : List ℕ) (before now : Outside) (result : Result (Unit {0}) End) → bytes ≡ register_format.spelling rows
-    → CarriesOutAfter (writes (record { role = role.Register; name = name; bytes = bytes } ∷ []) (print text)) before result now
-    → CarriesOut (keep_register name (all_served text rows)) before result now
-unfolding writes
-register_kept name rows bytes text before now result is carried = λ final.
-    (subst (λ b. CarriesOutAfter (writes (record { role = role.Register; name = name; bytes = b } ∷ []) (print text)) before result now) is carried) at_first final
-
-pub register_lacks : (name : List ℕ) (rows : List Row) (text : List ℕ) (before : Outside) → CarriesOut (keep_register name (all_served text rows)) before (Err end.NoMemory) before
-register_lacks name rows text before = λ final. memory_here _ _ at_first not_used final before refl refl
-
--- ---- items are answered
-
-pub items_answered : (names : FleetNames) (maker : PublicKey) (rows : List Row) (listed : List Item) (text : List ℕ) (after : List Row) (before now : Outside)
-    (result : Result (Unit {0}) End) → AreServed maker rows listed text after → CarriesOut (keep_register names.register (all_served text after)) before result now
-    → CarriesOut (answer_items names maker rows listed) before result now
-items_answered names maker rows listed text after before now result served carried = λ final.
-    finds (ServingComesTo maker rows listed) (keep_register names.register) at_first not_used final before now (all_served text after) result served (carried final)
-
-pub items_unanswered : (names : FleetNames) (maker : PublicKey) (rows : List Row) (listed : List Item) (after : List Row) (why : ServeEnd) (before : Outside)
-    → ServesItems maker rows listed (Err why) after → CarriesOut (answer_items names maker rows listed) before (Err end.NoMemory) before
-items_unanswered names maker rows listed after serving.TooLong before long = λ final.
-    finds (ServingComesTo maker rows listed) (keep_register names.register) at_first not_used final before before text_too_long (Err end.NoMemory) long
-    (lack_here at_first not_used final before refl)
-items_unanswered names maker rows listed after serving.NoMemory before free = λ final.
-    memory_unfound (ServingComesTo maker rows listed) (keep_register names.register) at_first not_used final before refl refl
+pub items_unanswered : {used : Used} {final : Held} {whole : Command} {past : Past} {before : Outside} {later : Past} {mid : Outside}
+    {maker : PublicKey} {rows : List Row} {listed : List Item} {name : List ℕ} (found : List Item) (after : List Row) (why : ServeEnd)
+    → LeadsTo used final whole past before (find (ServingComesTo maker rows listed) (keep_register name)) later mid → found ≡ listed → ServesItems maker rows found (Err why) after
+    → later.wrote ≡ false → used ≡ later.used → CarriesOutRest whole past used final before (Err end.NoMemory) mid
+items_unanswered found after serving.TooLong leads same long none kept = lacks_memory (finds leads text_too_long (rw same at long)) tt none kept
+items_unanswered found after serving.NoMemory leads same free none kept = lacks_memory leads tt none kept
 
 -- ---- no refusal
 
@@ -73,11 +47,11 @@ register_not_refused name (all_served text after) past e (inr (inl (mid, writes,
 register_not_refused name (all_served text after) past e (inr (inr wants)) = other_status e.status 6 wants.stops.status_is (λ is. cc)
 register_not_refused name text_too_long past e stops = other_status e.status 6 stops.status_is (λ is. cc)
 
-items_not_refused : (names : FleetNames) (maker : PublicKey) (rows : List Row) (listed : List Item) (past : Past) (e : Ended)
-    → CommandEnds (answer_items names maker rows listed) past e → e.status ≢ 7
+find_not_refused : {A : Type 0} (Is : A → Type 0) (rest : A → Command) → ((value : A) (past : Past) (e : Ended) → CommandEnds (rest value) past e → e.status ≢ 7)
+    → (past : Past) (e : Ended) → CommandEnds (find Is rest) past e → e.status ≢ 7
 unfolding CommandEnds
-items_not_refused names maker rows listed past e (inl (outcome, is, ends)) = register_not_refused names.register outcome past e ends
-items_not_refused names maker rows listed past e (inr wants) = other_status e.status 6 wants.stops.status_is (λ is. cc)
+find_not_refused Is rest later past e (inl (value, is, ends)) = later value past e ends
+find_not_refused Is rest later past e (inr wants) = other_status e.status 6 wants.stops.status_is (λ is. cc)
 
 -- a command that reads an input is not refused if what follows is not
 read_not_refused : {A : Type 0} (input : Input A) (rest : A → Command) → ((value : A) (past : Past) (e : Ended) → CommandEnds (rest value) past e → e.status ≢ 7)
@@ -88,9 +62,8 @@ read_not_refused input rest later past e (inr (bytes, has, (value, is, ends))) =
 
 never_ends_refused : (names : FleetNames) (e : Ended) → CommandEnds (fleet names) at_first e → e.status ≢ 7
 unfolding fleet
-never_ends_refused names e = read_not_refused (root_input names.root) (fleet_under names) (λ maker.
-    read_not_refused (register_input names.register) (fleet_with names maker) (λ rows.
-    read_not_refused (items_input names.items) (answer_items names maker rows) (items_not_refused names maker rows))) at_first e
+never_ends_refused names e = read_not_refused _ _ (λ maker. read_not_refused _ _ (λ rows. read_not_refused _ _ (λ listed.
+    find_not_refused (ServingComesTo maker rows listed) (keep_register names.register) (register_not_refused names.register)))) at_first e
 
 register_comes_to_none : (name : List ℕ) (outcome : FleetOutcome) (files : List ℕ → Option (List ℕ)) → ComesToRefusal (keep_register name outcome) files → ⊥
 unfolding ComesToRefusal

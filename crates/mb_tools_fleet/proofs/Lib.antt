@@ -1,1 +1,2 @@
 pub mod FleetLemmas
+pub mod FleetFromTop

@@ -37,18 +37,13 @@ keep_register name (all_served text after) =
     write (record { role = role.Register; name = name; bytes = register_format.spelling after }) (print text)
 keep_register name text_too_long = lack
 
-abbrev pub answer_items : FleetNames → PublicKey → List Row → List Item → Command
-answer_items names maker rows listed = find (ServingComesTo maker rows listed) (keep_register names.register)
-
-abbrev pub fleet_with : FleetNames → PublicKey → List Row → Command
-fleet_with names maker rows = read (items_input names.items) (answer_items names maker rows)
-
-abbrev pub fleet_under : FleetNames → PublicKey → Command
-fleet_under names maker = read (register_input names.register) (fleet_with names maker)
-
 -- the maker's public key, the register and the items are read, and the items are served
 unfoldable pub fleet : FleetNames → Command
-fleet names = read (root_input names.root) (fleet_under names)
+fleet names =
+    read (root_input names.root) (λ maker.
+    read (register_input names.register) (λ rows.
+    read (items_input names.items) (λ listed.
+    find (ServingComesTo maker rows listed) (keep_register names.register))))
 
 -- ---- what follows
 
