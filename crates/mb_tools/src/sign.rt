@@ -5,7 +5,7 @@ ghost use Rattle.mb_model.specs.declared.tools.Keyfile.{Keyfile};
 ghost use Rattle.mb_model.specs.owners.Layers.{is_upper};
 ghost use Rattle.mb_model.specs.records.OrderFormat.{order_format};
 ghost use Rattle.mb_model.specs.machine.SignedOrders.{keyfile_after_use};
-ghost use Rattle.mb_model_commands.specs.Sign.{sign, sign_draft, countersign, countersign_order, use_index, index_text};
+ghost use Rattle.mb_model_commands.specs.Sign.{sign, countersign, use_index, index_text};
 ghost use Rattle.mb_tools.specs.Names.{sign_files, sign_given, countersign_files, countersign_given};
 ghost use Rattle.mb_console.specs.Words.{given_argument};
 ghost use Rattle.mb_console.specs.Ending.{CarriesOut};
@@ -88,21 +88,7 @@ pub fn sign<H: Host, L: Ledger>(
     ensures carried { CarriesOut (sign (sign_files names.now)) (H.outside host.old) result (H.outside host.new) }
     ensures cost { hashes.new ≤ hashes.old + SIGNING_HASHES }
 {
-    let key = read_as(alloc, host, Role::Key, names.key, KeyForm)?;
-    sign_draft(alloc, names, key, host, hashes)
-}
-
-/// Signs the order of the draft by this key.
-fn sign_draft<H: Host, L: Ledger>(
-    alloc: Global,
-    names: &SignNames<'_>,
-    mut key: Keyfile,
-    host: &mut H,
-    hashes: &mut HashCount<L>,
-) -> Result<(), End>
-    ensures carried { CarriesOut (sign_draft (sign_files names.now) key) (H.outside host.old) result (H.outside host.new) }
-    ensures cost { hashes.new ≤ hashes.old + SIGNING_HASHES }
-{
+    let mut key = read_as(alloc, host, Role::Key, names.key, KeyForm)?;
     let mut order = read_as(alloc, host, Role::Draft, names.draft, DraftForm)?;
     let outputs = OutputNames {
         key: names.key,
@@ -126,22 +112,7 @@ pub fn countersign<H: Host, L: Ledger>(
     ensures carried { CarriesOut (countersign (countersign_files names.now)) (H.outside host.old) result (H.outside host.new) }
     ensures cost { hashes.new ≤ hashes.old + SIGNING_HASHES }
 {
-    let key = read_as(alloc, host, Role::Key, names.key, KeyForm)?;
-    countersign_order(alloc, names, key, host, hashes)
-}
-
-/// Countersigns the order of the line by this key.
-fn countersign_order<H: Host, L: Ledger>(
-    alloc: Global,
-    names: &CountersignNames<'_>,
-    mut key: Keyfile,
-    host: &mut H,
-    hashes: &mut HashCount<L>,
-) -> Result<(), End>
-    requires layer { IsTrue (is_upper names.now.layer) }
-    ensures carried { CarriesOut (countersign_order (countersign_files names.now) key) (H.outside host.old) result (H.outside host.new) }
-    ensures cost { hashes.new ≤ hashes.old + SIGNING_HASHES }
-{
+    let mut key = read_as(alloc, host, Role::Key, names.key, KeyForm)?;
     let mut order = read_as(alloc, host, Role::Order, names.order, OrderLine)?;
     let outputs = OutputNames {
         key: names.key,
