@@ -21,7 +21,7 @@ use Rattle.mb_policy.specs.declared.judging.Judgement.TheVariants as judgement
 use Rattle.mb_policy.specs.Judging.{default_ruling, IsJudged}
 use Rattle.mb_policy.specs.Policies.{PolicyItem}
 use Rattle.mb_tools_policy.specs.Inputs.{policy_input}
-use Rattle.mb_tools_policy.specs.TrustCommand.{TrustNames, trust, trust_under, trust_chain, trust_by_policy, judge_verdict, tell_judgement}
+use Rattle.mb_tools_policy.specs.TrustCommand.{TrustNames, trust, judge_verdict, tell_judgement}
 use Rattle.mb_policy_histories.specs.TrustLaws.{AllowsKey, DoneTrustAllows, AllowedStatementsWereMade, ShownStatementsCanBeAllowed, DeniedStatementsAreNotAllowed}
 
 -- ---- ends at status 0
@@ -96,11 +96,11 @@ module _ (names : TrustNames) (ending : Ended) (done : ending.status ≡ 0) wher
 pub done_trust_allows : DoneTrustAllows
 unfolding trust at_policy
 done_trust_allows names ending ends done =
-    let root = read_on (root_input names.root) (trust_under names) at_first ending ends done in
+    let root = read_on (root_input names.root) _ at_first ending ends done in
     let after_root : Ended = end_seen_from (read_once ending.before) ending in
-    let chain = read_on (chain_bytes_input names.chain) (trust_chain names root.2.0) at_first after_root root.2.2 done in
+    let chain = read_on (chain_bytes_input names.chain) _ at_first after_root root.2.2 done in
     let after_chain : Ended = end_seen_from (read_once (read_once ending.before)) ending in
-    let policy = read_on (policy_input names.policy) (trust_by_policy names root.2.0 chain.2.0) at_first after_chain chain.2.2 done in
+    let policy = read_on (policy_input names.policy) _ at_first after_chain chain.2.2 done in
     let verdict = find_on (IsVerdict root.2.0 chain.2.0 names.key) (judge_verdict policy.2.0) at_first (at_policy names ending done) policy.2.2 done in
     allowed_by names ending done root.0 chain.2.0 policy.0 root.2.0 policy.2.0 verdict.0 root.1 root.2.1
     (subst (HasRead (read_once ending.before) names.chain) (sym chain.2.1) chain.1) policy.1 policy.2.1 verdict.1 verdict.2

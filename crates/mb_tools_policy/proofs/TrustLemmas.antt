@@ -1,40 +1,35 @@
 -- What carries out `trust`.
-use Rattle.std.proofs.Common.{◌≡◌, ℕ, List, [], codes, Option, None, Some, Result, Err, refl, sym, subst, inl, inr}
-use Rattle.mb_model.specs.outside.Board.{not_used}
+use Rattle.std.proofs.Common.{◌≡◌, ℕ, false, List, [], codes, Option, None, Some, Result, Err, refl, sym, subst, inl, inr}
+use Rattle.mb_model.specs.outside.Board.{Held, Used, not_used}
 use Rattle.mb_model.specs.declared.key.PublicKey.{PublicKey}
 use Rattle.mb_model.specs.declared.state.Report.{Report}
 use Rattle.mb_model.specs.outside.Texts.{line_with_lf}
-use Rattle.mb_model.specs.chains.Acceptance.{ChainRefusal, Accepts, IsRefused, chain_acceptance, chain_rejection}
+use Rattle.mb_model.specs.chains.Acceptance.{ChainRefusal, IsRefused, chain_acceptance, chain_rejection}
 use Rattle.mb_model.specs.chains.Acceptance.{IsVerdict}
 use Rattle.mb_model_commands.specs.Outside.{Outside}
-use Rattle.mb_model_commands.specs.Commands.{print, at_first}
-use Rattle.mb_model_commands.specs.VerifyCommand.{chain_refusal_line}
+use Rattle.mb_model_commands.specs.Commands.{Command, find, print, Past, at_first}
 use Rattle.mb_policy.specs.declared.judging.Judgement.TheVariants as judgement
 use Rattle.mb_policy.specs.Policies.{PolicyItem}
 use Rattle.mb_policy.specs.Judging.{IsJudged}
 use Rattle.mb_console.specs.declared.end.End.{End}
 use Rattle.mb_console.specs.declared.end.End.TheVariants as end
-use Rattle.mb_console.specs.Ending.{CarriesOutAfter, CarriesOut}
+use Rattle.mb_console.specs.Ending.{CarriesOutRest, CarriesOutAfter, CarriesOut, LeadsTo}
 use Rattle.mb_console.specs.Outputs.{writes}
 use Rattle.mb_console.proofs.CommandLemmas.{finds, refuse_here, memory_unfound}
+use Rattle.mb_console.proofs.Leading as step
 use Rattle.mb_tools.specs.Chains.{TellsRefusal}
-use Rattle.mb_tools_policy.specs.TrustCommand.{TrustNames, denied_line, tell_judgement, judge_verdict, trust_by_policy}
+use Rattle.mb_tools_policy.specs.TrustCommand.{denied_line, tell_judgement, judge_verdict}
 use Rattle.mb_tools_policy.specs.Denials.{TellsDenial}
 
 -- ---- a chain that is judged
 
-pub chain_judged : (names : TrustNames) (maker : PublicKey) (bytes : List ℕ) (items : List PolicyItem) (report : Report) (before now : Outside) (result : Result (Unit {0}) End) → Accepts maker bytes names.key report
-    → CarriesOut (judge_verdict items (chain_acceptance report)) before result now → CarriesOut (trust_by_policy names maker bytes items) before result now
-chain_judged names maker bytes items report before now result accepts carried = λ final.
-    finds (IsVerdict maker bytes names.key) (judge_verdict items) at_first not_used final before now (chain_acceptance report) result accepts (carried final)
-
-pub chain_not_judged : (names : TrustNames) (maker : PublicKey) (bytes : List ℕ) (items : List PolicyItem) (found : Option ChainRefusal) (why : End) (before : Outside)
-    → ((reason : ChainRefusal) → found ≡ Some reason → IsRefused maker bytes names.key reason) → TellsRefusal found why → CarriesOut (trust_by_policy names maker bytes items) before (Err why) before
-chain_not_judged names maker bytes items (Some reason) why before refused tells = λ final.
-    finds (IsVerdict maker bytes names.key) (judge_verdict items) at_first not_used final before before (chain_rejection reason) _ (refused reason refl) (refuse_here (chain_refusal_line reason) why at_first not_used final before tells refl)
-chain_not_judged names maker bytes items None why before refused tells =
-    subst (λ w. CarriesOut (trust_by_policy names maker bytes items) before (Err w) before) (sym tells) (λ final.
-    memory_unfound (IsVerdict maker bytes names.key) (judge_verdict items) at_first not_used final before refl refl)
+pub chain_not_judged : {used : Used} {final : Held} {whole : Command} {past : Past} {before : Outside} {later : Past} {mid : Outside}
+    {maker : PublicKey} {bytes : List ℕ} {number : ℕ} {items : List PolicyItem} (found : Option ChainRefusal) (why : End)
+    → LeadsTo used final whole past before (find (IsVerdict maker bytes number) (judge_verdict items)) later mid
+    → ((reason : ChainRefusal) → found ≡ Some reason → IsRefused maker bytes number reason) → TellsRefusal found why
+    → later.wrote ≡ false → used ≡ later.used → CarriesOutRest whole past used final before (Err why) mid
+chain_not_judged (Some reason) why leads refused tells none same = step.is_refused (step.finds leads (chain_rejection reason) (refused reason refl)) same why tells
+chain_not_judged None why leads refused tells none same = rw tells (step.lacks_memory leads tt none same)
 
 -- ---- a report that is judged
 

@@ -2,7 +2,6 @@
 -- chain lists for it?
 use Rattle.std.specs.Prelude.{ℕ, List, ◌++◌, codes}
 use Rattle.std.specs.Fmt.{decimal}
-use Rattle.mb_model.specs.declared.key.PublicKey.{PublicKey}
 use Rattle.mb_model.specs.outside.Texts.{line_with_lf}
 use Rattle.mb_model.specs.chains.Acceptance.{Verdict, chain_acceptance, chain_rejection, IsVerdict}
 use Rattle.mb_model_commands.specs.Commands.{Command, read, find, print, refuse}
@@ -35,15 +34,10 @@ abbrev pub judge_verdict : List PolicyItem → Verdict → Command
 judge_verdict items (chain_acceptance report) = find (IsJudged items report) tell_judgement
 judge_verdict items (chain_rejection why) = refuse (chain_refusal_line why)
 
-abbrev pub trust_by_policy : TrustNames → PublicKey → List ℕ → List PolicyItem → Command
-trust_by_policy names maker bytes items = find (IsVerdict maker bytes names.key) (judge_verdict items)
-
-abbrev pub trust_chain : TrustNames → PublicKey → List ℕ → Command
-trust_chain names maker bytes = read (policy_input names.policy) (trust_by_policy names maker bytes)
-
-abbrev pub trust_under : TrustNames → PublicKey → Command
-trust_under names maker = read (chain_bytes_input names.chain) (trust_chain names maker)
-
 -- the maker's public key, the chain and the policy are read; then the chain is verified, and its report judged
 unfoldable pub trust : TrustNames → Command
-trust names = read (root_input names.root) (trust_under names)
+trust names =
+    read (root_input names.root) (λ maker.
+    read (chain_bytes_input names.chain) (λ bytes.
+    read (policy_input names.policy) (λ items.
+    find (IsVerdict maker bytes names.key) (judge_verdict items))))

@@ -1,19 +1,18 @@
 //! The command `trust`.
 
-ghost use Rattle.std.specs.Prelude.{◌≡◌, ◌≤◌, length, map, IfOk};
-ghost use Rattle.mb_model.specs.declared.limits.TheConstants.{FILE_LIMIT};
+ghost use Rattle.std.specs.Prelude.{◌≡◌, map, IfOk};
 ghost use Rattle.mb_model.specs.chains.Acceptance.{chain_acceptance};
 ghost use Rattle.mb_console.specs.Ending.{CarriesOut};
 ghost use Rattle.mb_console.specs.Words.{given_argument};
 ghost use Rattle.mb_policy.specs.Meanings.{policy_items};
-ghost use Rattle.mb_tools_policy.specs.TrustCommand.{trust, trust_under, trust_chain, trust_by_policy, judge_verdict, denied_line};
+ghost use Rattle.mb_tools_policy.specs.TrustCommand.{trust, judge_verdict, denied_line};
 ghost use Rattle.mb_tools_policy.specs.Names.{trust_files, trust_given};
 ghost use Rattle.mb_tools_policy.specs.Denials.{TellsDenial};
 
 use crate::input::PolicyForm;
 use mb_console::{Arguments, End, LongLine, file, finish, number, read_as};
 use mb_host::Host;
-use mb_model::{NoMemory, PublicKey};
+use mb_model::NoMemory;
 use mb_model_commands::Role;
 use mb_policy::{Judgement, Policy, judge_report};
 use mb_tools::verify::end_of;
@@ -50,51 +49,10 @@ pub fn trust<H: Host>(alloc: Global, names: &TrustNames<'_>, host: &mut H) -> Re
     ensures { CarriesOut (trust (trust_files names.now)) (H.outside host.old) result (H.outside host.new) }
 {
     let root = read_as(alloc, host, Role::Root, names.root, PublicKeyForm)?;
-    trust_under(alloc, names, &root, host)
-}
-
-/// Verifies a chain under this key, and judges its report.
-fn trust_under<H: Host>(
-    alloc: Global,
-    names: &TrustNames<'_>,
-    root: &PublicKey,
-    host: &mut H,
-) -> Result<(), End>
-    ensures { CarriesOut (trust_under (trust_files names.now) root.now) (H.outside host.old) result (H.outside host.new) }
-{
     let chain = read_as(alloc, host, Role::Chain, names.chain, AnyBytes)?;
-    trust_chain(alloc, names, root, &chain, host)
-}
-
-/// Verifies this chain, and judges its report by a policy.
-fn trust_chain<H: Host>(
-    alloc: Global,
-    names: &TrustNames<'_>,
-    root: &PublicKey,
-    chain: &[u8],
-    host: &mut H,
-) -> Result<(), End>
-    requires short { length chain.now ≤ FILE_LIMIT }
-    ensures { CarriesOut (trust_chain (trust_files names.now) root.now chain.now) (H.outside host.old) result (H.outside host.new) }
-{
     let policy = read_as(alloc, host, Role::Policy, names.policy, PolicyForm)?;
-    trust_by_policy(alloc, names, root, chain, &policy, host)
-}
-
-/// Verifies this chain, and judges its report by this policy.
-fn trust_by_policy<H: Host>(
-    alloc: Global,
-    names: &TrustNames<'_>,
-    root: &PublicKey,
-    chain: &[u8],
-    policy: &Policy,
-    host: &mut H,
-) -> Result<(), End>
-    requires short { length chain.now ≤ FILE_LIMIT }
-    ensures { CarriesOut (trust_by_policy (trust_files names.now) root.now chain.now (policy_items policy.now)) (H.outside host.old) result (H.outside host.new) }
-{
-    match verify(alloc, root, chain, names.key) {
-        Ok(report) => judge(alloc, policy, &report, host),
+    match verify(alloc, &root, &chain, names.key) {
+        Ok(report) => judge(alloc, &policy, &report, host),
         Err(why) => Err(end_of(why)),
     }
 }
