@@ -1,14 +1,13 @@
 -- What carries out `endorse`.
-use Rattle.std.proofs.Common.{◌≡◌, ℕ, ◌^◌, List, [], ◌∷◌, ◌++◌, codes, Result, Err, refl, sym, ◌∙◌, ap, subst, arith}
+use Rattle.std.proofs.Common.{◌≡◌, ℕ, ◌^◌, List, [], ◌∷◌, ◌++◌, Result, Err, refl, sym, ◌∙◌, ap, subst, arith}
 use Rattle.std.specs.Global.{Vec}
-use Rattle.mb_model.specs.outside.Board.{not_used}
+use Rattle.mb_model.specs.outside.Board.{Held, not_used}
 use Rattle.mb_model.specs.declared.key.PublicKey.{PublicKey}
 use Rattle.mb_model.specs.signatures.Key.{key_bytes}
 use Rattle.mb_model_commands.specs.declared.role.Role.TheVariants as role
 use Rattle.mb_model_commands.specs.Outside.{Outside}
 use Rattle.mb_model_commands.specs.Sign.{index_text}
-use Rattle.mb_model_commands.specs.Commands.{Output, print, at_first}
-use Rattle.mb_model_commands.specs.Inputs.{root_input}
+use Rattle.mb_model_commands.specs.Commands.{Output, Command, print, Past, at_first}
 use Rattle.mb_hss.specs.declared.maker.Maker.{Maker}
 use Rattle.mb_hss.specs.declared.signing.HssEnd.{HssEnd}
 use Rattle.mb_hss.specs.declared.signing.HssEnd.TheVariants as cause
@@ -16,11 +15,12 @@ use Rattle.mb_hss.specs.MakerFormat.{maker_format}
 use Rattle.mb_hss.specs.MakerSignatures.{maker_signature, Signs, SignsOnto}
 use Rattle.mb_console.specs.declared.end.End.{End}
 use Rattle.mb_console.specs.declared.end.End.TheVariants as end
-use Rattle.mb_console.specs.Ending.{CarriesOutRest, CarriesOutAfter, CarriesOut, HasInput}
+use Rattle.mb_console.specs.Ending.{CarriesOutRest, CarriesOutAfter, CarriesOut, LeadsTo}
 use Rattle.mb_console.specs.Outputs.{writes}
-use Rattle.mb_console.proofs.CommandLemmas.{read_on, goes_first, goes_second, refuse_here, memory_here, memory_chosen}
+use Rattle.mb_console.proofs.CommandLemmas.{memory_here}
+use Rattle.mb_console.proofs.Leading.{chooses_first, chooses_second, is_refused, lacks_memory}
 use Rattle.mb_tools_hss.specs.declared.endorse.TheConstants.{ENDORSED_TEXT}
-use Rattle.mb_tools_hss.specs.Endorse.{EndorseNames, endorsed_text, use_number, endorse_root, endorse_by}
+use Rattle.mb_tools_hss.specs.Endorse.{EndorseNames, endorsed_text, use_number, endorse_root}
 use Rattle.mb_tools_hss.specs.Unendorsed.{TellsUnendorsed}
 
 abbrev pub endorsement_outputs : EndorseNames → List ℕ → List ℕ → List Output
@@ -51,23 +51,18 @@ signed_root maker after root body old new is_body none signs =
     subst (λ (b : List ℕ). Signs maker (ENDORSED_TEXT ∷ b) new.items after) is_body
     (subst (λ (s : List ℕ). Signs maker (ENDORSED_TEXT ∷ body) s after) is signs.signs)
 
--- the root key was read, and the maker signed it
-pub root_endorsed : (names : EndorseNames) (maker after : Maker) (root : PublicKey) (signature : List ℕ) (before mid now : Outside) (result : Result (Unit {0}) End)
-    → HasInput (root_input names.root) before mid root → Signs maker (endorsed_text root) signature after → CarriesOut (use_number names maker root) mid result now
-    → CarriesOut (endorse_by names maker) before result now
+-- the maker signed the root key
+pub root_signed : {final : Held} {whole : Command} {past : Past} {before mid : Outside} (names : EndorseNames) (maker after : Maker) (root : PublicKey) (signature : List ℕ)
+    (result : Result (Unit {0}) End) (now : Outside) → LeadsTo not_used final whole past before (endorse_root names maker root) at_first mid
+    → Signs maker (endorsed_text root) signature after → CarriesOut (use_number names maker root) mid result now → CarriesOutRest whole past not_used final before result now
 unfolding endorse_root
-root_endorsed names maker after root signature before mid now result has signs carried = λ final.
-    read_on (root_input names.root) (endorse_root names maker) at_first not_used final before mid now root result has
-    (goes_second _ _ _ at_first not_used final mid now result (λ spent. omega (arith, spent, signs.left)) (carried final))
+root_signed {final = final} names maker after root signature result now leads signs carried =
+    (chooses_second leads (λ spent. omega (arith, spent, signs.left))).lead result now (carried final)
 
--- the root key was read, and the maker did not sign it
-pub root_not_endorsed : (names : EndorseNames) (maker : Maker) (root : PublicKey) (before mid : Outside) (why_not : HssEnd) (why : End) → HasInput (root_input names.root) before mid root
-    → (why_not ≡ cause.Spent → maker.next ≡ 32 ^ maker.levels) → TellsUnendorsed why_not why → CarriesOut (endorse_by names maker) before (Err why) mid
+-- it did not
+pub root_not_signed : {final : Held} {whole : Command} {past : Past} {before mid : Outside} (names : EndorseNames) (maker : Maker) (root : PublicKey) (why_not : HssEnd) (why : End)
+    → LeadsTo not_used final whole past before (endorse_root names maker root) at_first mid → (why_not ≡ cause.Spent → maker.next ≡ 32 ^ maker.levels) → TellsUnendorsed why_not why
+    → CarriesOutRest whole past not_used final before (Err why) mid
 unfolding endorse_root
-root_not_endorsed names maker root before mid cause.Spent why has spent tells = λ final.
-    read_on (root_input names.root) (endorse_root names maker) at_first not_used final before mid mid root _ has
-    (goes_first _ _ _ at_first not_used final mid mid _ (spent refl) (refuse_here (codes "spent") why at_first not_used final mid tells refl))
-root_not_endorsed names maker root before mid cause.NoMemory why has spent tells = λ final.
-    subst (λ w. CarriesOutRest (endorse_by names maker) at_first not_used final before (Err w) mid) (sym tells)
-    (read_on (root_input names.root) (endorse_root names maker) at_first not_used final before mid mid root _ has
-    (memory_chosen _ _ _ at_first not_used final mid refl refl))
+root_not_signed names maker root cause.Spent why leads spent tells = is_refused (chooses_first leads (spent refl)) refl why tells
+root_not_signed names maker root cause.NoMemory why leads spent tells = rw tells (lacks_memory leads tt refl refl)

@@ -1,3 +1,2 @@
 pub mod HsskeygenLemmas
 pub mod EndorseLemmas
-pub mod EndorsedLemmas

@@ -43,8 +43,9 @@ unfoldable pub endorse_root : EndorseNames → Maker → PublicKey → Command
 endorse_root names maker root =
     either_command (maker.next ≡ 32 ^ maker.levels) (refuse (codes "spent")) (use_number names maker root)
 
-abbrev pub endorse_by : EndorseNames → Maker → Command
-endorse_by names maker = read (root_input names.root) (endorse_root names maker)
-
+-- the maker's key and the root key are read, and the maker endorses the root key
 unfoldable pub endorse : EndorseNames → Command
-endorse names = read (maker_input names.key) (endorse_by names)
+endorse names =
+    read (maker_input names.key) (λ maker.
+    read (root_input names.root) (λ root.
+    endorse_root names maker root))

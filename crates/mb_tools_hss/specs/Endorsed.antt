@@ -21,12 +21,10 @@ judge_endorsement key root endorsement =
     either_command (HssVerifies key (endorsed_text root) endorsement)
     (print (line_with_lf (codes "endorsed"))) (refuse (codes "refused 28"))
 
-abbrev pub endorsed_root : EndorsedNames → HssKey → PublicKey → Command
-endorsed_root names key root = read (endorsement_input names.endorsement) (judge_endorsement key root)
-
-abbrev pub endorsed_under : EndorsedNames → HssKey → Command
-endorsed_under names key = read (root_input names.root) (endorsed_root names key)
-
 -- the maker's public key, the root key and the endorsement are read, and the endorsement is verified
 unfoldable pub endorsed : EndorsedNames → Command
-endorsed names = read (hss_key_input names.public) (endorsed_under names)
+endorsed names =
+    read (hss_key_input names.public) (λ key.
+    read (root_input names.root) (λ root.
+    read (endorsement_input names.endorsement) (λ endorsement.
+    judge_endorsement key root endorsement)))

@@ -8,7 +8,7 @@ ghost use Rattle.mb_console.specs.Words.{given_argument};
 ghost use Rattle.mb_hss.specs.declared.maker.Maker.{Maker};
 ghost use Rattle.mb_hss.specs.MakerKeys.{IsMaker};
 ghost use Rattle.mb_hss.specs.MakerSignatures.{Signs};
-ghost use Rattle.mb_tools_hss.specs.Endorse.{endorse, endorse_by, use_number, endorsed_text};
+ghost use Rattle.mb_tools_hss.specs.Endorse.{endorse, use_number, endorsed_text};
 ghost use Rattle.mb_tools_hss.specs.Names.{endorse_files, endorse_given};
 ghost use Rattle.mb_tools_hss.specs.Unendorsed.{TellsUnendorsed};
 ghost use Rattle.mb_lms.specs.declared.hash_count.TheConstants.{SIGNING_HASHES};
@@ -61,22 +61,7 @@ pub fn endorse<H: Host, L: Ledger>(
     ensures carried { CarriesOut (endorse (endorse_files names.now)) (H.outside host.old) result (H.outside host.new) }
     ensures cost { hashes.new ≤ hashes.old + (SIGNING_HASHES + 2) * LEVEL_LIMIT }
 {
-    let maker = read_as(alloc, host, Role::Key, names.key, MakerForm)?;
-    endorse_by(alloc, names, maker, host, hashes)
-}
-
-/// Endorses the root key by this maker.
-fn endorse_by<H: Host, L: Ledger>(
-    alloc: Global,
-    names: &EndorseNames<'_>,
-    mut maker: Maker,
-    host: &mut H,
-    hashes: &mut HashCount<L>,
-) -> Result<(), End>
-    requires { IsMaker maker }
-    ensures carried { CarriesOut (endorse_by (endorse_files names.now) maker) (H.outside host.old) result (H.outside host.new) }
-    ensures cost { hashes.new ≤ hashes.old + (SIGNING_HASHES + 2) * LEVEL_LIMIT }
-{
+    let mut maker = read_as(alloc, host, Role::Key, names.key, MakerForm)?;
     let root = read_as(alloc, host, Role::Root, names.root, PublicKeyForm)?;
     let body = key_bytes(&root);
     let mut signature = Vec::new(alloc);

@@ -39,8 +39,8 @@ use Rattle.mb_hss.specs.MakerKeys.{IsMaker, maker_key}
 use Rattle.mb_hss.specs.MakerSignatures.{maker_signature}
 use Rattle.mb_hss.proofs.MakerLemmas.{length-maker_signature}
 use Rattle.mb_hss.proofs.VerifyLemmas.{makers_verify}
-use Rattle.mb_tools_hss.specs.Endorse.{EndorseNames, endorse, endorse_by, endorse_root, use_number, endorsed_text, number_used}
-use Rattle.mb_tools_hss.specs.Endorsed.{EndorsedNames, endorsed, endorsed_under, endorsed_root, judge_endorsement}
+use Rattle.mb_tools_hss.specs.Endorse.{EndorseNames, endorse, endorse_root, use_number, endorsed_text, number_used}
+use Rattle.mb_tools_hss.specs.Endorsed.{EndorsedNames, endorsed, judge_endorsement}
 use Rattle.mb_tools_hss.specs.MakerInputs.{maker_input, endorsement_input}
 use Rattle.mb_model_histories.proofs.KeyFileLemmas.{stopped_files, same_files, out_left}
 use Rattle.mb_top_laws.proofs.FileLemmas.{LeavesFiles, stops_undone, input_undone}
@@ -126,7 +126,7 @@ module _ (names : EndorseNames) (maker : Maker) (allowed : maker_format.Allowed 
   root_left root ending held is_before is_after (inr (inr wants)) =
       undone names maker before after ending is_before is_after (stops_undone _ 6 at_first ending (omega arith) wants.stops)
 
-  key_left : (ending : Ended) → ending.before.files ≡ Some before → ending.after.files ≡ Some after → CommandEnds (endorse_by names maker) at_first ending
+  key_left : (ending : Ended) → ending.before.files ≡ Some before → ending.after.files ≡ Some after → CommandEnds (read (root_input names.root) (endorse_root names maker)) at_first ending
       → LeavesMaker names maker before after ending.status
   unfolding CommandEnds
   key_left ending is_before is_after (inl ends) = undone names maker before after ending is_before is_after (input_undone (root_input names.root) at_first ending ends)
@@ -135,10 +135,10 @@ module _ (names : EndorseNames) (maker : Maker) (allowed : maker_format.Allowed 
 
 -- the maker that is read is the one that KEY holds
 maker_read : (names : EndorseNames) (maker value : Maker) (ending : Ended) (before : Files) (found : List ℕ) → ending.before.files ≡ Some before → HoldsValue maker_format before names.key maker
-    → HasRead ending.before names.key found → Spells maker_format found value → CommandEnds (endorse_by names value) at_first (end_seen_from (read_once ending.before) ending)
-    → CommandEnds (endorse_by names maker) at_first (end_seen_from (read_once ending.before) ending)
+    → HasRead ending.before names.key found → Spells maker_format found value → CommandEnds (read (root_input names.root) (endorse_root names value)) at_first (end_seen_from (read_once ending.before) ending)
+    → CommandEnds (read (root_input names.root) (endorse_root names maker)) at_first (end_seen_from (read_once ending.before) ending)
 maker_read names maker value ending before found is_before holds has spelled ends =
-    subst (λ (m : Maker). CommandEnds (endorse_by names m) at_first (end_seen_from (read_once ending.before) ending))
+    subst (λ (m : Maker). CommandEnds (read (root_input names.root) (endorse_root names m)) at_first (end_seen_from (read_once ending.before) ending))
     (one_value maker_format maker_exact names.key found maker value ending.before before is_before holds has spelled) ends
 
 pub endorsing_uses_up_its_number : EndorsingUsesUpItsNumber
@@ -175,7 +175,7 @@ module _ (names : EndorseNames) (maker : Maker) (root : PublicKey) (before after
   root_done ending is_before is_after done (inr (inr wants)) = absurd (omega (arith, done, wants.stops.status_is))
 
   key_done : (ending : Ended) → HoldsValue public_key_format before names.root root → ending.before.files ≡ Some before → ending.after.files ≡ Some after → ending.status ≡ 0
-      → CommandEnds (endorse_by names maker) at_first ending → IsEndorsed
+      → CommandEnds (read (root_input names.root) (endorse_root names maker)) at_first ending → IsEndorsed
   unfolding CommandEnds
   key_done ending held is_before is_after done (inl ends) = absurd ((input_undone (root_input names.root) at_first ending ends).1 done)
   key_done ending held is_before is_after done (inr (found, has, (value, spelled, ends))) =
@@ -443,7 +443,7 @@ still_faultless e well = record { read = well.read; write = well.write }
 
 module _ (key : HssKey) (root : PublicKey) (endorsement : List ℕ) (short : length endorsement ≤ 4194304) (names : EndorsedNames) (past : Past) (judged : Ended)
     (is : JudgesEndorsement key root endorsement names past judged) where
-  endorsement_judged : (e : Ended) → e.before.files ≡ Some is.files → IsFaultless e.before e.after → CommandEnds (endorsed_root names key root) past e
+  endorsement_judged : (e : Ended) → e.before.files ≡ Some is.files → IsFaultless e.before e.after → CommandEnds (read (endorsement_input names.endorsement) (judge_endorsement key root)) past e
       → (e.status ≡ 6) ⊎ CommandEnds (judge_endorsement key root endorsement) past (once e)
   endorsement_judged e told well ends =
       elim (read_goes (endorsement_input names.endorsement) (judge_endorsement key root) past e is.files endorsement told is.endorsement_held short (λ place are fault. fault) well ends) [
@@ -453,10 +453,10 @@ module _ (key : HssKey) (root : PublicKey) (endorsement : List ℕ) (short : len
             inr (subst (λ (b : List ℕ). CommandEnds (judge_endorsement key root b) past (once e)) same goes.2.2)
       ]
 
-  root_judged : (e : Ended) → e.before.files ≡ Some is.files → IsFaultless e.before e.after → CommandEnds (endorsed_under names key) past e
+  root_judged : (e : Ended) → e.before.files ≡ Some is.files → IsFaultless e.before e.after → CommandEnds (read (root_input names.root) (λ r. read (endorsement_input names.endorsement) (judge_endorsement key r))) past e
       → (e.status ≡ 6) ⊎ CommandEnds (judge_endorsement key root endorsement) past (once (once e))
   root_judged e told well ends =
-      elim (value_goes public_key_format public_key_exact 56 public_key_short (omega arith) role.Root names.root root (endorsed_root names key) past e is.files told is.root_held well ends) [
+      elim (value_goes public_key_format public_key_exact 56 public_key_short (omega arith) role.Root names.root root (λ r. read (endorsement_input names.endorsement) (judge_endorsement key r)) past e is.files told is.root_held well ends) [
         | inl lacks ↦ inl lacks
         | inr goes ↦ endorsement_judged (once e) told (still_faultless e well) goes
       ]
@@ -464,7 +464,7 @@ module _ (key : HssKey) (root : PublicKey) (endorsement : List ℕ) (short : len
   all_judged : (judged.status ≡ 6) ⊎ CommandEnds (judge_endorsement key root endorsement) past (once (once (once judged)))
   unfolding endorsed
   all_judged =
-      elim (value_goes hss_key_format hss_key_exact 60 hss_key_short (omega arith) role.Public names.public key (endorsed_under names) past judged is.files is.shown is.public is.faultless is.ends) [
+      elim (value_goes hss_key_format hss_key_exact 60 hss_key_short (omega arith) role.Public names.public key (λ k. read (root_input names.root) (λ r. read (endorsement_input names.endorsement) (judge_endorsement k r))) past judged is.files is.shown is.public is.faultless is.ends) [
         | inl lacks ↦ inl lacks
         | inr goes ↦ root_judged (once judged) is.shown (still_faultless judged is.faultless) goes
       ]

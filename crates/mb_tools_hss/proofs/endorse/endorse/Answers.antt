@@ -1,22 +1,26 @@
-use Rattle.std.proofs.Common.{refl}
-use Rattle.std.proofs.lemmas.Result.{err_from_is_err_and}
-use Rattle.mb_model_commands.specs.Commands.{at_first}
-use Rattle.mb_console.proofs.CommandLemmas.{input_carried_out, read_on}
-use Rattle.mb_tools_hss.specs.Endorse.{endorse, endorse_by}
-use Rattle.mb_tools_hss.specs.MakerInputs.{maker_input}
-use Rattle.mb_tools_hss.specs.Names.{endorse_files}
+use Rattle.std.proofs.Common.{Err, refl, ap}
+use Rattle.mb_console.proofs.Leading.{begins, reads, stops_at_input}
+use Rattle.mb_tools_hss.specs.Endorse.{endorse}
+use Rattle.mb_tools_hss.proofs.EndorseLemmas.{signed_root, root_signed, root_not_signed}
 use Rattle.mb_tools_hss.proofs.endorse.endorse.Goals as goal
 
 pub returns-in_err-maker-clause-carried : goal.returns-in_err-maker-clause-carried
 unfolding endorse
-returns-in_err-maker-clause-carried g c = λ final.
-    let p = err_from_is_err_and c.from_residual.result c.from_residual.ensures.1 in
-    let outside = g.H.Host.outside in
-    rw (p.1, p.2) (input_carried_out (maker_input c.args.names.now.key.now) _ at_first _ final (outside c.args.host.now) (outside c.read_as.new.host) c.in_err-maker.field-0.0 refl refl c.in_err-maker.ensures.err)
+returns-in_err-maker-clause-carried g c = λ final. stops_at_input _ _ _ begins c.from_residual.ensures.1 c.in_err-maker.ensures.err refl refl
 
-pub returns-clause-carried : goal.returns-clause-carried
+pub returns-in_err-root-clause-carried : goal.returns-in_err-root-clause-carried
 unfolding endorse
-returns-clause-carried g c = λ final.
-    let outside = g.H.Host.outside in
-    read_on (maker_input c.args.names.now.key.now) (endorse_by (endorse_files c.args.names.now)) at_first _ final (outside c.args.host.now) (outside c.read_as.new.host) (outside c.endorse_by.new.host) c.in_ok-maker.maker
-    c.endorse_by.result c.in_ok-maker.ensures.read (c.endorse_by.ensures.carried final)
+returns-in_err-root-clause-carried g c = λ final. stops_at_input _ _ _ (reads begins c.in_ok-maker.ensures.read) c.from_residual-in_err-root.ensures.1 c.in_err-root.ensures.err refl refl
+
+pub returns-in-Ok-clause-carried : goal.returns-in-Ok-clause-carried
+unfolding endorse
+returns-in-Ok-clause-carried g c = λ final.
+    let root = reads (reads begins c.in_ok-maker.ensures.read) c.in_ok-root.ensures.read in
+    let signs = signed_root c.in_ok-maker.maker c.sign.new.maker c.in_ok-root.root c.key_bytes-body.result c.new-signature.result c.sign.new.out c.key_bytes-body.ensures c.new-signature.ensures.items c.in-Ok.ensures.signed in
+    root_signed _ _ _ _ _ _ _ root signs (c.write_endorsement.ensures c.in_ok-maker.maker c.in_ok-root.root signs c.in-Ok.ensures.number)
+
+pub returns-in-Err-clause-carried : goal.returns-in-Err-clause-carried
+unfolding endorse
+returns-in-Err-clause-carried g c = λ final.
+    let root = reads (reads begins c.in_ok-maker.ensures.read) c.in_ok-root.ensures.read in
+    root_not_signed _ _ _ c.in-Err.end _ root (λ is. c.in-Err.ensures.spent.0 (ap Err is)) c.end_of.ensures
