@@ -1,7 +1,7 @@
 -- What carries out `app`.
-use Rattle.std.proofs.Common.{◌≡◌, ℕ, ◌≤◌, ◌==◌, if◌then◌else◌, length, List, [], codes, Bool, true, false, true≢false, Option, Some, None, Result, Err, refl, sym, ◌∙◌, subst, inr, arith}
+use Rattle.std.proofs.Common.{◌≡◌, ℕ, ◌≤◌, ◌==◌, if◌then◌else◌, length, List, [], codes, Bool, true, false, true≢false, Option, Some, None, Result, Err, refl, sym, ◌∙◌, subst, arith}
 use Rattle.std.specs.Prelude.{IsTrue, IsSome}
-use Rattle.mb_model.specs.outside.Board.{not_used}
+use Rattle.mb_model.specs.outside.Board.{Held, Used, not_used}
 use Rattle.mb_model.specs.declared.key.PublicKey.{PublicKey}
 use Rattle.mb_model.specs.declared.layer.CodeName.{CodeName}
 use Rattle.mb_model.specs.declared.layer.Trusts.{Trusts}
@@ -13,16 +13,17 @@ use Rattle.mb_model.specs.memories.PublicRecord.{code_format, codes_format}
 use Rattle.mb_model.specs.memories.Valid.{IsValidState, IsNamed}
 use Rattle.mb_model.specs.outside.Texts.{line_with_lf}
 use Rattle.mb_model_commands.specs.Outside.{Outside}
-use Rattle.mb_model_commands.specs.Commands.{CommandEnds, print, refuse, at_first}
+use Rattle.mb_model_commands.specs.Commands.{Command, print, refuse, Past, at_first}
 use Rattle.mb_model_lemmas.proofs.RegionLemmas.{at_upper}
 use Rattle.mb_model_lemmas.proofs.RuleLemmas.{layer_with, to_each}
 use Rattle.mb_model_memory.specs.Storable.{IsStorableState}
 use Rattle.mb_model_memory.proofs.StorableFormats.{layer_of-allowed}
 use Rattle.mb_console.specs.declared.end.End.{End}
 use Rattle.mb_console.specs.declared.end.End.TheVariants as end
-use Rattle.mb_console.specs.Ending.{CarriesOut, CarriesOutAfter, CarriesOutRest, RefusesWith}
+use Rattle.mb_console.specs.Ending.{CarriesOut, CarriesOutAfter, CarriesOutRest, RefusesWith, LeadsTo}
 use Rattle.mb_console.specs.Outputs.{writes}
-use Rattle.mb_console.proofs.CommandLemmas.{goes_first, goes_second, finds, refuse_here, memory_unfound, memory_unprinted}
+use Rattle.mb_console.proofs.CommandLemmas.{goes_first, goes_second, finds, refuse_here, memory_unfound, memory_unprinted, memory_unrefused}
+use Rattle.mb_console.proofs.Leading.{is_refused}
 use Rattle.mb_appvm.specs.declared.running.AppEnd.{AppEnd}
 use Rattle.mb_appvm.specs.declared.running.AppEnd.TheVariants as app
 use Rattle.mb_tools_app.specs.AppCommand.{AppNames, code_of_layer, RunsStoredCode, app_line, tell_end, run_stored_code}
@@ -69,9 +70,11 @@ stored_is_short codes layer code allowed is = by (layer == 2) is
 
 -- ---- a run
 
-pub dead_runs_nothing : (names : AppNames) (input : List ℕ) (before : Outside) (why : End) → RefusesWith (codes "zeroised") why
-    → CarriesOut (run_stored_code names None input) before (Err why) before
-dead_runs_nothing names input before why refuses = λ final. refuse_here (codes "zeroised") why at_first not_used final before refuses refl
+pub dead_runs_nothing : {used : Used} {final : Held} {whole : Command} {past : Past} {before : Outside} {later : Past} {mid : Outside}
+    (names : AppNames) (found : Option State) (input : List ℕ) (why : End) → LeadsTo used final whole past before (run_stored_code names found input) later mid → found ≡ None
+    → RefusesWith (codes "zeroised") why → used ≡ later.used → CarriesOutRest whole past used final before (Err why) mid
+dead_runs_nothing names None input why leads dead refuses same = is_refused leads same why refuses
+dead_runs_nothing names (Some state) input why leads dead refuses same = absurd (cc)
 
 pub layer_may_not_run : (names : AppNames) (state : State) (input : List ℕ) (before : Outside) (why : End) → (Runnable state.layers names.layer → ⊥)
     → RefusesWith (codes "refused 4 layer") why → CarriesOut (run_stored_code names (Some state) input) before (Err why) before
@@ -106,9 +109,7 @@ line_refused line long before is = λ final.
     refuse_here line (end.RefusedAtLength long) at_first not_used final before (record { line_is = is; status_is = refl }) refl
 
 pub refusal_lacks : (line : List ℕ) (before : Outside) → CarriesOut (refuse line) before (Err end.NoMemory) before
-unfolding CarriesOutRest CommandEnds
-refusal_lacks line before = λ final after says.
-    inr (record { first = refl; stops = record { says = says; used = refl; status_is = refl } })
+refusal_lacks line before = λ final. memory_unrefused line at_first not_used final before refl refl
 
 pub end_lacks : (ending : AppEnd) (before : Outside) → CarriesOut (tell_end ending) before (Err end.NoMemory) before
 end_lacks (app.Halted steps output) before = line_lacks (app_line (app.Halted steps output)) before

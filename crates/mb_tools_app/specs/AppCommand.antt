@@ -53,9 +53,9 @@ run_stored_code names (Some state) input =
     (find (RunsStoredCode state names.layer input names.steps) tell_end)
     (refuse (codes "refused 4 layer"))
 
-abbrev pub app_device : AppNames → Option State → Command
-app_device names state = read (app_input names.input) (run_stored_code names state)
-
 -- the device's image and the input are read, and the end of the run is reported
 unfoldable pub app : AppNames → Command
-app names = read (image_input names.image) (λ image. app_device names image.state)
+app names =
+    read (image_input names.image) (λ image.
+    read (app_input names.input) (λ input.
+    run_stored_code names image.state input))

@@ -4,13 +4,13 @@ ghost use Rattle.std.specs.Prelude.{◌+◌, ◌≡◌, ◌≤◌, length, map, 
 ghost use Rattle.mb_model.specs.declared.limits.TheConstants.{FILE_LIMIT};
 ghost use Rattle.mb_model.specs.outside.Texts.{line_with_lf};
 ghost use Rattle.mb_model.specs.owners.Layers.{is_upper, Runnable};
-ghost use Rattle.mb_model.specs.memories.Valid.{Valid, IsValidState};
+ghost use Rattle.mb_model.specs.memories.Valid.{IsValidState};
 ghost use Rattle.mb_model_commands.specs.Outside.{Outside};
 ghost use Rattle.mb_model_commands.specs.Commands.{print, refuse};
-ghost use Rattle.mb_model_memory.specs.Storable.{Storable, IsStorableState};
+ghost use Rattle.mb_model_memory.specs.Storable.{IsStorableState};
 ghost use Rattle.mb_console.specs.Ending.{CarriesOut};
 ghost use Rattle.mb_console.specs.Words.{given_argument};
-ghost use Rattle.mb_tools_app.specs.AppCommand.{app, app_device, run_stored_code, RunsStoredCode, code_of_layer, tell_end, app_line};
+ghost use Rattle.mb_tools_app.specs.AppCommand.{app, run_stored_code, RunsStoredCode, code_of_layer, tell_end, app_line};
 ghost use Rattle.mb_tools_app.specs.Names.{app_files, app_given};
 ghost use Rattle.mb_image.specs.declared.image.TheConstants.{IMAGE_HASHES};
 
@@ -63,23 +63,8 @@ pub fn app<H: Host, L: Ledger>(
     ensures cost { hashes.new ≤ hashes.old + IMAGE_HASHES }
 {
     let image = read_image(alloc, host, names.image, hashes)?;
-    app_device(alloc, names, image.state, host)
-}
-
-/// Runs the code of a layer of this device, or of a dead one.
-fn app_device<H: Host>(
-    alloc: Global,
-    names: &AppNames<'_>,
-    state: Option<State>,
-    host: &mut H,
-) -> Result<(), End>
-    requires layer { IsTrue (is_upper names.now.layer) }
-    requires valid { Valid state }
-    requires stored { Storable state }
-    ensures { CarriesOut (app_device (app_files names.now) state) (H.outside host.old) result (H.outside host.new) }
-{
     let input = read_as(alloc, host, Role::Input, names.input, AnyBytes)?;
-    match state {
+    match image.state {
         Some(state) => run_stored_code(alloc, names, &state, &input, host),
         None => Err(refused("zeroised")),
     }

@@ -1,22 +1,41 @@
-use Rattle.std.proofs.Common.{refl}
-use Rattle.std.proofs.lemmas.Result.{err_from_is_err_and}
-use Rattle.mb_model_commands.specs.Inputs.{image_input}
-use Rattle.mb_model_commands.specs.Commands.{at_first}
-use Rattle.mb_console.proofs.CommandLemmas.{input_carried_out, read_on}
-use Rattle.mb_tools_app.specs.AppCommand.{app, app_device}
+use Rattle.std.proofs.Common.{ℕ, List, Some, refl, sym, subst}
+use Rattle.mb_model.specs.memories.Valid.{Valid}
+use Rattle.mb_model_memory.specs.Storable.{Storable}
+use Rattle.mb_console.specs.Ending.{CarriesOut}
+use Rattle.mb_console.proofs.Leading.{begins, reads, stops_at_input}
+use Rattle.mb_tools_app.specs.AppCommand.{app, run_stored_code}
 use Rattle.mb_tools_app.specs.Names.{app_files}
+use Rattle.mb_tools_app.proofs.AppLemmas.{dead_runs_nothing}
 use Rattle.mb_tools_app.proofs.app.app.Goals as goal
+
+pub run_stored_code-requires-clause-valid : goal.run_stored_code-requires-clause-valid
+run_stored_code-requires-clause-valid g c = subst Valid c.in-Some.is c.in_ok-image.ensures.valid
+
+pub run_stored_code-requires-clause-stored : goal.run_stored_code-requires-clause-stored
+run_stored_code-requires-clause-stored g c = subst Storable c.in-Some.is c.in_ok-image.ensures.stored
 
 pub returns-in_err-image-clause-carried : goal.returns-in_err-image-clause-carried
 unfolding app
-returns-in_err-image-clause-carried g c = λ final.
-    let p = err_from_is_err_and c.from_residual.result c.from_residual.ensures.1 in
+returns-in_err-image-clause-carried g c = λ final. stops_at_input _ _ _ begins c.from_residual.ensures.1 c.in_err-image.ensures.err refl refl
+
+pub returns-in_err-input-clause-carried : goal.returns-in_err-input-clause-carried
+unfolding app
+returns-in_err-input-clause-carried g c = λ final. stops_at_input _ _ _ (reads begins c.in_ok-image.ensures.read) c.from_residual-in_err-input.ensures.1 c.in_err-input.ensures.err refl refl
+
+pub returns-in-Some-clause-carried : goal.returns-in-Some-clause-carried
+unfolding app
+returns-in-Some-clause-carried g c = λ final.
+    let input = reads (reads begins c.in_ok-image.ensures.read) c.in_ok-input.ensures.read in
     let outside = g.H.Host.outside in
-    rw (p.1, p.2) (input_carried_out (image_input c.args.names.now.image.now) (λ image. app_device (app_files c.args.names.now) image.state) at_first _ final (outside c.args.host.now) (outside c.read_image.new.host) c.in_err-image.field-0.0 refl refl c.in_err-image.ensures.err)
+    let names = app_files c.args.names.now in
+    let mid = outside c.read_as.new.host in
+    let now = outside c.run_stored_code.new.host in
+    let carried = subst (λ (b : List ℕ). CarriesOut (run_stored_code names (Some c.in-Some.state) b) mid c.run_stored_code.result now) c.deref.ensures.value c.run_stored_code.ensures in
+    let ran = subst (λ s. CarriesOut (run_stored_code names s c.in_ok-input.input.items) mid c.run_stored_code.result now) (sym c.in-Some.is) carried in
+    input.lead _ _ (ran final)
 
 pub returns-clause-carried : goal.returns-clause-carried
 unfolding app
 returns-clause-carried g c = λ final.
-    let outside = g.H.Host.outside in
-    read_on (image_input c.args.names.now.image.now) (λ image. app_device (app_files c.args.names.now) image.state) at_first _ final (outside c.args.host.now) (outside c.read_image.new.host) (outside c.app_device.new.host) (record { bytes = c.in_ok-image.image.bytes.items; state = c.in_ok-image.image.state })
-    c.app_device.result c.in_ok-image.ensures.read (c.app_device.ensures final)
+    let input = reads (reads begins c.in_ok-image.ensures.read) c.in_ok-input.ensures.read in
+    dead_runs_nothing (app_files c.args.names.now) _ _ _ input c.in-None.is c.refused.ensures refl
