@@ -3,12 +3,11 @@ use Rattle.std.proofs.Common.{◌≡◌, ◌≢◌, ℕ, List, [], ◌∷◌, co
 use Rattle.std.proofs.lemmas.List.{take-map, take_min}
 use Rattle.std.specs.Prelude.{IfOk}
 use Rattle.mb_format.specs.Format.{IsBytes, Spells}
-use Rattle.mb_model.specs.outside.Board.{not_used}
+use Rattle.mb_model.specs.outside.Board.{Held, Used, not_used}
 use Rattle.mb_model.specs.declared.key.PublicKey.{PublicKey}
 use Rattle.mb_model.specs.declared.entry.Chain.{Chain}
 use Rattle.mb_model.specs.declared.entry.Entry.{Entry}
 use Rattle.mb_model.specs.declared.entry.SignedEntry.{SignedEntry}
-use Rattle.mb_model.specs.declared.entry.Statement.{Statement}
 use Rattle.mb_model.specs.declared.state.Configuration.{Configuration}
 use Rattle.mb_model.specs.declared.state.Report.{Report}
 use Rattle.mb_model.specs.declared.state.State.{State}
@@ -16,7 +15,7 @@ use Rattle.mb_model.specs.owners.Log.{entries_of, RuledLog}
 use Rattle.mb_model.specs.owners.Lives.{lives_of}
 use Rattle.mb_model.specs.memories.Valid.{IsValidState}
 use Rattle.mb_model.specs.records.ChainFormat.{chain_format}
-use Rattle.mb_model.specs.chains.Attach.{bare_chain, stated_chain}
+use Rattle.mb_model.specs.chains.Attach.{bare_chain}
 use Rattle.mb_model.specs.outside.Texts.{line_with_lf}
 use Rattle.mb_model.specs.chains.Lines.{text_of}
 use Rattle.mb_model.specs.chains.Listing.{listing}
@@ -26,9 +25,9 @@ use Rattle.mb_model.specs.chains.DeviceChains.{IsChainOf}
 use Rattle.mb_model.specs.chains.DeviceChains.{own_lives, IsAudited}
 use Rattle.mb_model_commands.specs.declared.role.Role.TheVariants as role
 use Rattle.mb_model_commands.specs.Outside.{Outside}
-use Rattle.mb_model_commands.specs.Commands.{print, refuse, at_first}
-use Rattle.mb_model_commands.specs.ChainCommands.{ChainNames, AttachNames, entries_text, write_entries, chain_of, attach_statement}
-use Rattle.mb_model_commands.specs.VerifyCommand.{VerifyNames, chain_refusal_line, tell_verdict, verify_chain}
+use Rattle.mb_model_commands.specs.Commands.{Command, find, print, refuse, Past, at_first}
+use Rattle.mb_model_commands.specs.ChainCommands.{ChainNames, entries_text, write_entries, chain_of}
+use Rattle.mb_model_commands.specs.VerifyCommand.{chain_refusal_line, tell_verdict}
 use Rattle.mb_model_commands.specs.AuditCommand.{AuditNames, compare, audit_chain}
 use Rattle.mb_model_lemmas.proofs.ValidStates.{valid_is_ruled}
 use Rattle.mb_model_lemmas.proofs.AuditLemmas.{audited}
@@ -36,10 +35,11 @@ use Rattle.mb_model_runs.proofs.BirthLemmas.{chain_is_of}
 use Rattle.mb_log.proofs.Fronts.{first_ruled}
 use Rattle.mb_console.specs.declared.end.End.{End}
 use Rattle.mb_console.specs.declared.end.End.TheVariants as end
-use Rattle.mb_console.specs.Ending.{CarriesOutAfter, CarriesOut, RefusesWith}
+use Rattle.mb_console.specs.Ending.{CarriesOutRest, CarriesOutAfter, CarriesOut, RefusesWith, LeadsTo}
 use Rattle.mb_tools.specs.Chains.{TellsRefusal}
 use Rattle.mb_console.specs.Outputs.{writes}
 use Rattle.mb_console.proofs.CommandLemmas.{goes_first, goes_second, finds, refuse_here, memory_unfound, memory_chosen, memory_unprinted}
+use Rattle.mb_console.proofs.Leading as step
 
 -- ---- a chain that is written
 
@@ -63,8 +63,11 @@ pub log_carried_out : (names : ChainNames) (state : State) (before now : Outside
 log_carried_out names state before now result valid carried = λ final.
     finds (IsChainOf state) (write_entries names.out) at_first not_used final before now (bare_chain state.log) result (chain_is_of state valid) (carried final)
 
-pub dead_has_none : (names : ChainNames) (before : Outside) (why : End) → RefusesWith (codes "zeroised") why → CarriesOut (chain_of names None) before (Err why) before
-dead_has_none names before why refuses = λ final. refuse_here (codes "zeroised") why at_first not_used final before refuses refl
+pub dead_has_none : {used : Used} {final : Held} {whole : Command} {past : Past} {before : Outside} {later : Past} {mid : Outside}
+    (names : ChainNames) (found : Option State) (why : End) → LeadsTo used final whole past before (chain_of names found) later mid → found ≡ None
+    → RefusesWith (codes "zeroised") why → used ≡ later.used → CarriesOutRest whole past used final before (Err why) mid
+dead_has_none names None why leads dead refuses same = step.is_refused leads same why refuses
+dead_has_none names (Some state) why leads dead refuses same = absurd (cc)
 
 -- ---- a statement that is attached
 
@@ -72,18 +75,6 @@ dead_has_none names before why refuses = λ final. refuse_here (codes "zeroised"
 pub none_there : {X : Type 0} (found : Option X) (there : Bool) → there ≡ is_some found → there ≡ false → found ≡ None
 none_there None there is off = refl
 none_there (Some x) there is off = absurd (true≢false (sym is ∙ off))
-
-pub statement_attached : (names : AttachNames) (chain : Chain) (statement : Statement) (before now : Outside) (result : Result (Unit {0}) End) → chain.statement ≡ None
-    → CarriesOut (write_entries names.out (stated_chain chain.entries statement)) before result now → CarriesOut (attach_statement names chain statement) before result now
-unfolding attach_statement
-statement_attached names chain statement before now result none carried = λ final.
-    goes_second _ _ _ at_first not_used final before now result (λ some. some none) (carried final)
-
-pub has_statement : (names : AttachNames) (chain : Chain) (statement : Statement) (before : Outside) (why : End) → chain.statement ≢ None → RefusesWith (codes "has statement") why
-    → CarriesOut (attach_statement names chain statement) before (Err why) before
-unfolding attach_statement
-has_statement names chain statement before why some refuses = λ final.
-    goes_first _ _ _ at_first not_used final before before _ some (refuse_here (codes "has statement") why at_first not_used final before refuses refl)
 
 -- ---- a chain that is judged
 
@@ -105,24 +96,20 @@ report_told n report text before now result is carried = λ final.
 pub report_lacks : (n : ℕ) (report : Report) (before : Outside) → CarriesOut (tell_verdict n (chain_acceptance report)) before (Err end.NoMemory) before
 report_lacks n report before = λ final. memory_unprinted _ at_first not_used final before refl refl
 
-pub chain_accepted : (names : VerifyNames) (maker : PublicKey) (bytes : List ℕ) (report : Report) (before now : Outside) (result : Result (Unit {0}) End) → Accepts maker bytes names.key report
-    → CarriesOut (tell_verdict names.key (chain_acceptance report)) before result now → CarriesOut (verify_chain names maker bytes) before result now
-chain_accepted names maker bytes report before now result accepts carried = λ final.
-    finds (IsVerdict maker bytes names.key) (tell_verdict names.key) at_first not_used final before now (chain_acceptance report) result accepts (carried final)
-
-pub chain_refused : (names : VerifyNames) (maker : PublicKey) (bytes : List ℕ) (found : Option ChainRefusal) (why : End) (before : Outside) → IfReason found (IsRefused maker bytes names.key)
-    → TellsRefusal found why → CarriesOut (verify_chain names maker bytes) before (Err why) before
-chain_refused names maker bytes (Some reason) why before refused tells = λ final.
-    finds (IsVerdict maker bytes names.key) (tell_verdict names.key) at_first not_used final before before (chain_rejection reason) _ (refused reason refl) (reason_told reason why before tells final)
-chain_refused names maker bytes None why before refused tells =
-    subst (λ w. CarriesOut (verify_chain names maker bytes) before (Err w) before) (sym tells) (λ final.
-    memory_unfound (IsVerdict maker bytes names.key) (tell_verdict names.key) at_first not_used final before refl refl)
+pub chain_refused : {used : Used} {final : Held} {whole : Command} {past : Past} {before : Outside} {later : Past} {mid : Outside}
+    {maker : PublicKey} {bytes : List ℕ} {n m : ℕ} (found : Option ChainRefusal) (why : End)
+    → LeadsTo used final whole past before (find (IsVerdict maker bytes n) (tell_verdict m)) later mid → IfReason found (IsRefused maker bytes n)
+    → TellsRefusal found why → later.wrote ≡ false → used ≡ later.used → CarriesOutRest whole past used final before (Err why) mid
+chain_refused (Some reason) why leads refused tells none same = step.is_refused (step.finds leads (chain_rejection reason) (refused reason refl)) same why tells
+chain_refused None why leads refused tells none same = rw tells (step.lacks_memory leads tt none same)
 
 -- ---- audit
 
-pub dead_not_audited : (names : AuditNames) (maker : PublicKey) (bytes : List ℕ) (before : Outside) (why : End) → RefusesWith (codes "zeroised") why
-    → CarriesOut (audit_chain names None maker bytes) before (Err why) before
-dead_not_audited names maker bytes before why refuses = λ final. refuse_here (codes "zeroised") why at_first not_used final before refuses refl
+pub dead_not_audited : {used : Used} {final : Held} {whole : Command} {past : Past} {before : Outside} {later : Past} {mid : Outside}
+    (names : AuditNames) (found : Option State) (maker : PublicKey) (bytes : List ℕ) (why : End) → LeadsTo used final whole past before (audit_chain names found maker bytes) later mid
+    → found ≡ None → RefusesWith (codes "zeroised") why → used ≡ later.used → CarriesOutRest whole past used final before (Err why) mid
+dead_not_audited names None maker bytes why leads dead refuses same = step.is_refused leads same why refuses
+dead_not_audited names (Some state) maker bytes why leads dead refuses same = absurd (cc)
 
 pub audit_accepted : (names : AuditNames) (state : State) (maker : PublicKey) (bytes : List ℕ) (report : Report) (before now : Outside) (result : Result (Unit {0}) End)
     → IsBytes bytes → IsValidState state → Accepts maker bytes names.key report

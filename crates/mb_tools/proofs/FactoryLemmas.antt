@@ -1,6 +1,6 @@
 -- What carries out `factory`.
-use Rattle.std.proofs.Common.{◌≡◌, ℕ, List, [], ◌∷◌, codes, Result, Err, refl, sym, ◌∙◌, ap, subst}
-use Rattle.mb_model.specs.outside.Board.{not_used}
+use Rattle.std.proofs.Common.{◌≡◌, ℕ, List, [], ◌∷◌, Result, Err, refl, ◌∙◌, ap, subst}
+use Rattle.mb_model.specs.outside.Board.{Held, not_used}
 use Rattle.mb_model.specs.declared.key.PublicKey.{PublicKey}
 use Rattle.mb_model.specs.declared.tools.Keyfile.{Keyfile}
 use Rattle.mb_model.specs.records.KeyFormat.{keyfile_format}
@@ -8,18 +8,17 @@ use Rattle.mb_model.specs.machine.SignedOrders.{keyfile_after_use}
 use Rattle.mb_model.specs.memories.Factory.{IsFactoryImage}
 use Rattle.mb_model_commands.specs.declared.role.Role.TheVariants as role
 use Rattle.mb_model_commands.specs.Outside.{Outside}
-use Rattle.mb_model_commands.specs.Commands.{Output, print, at_first}
-use Rattle.mb_model_commands.specs.Inputs.{code_input}
+use Rattle.mb_model_commands.specs.Commands.{Output, Command, print, Past, at_first}
 use Rattle.mb_model_commands.specs.FactoryCommand.{FactoryNames, serial_text, write_device, make_device}
-use Rattle.mb_model_commands.specs.FactoryCommand.{factory_with_owner}
 use Rattle.mb_officer.specs.declared.signing.SignEnd.{SignEnd}
 use Rattle.mb_officer.specs.declared.signing.SignEnd.TheVariants as sign
 use Rattle.mb_console.specs.declared.end.End.{End}
 use Rattle.mb_console.specs.declared.end.End.TheVariants as end
-use Rattle.mb_console.specs.Ending.{CarriesOutRest, CarriesOutAfter, CarriesOut, HasInput, RefusesWith}
+use Rattle.mb_console.specs.Ending.{CarriesOutRest, CarriesOutAfter, CarriesOut, LeadsTo}
 use Rattle.mb_tools.specs.Signing.{TellsUnsigned}
 use Rattle.mb_console.specs.Outputs.{writes}
-use Rattle.mb_console.proofs.CommandLemmas.{read_on, goes_first, goes_second, finds, refuse_here, memory_here, memory_chosen}
+use Rattle.mb_console.proofs.CommandLemmas.{memory_here}
+use Rattle.mb_console.proofs.Leading.{finds, chooses_first, chooses_second, is_refused, lacks_memory}
 
 abbrev pub outputs_of : FactoryNames → List ℕ → List ℕ → List Output
 outputs_of names file image =
@@ -44,40 +43,23 @@ device_lacks names noise before image outside = λ final. memory_here _ _ at_fir
 
 -- ---- by the maker's key
 
-key_makes : (names : FactoryNames) (noise : List ℕ) (key : Keyfile) (owner : PublicKey) (code image : List ℕ) (outside now : Outside) (result : Result (Unit {0}) End)
-    → (key.next ≡ 32 → ⊥) → IsFactoryImage key.seed key.next owner code noise image → CarriesOut (write_device names noise key image) outside result now
-    → CarriesOut (make_device names noise key owner code) outside result now
-unfolding make_device
-key_makes names noise key owner code image outside now result left made carried = λ final.
-    goes_second _ _ _ at_first not_used final outside now result left (finds _ (write_device names noise key) at_first not_used final outside now image result made (carried final))
-
-key_is_spent : (names : FactoryNames) (noise : List ℕ) (key : Keyfile) (owner : PublicKey) (code : List ℕ) (outside : Outside) (why : End) → key.next ≡ 32 → RefusesWith (codes "spent") why
-    → CarriesOut (make_device names noise key owner code) outside (Err why) outside
-unfolding make_device
-key_is_spent names noise key owner code outside why spent refuses = λ final.
-    goes_first _ _ _ at_first not_used final outside outside _ spent (refuse_here (codes "spent") why at_first not_used final outside refuses refl)
-
-key_lacks : (names : FactoryNames) (noise : List ℕ) (key : Keyfile) (owner : PublicKey) (code : List ℕ) (outside : Outside)
-    → CarriesOut (make_device names noise key owner code) outside (Err end.NoMemory) outside
-unfolding make_device
-key_lacks names noise key owner code outside = λ final. memory_chosen _ _ _ at_first not_used final outside refl refl
-
--- ---- with code that was read
-
-pub device_made : (names : FactoryNames) (noise : List ℕ) (key used : Keyfile) (owner : PublicKey) (code image : List ℕ) (before mid now : Outside) (result : Result (Unit {0}) End)
-    → HasInput (code_input names.code) before mid code → used ≡ keyfile_after_use key → IsFactoryImage key.seed key.next owner code noise image → (key.next ≡ 32 → ⊥)
+-- the maker's key signed the birth
+pub device_made : {final : Held} {whole : Command} {past : Past} {before mid : Outside}
+    (names : FactoryNames) (noise : List ℕ) (key used : Keyfile) (owner : PublicKey) (code image : List ℕ) (result : Result (Unit {0}) End) (now : Outside)
+    → LeadsTo not_used final whole past before (make_device names noise key owner code) at_first mid
+    → used ≡ keyfile_after_use key → IsFactoryImage key.seed key.next owner code noise image → (key.next ≡ 32 → ⊥)
     → ((old : Keyfile) → used ≡ keyfile_after_use old → CarriesOut (write_device names noise old image) mid result now)
-    → CarriesOut (factory_with_owner names noise key owner) before result now
-device_made names noise key used owner code image before mid now result has is_used made left carried = λ final.
-    read_on (code_input names.code) (make_device names noise key owner) at_first not_used final before mid now code result has
-    (key_makes names noise key owner code image mid now result left made (carried key is_used) final)
+    → CarriesOutRest whole past not_used final before result now
+unfolding make_device
+device_made {final = final} names noise key used owner code image result now leads is_used made left carried =
+    (finds (chooses_second leads left) image made).lead result now (carried key is_used final)
 
--- the device was not made
-pub device_not_made : (names : FactoryNames) (noise : List ℕ) (key : Keyfile) (owner : PublicKey) (code : List ℕ) (before mid : Outside) (cause : SignEnd) (why : End) → HasInput (code_input names.code) before mid code
-    → (cause ≡ sign.Spent → key.next ≡ 32) → (cause ≡ sign.NotCountersignable → ⊥) → TellsUnsigned cause why → CarriesOut (factory_with_owner names noise key owner) before (Err why) mid
-device_not_made names noise key owner code before mid sign.Spent why has spent never tells = λ final.
-    read_on (code_input names.code) (make_device names noise key owner) at_first not_used final before mid mid code _ has (key_is_spent names noise key owner code mid why (spent refl) tells final)
-device_not_made names noise key owner code before mid sign.NotCountersignable why has spent never tells = absurd (never refl)
-device_not_made names noise key owner code before mid sign.NoMemory why has spent never tells = λ final.
-    subst (λ w. CarriesOutRest (factory_with_owner names noise key owner) at_first not_used final before (Err w) mid) (sym tells) (
-    read_on (code_input names.code) (make_device names noise key owner) at_first not_used final before mid mid code _ has (key_lacks names noise key owner code mid final))
+-- it did not
+pub device_not_made : {final : Held} {whole : Command} {past : Past} {before mid : Outside}
+    (names : FactoryNames) (noise : List ℕ) (key : Keyfile) (owner : PublicKey) (code : List ℕ) (cause : SignEnd) (why : End)
+    → LeadsTo not_used final whole past before (make_device names noise key owner code) at_first mid
+    → (cause ≡ sign.Spent → key.next ≡ 32) → (cause ≡ sign.NotCountersignable → ⊥) → TellsUnsigned cause why → CarriesOutRest whole past not_used final before (Err why) mid
+unfolding make_device
+device_not_made names noise key owner code sign.Spent why leads spent never tells = is_refused (chooses_first leads (spent refl)) refl why tells
+device_not_made names noise key owner code sign.NotCountersignable why leads spent never tells = absurd (never refl)
+device_not_made names noise key owner code sign.NoMemory why leads spent never tells = rw tells (lacks_memory leads tt refl refl)

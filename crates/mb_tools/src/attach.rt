@@ -1,8 +1,7 @@
 //! The command `attach`.
 
 ghost use Rattle.std.specs.Prelude.{◌≡◌, map};
-ghost use Rattle.mb_model.specs.records.ChainFormat.{statement_format, chain_format};
-ghost use Rattle.mb_model_commands.specs.ChainCommands.{attach, attach_to, attach_statement};
+ghost use Rattle.mb_model_commands.specs.ChainCommands.{attach};
 ghost use Rattle.mb_tools.specs.Names.{attach_files, attach_given};
 ghost use Rattle.mb_console.specs.Words.{given_argument};
 ghost use Rattle.mb_console.specs.Ending.{CarriesOut};
@@ -12,7 +11,6 @@ use crate::input::chains::{ChainForm, StatementLine};
 use mb_cert::attach as attached;
 use mb_console::{Arguments, End, file, read_as, refused};
 use mb_host::Host;
-use mb_model::{Chain, Statement};
 use mb_model_commands::Role;
 use std::alloc::Global;
 
@@ -43,35 +41,7 @@ pub fn attach<H: Host>(alloc: Global, names: &AttachNames<'_>, host: &mut H) -> 
     ensures { CarriesOut (attach (attach_files names.now)) (H.outside host.old) result (H.outside host.new) }
 {
     let chain = read_as(alloc, host, Role::Chain, names.chain, ChainForm)?;
-    attach_to(alloc, names, chain, host)
-}
-
-/// Attaches a statement to this chain.
-fn attach_to<H: Host>(
-    alloc: Global,
-    names: &AttachNames<'_>,
-    chain: Chain,
-    host: &mut H,
-) -> Result<(), End>
-    requires { chain_format.Allowed chain }
-    ensures { CarriesOut (attach_to (attach_files names.now) chain) (H.outside host.old) result (H.outside host.new) }
-{
     let statement = read_as(alloc, host, Role::Statement, names.statement, StatementLine)?;
-    attach_statement(alloc, names, chain, statement, host)
-}
-
-/// Attaches this statement to this chain.
-fn attach_statement<H: Host>(
-    alloc: Global,
-    names: &AttachNames<'_>,
-    chain: Chain,
-    statement: Statement,
-    host: &mut H,
-) -> Result<(), End>
-    requires chain { chain_format.Allowed chain }
-    requires statement { statement_format.Allowed statement }
-    ensures { CarriesOut (attach_statement (attach_files names.now) chain statement) (H.outside host.old) result (H.outside host.new) }
-{
     if chain.statement.is_some() {
         return Err(refused("has statement"));
     }

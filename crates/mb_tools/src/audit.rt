@@ -2,11 +2,11 @@
 
 ghost use Rattle.std.specs.Prelude.{◌+◌, ◌≡◌, ◌≤◌, ◌↔◌, length, IfOk, IsTrue, Some, map};
 ghost use Rattle.mb_model.specs.declared.limits.TheConstants.{FILE_LIMIT};
-ghost use Rattle.mb_model.specs.memories.Valid.{Valid, IsValidState};
+ghost use Rattle.mb_model.specs.memories.Valid.{IsValidState};
 ghost use Rattle.mb_model.specs.chains.Acceptance.{chain_acceptance};
 ghost use Rattle.mb_model.specs.chains.DeviceChains.{own_lives};
-ghost use Rattle.mb_model_commands.specs.AuditCommand.{audit, audit_device, audit_under, audit_chain, compare};
-ghost use Rattle.mb_model_memory.specs.Storable.{Storable, IsStorableState};
+ghost use Rattle.mb_model_commands.specs.AuditCommand.{audit, audit_chain, compare};
+ghost use Rattle.mb_model_memory.specs.Storable.{IsStorableState};
 ghost use Rattle.mb_tools.specs.Names.{audit_files, audit_given};
 ghost use Rattle.mb_console.specs.Words.{given_argument};
 ghost use Rattle.mb_console.specs.Ending.{CarriesOut};
@@ -61,39 +61,10 @@ pub fn audit<H: Host, L: Ledger>(
     ensures cost { hashes.new ≤ hashes.old + IMAGE_HASHES }
 {
     let image = read_image(alloc, host, names.image, hashes)?;
-    audit_device(alloc, names, image.state, host)
-}
-
-/// Audits a chain of this device, or of a dead one.
-fn audit_device<H: Host>(
-    alloc: Global,
-    names: &AuditNames<'_>,
-    state: Option<State>,
-    host: &mut H,
-) -> Result<(), End>
-    requires valid { Valid state }
-    requires stored { Storable state }
-    ensures { CarriesOut (audit_device (audit_files names.now) state) (H.outside host.old) result (H.outside host.new) }
-{
     let root = read_as(alloc, host, Role::Root, names.root, PublicKeyForm)?;
-    audit_under(alloc, names, state, &root, host)
-}
-
-/// Audits a chain of this device under this key.
-fn audit_under<H: Host>(
-    alloc: Global,
-    names: &AuditNames<'_>,
-    state: Option<State>,
-    root: &PublicKey,
-    host: &mut H,
-) -> Result<(), End>
-    requires valid { Valid state }
-    requires stored { Storable state }
-    ensures { CarriesOut (audit_under (audit_files names.now) state root.now) (H.outside host.old) result (H.outside host.new) }
-{
     let chain = read_as(alloc, host, Role::Chain, names.chain, AnyBytes)?;
-    match state {
-        Some(state) => audit_chain(alloc, names, &state, root, &chain, host),
+    match image.state {
+        Some(state) => audit_chain(alloc, names, &state, &root, &chain, host),
         None => Err(refused("zeroised")),
     }
 }

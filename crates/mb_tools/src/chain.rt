@@ -1,10 +1,10 @@
 //! The command `chain`, and the writing of a chain.
 
 ghost use Rattle.std.specs.Prelude.{◌+◌, ◌≤◌, ◌≡◌, Some, IfOk, string_bytes, map};
-ghost use Rattle.mb_model.specs.memories.Valid.{Valid, IsValidState};
+ghost use Rattle.mb_model.specs.memories.Valid.{IsValidState};
 ghost use Rattle.mb_model.specs.records.ChainFormat.{chain_format};
 ghost use Rattle.mb_model_commands.specs.ChainCommands.{chain, chain_of, write_entries, entries_text};
-ghost use Rattle.mb_model_memory.specs.Storable.{Storable, IsStorableState};
+ghost use Rattle.mb_model_memory.specs.Storable.{IsStorableState};
 ghost use Rattle.mb_tools.specs.Names.{chain_files, chain_given};
 ghost use Rattle.mb_console.specs.Words.{given_argument};
 ghost use Rattle.mb_console.specs.Ending.{CarriesOut};
@@ -50,21 +50,7 @@ pub fn chain<H: Host, L: Ledger>(
     ensures cost { hashes.new ≤ hashes.old + IMAGE_HASHES }
 {
     let image = read_image(alloc, host, names.image, hashes)?;
-    chain_of(alloc, names, image.state, host)
-}
-
-/// Writes the chain of this device, unless it is dead.
-fn chain_of<H: Host>(
-    alloc: Global,
-    names: &ChainNames<'_>,
-    state: Option<State>,
-    host: &mut H,
-) -> Result<(), End>
-    requires valid { Valid state }
-    requires stored { Storable state }
-    ensures { CarriesOut (chain_of (chain_files names.now) state) (H.outside host.old) result (H.outside host.new) }
-{
-    match state {
+    match image.state {
         Some(state) => write_log(alloc, names, state, host),
         None => Err(refused("zeroised")),
     }

@@ -3,7 +3,7 @@
 ghost use Rattle.std.specs.Prelude.{◌+◌, ◌≤◌, ◌≡◌, IfOk, string_bytes, map};
 ghost use Rattle.mb_model.specs.declared.tools.Keyfile.{Keyfile};
 ghost use Rattle.mb_model.specs.machine.SignedOrders.{keyfile_after_use};
-ghost use Rattle.mb_model_commands.specs.FactoryCommand.{factory, factory_with_noise, factory_with_key, factory_with_owner, write_device, serial_text};
+ghost use Rattle.mb_model_commands.specs.FactoryCommand.{factory, write_device, serial_text};
 ghost use Rattle.mb_tools.specs.Names.{factory_files, factory_given};
 ghost use Rattle.mb_console.specs.Words.{given_argument};
 ghost use Rattle.mb_console.specs.Ending.{CarriesOut};
@@ -15,7 +15,7 @@ use crate::sign::end_of;
 use mb_console::{Arguments, End, Output, file, finish, read_as};
 use mb_host::Host;
 use mb_lms::HashCount;
-use mb_model::{Keyfile, NoMemory, PublicKey};
+use mb_model::{Keyfile, NoMemory};
 use mb_model_commands::Role;
 use mb_officer::{factory as make_image, write_keyfile};
 use std::alloc::Global;
@@ -58,56 +58,11 @@ pub fn factory<H: Host, L: Ledger>(
     ensures cost { hashes.new ≤ hashes.old + TREE_HASHES + SIGNING_HASHES }
 {
     let noise = read_as(alloc, host, Role::Noise, names.noise, Leading::<48>)?;
-    factory_drawn(alloc, names, &noise, host, hashes)
-}
-
-/// Makes a device from this noise.
-fn factory_drawn<H: Host, L: Ledger>(
-    alloc: Global,
-    names: &FactoryNames<'_>,
-    noise: &[u8; 48],
-    host: &mut H,
-    hashes: &mut HashCount<L>,
-) -> Result<(), End>
-    ensures carried { CarriesOut (factory_with_noise (factory_files names.now) noise.now) (H.outside host.old) result (H.outside host.new) }
-    ensures cost { hashes.new ≤ hashes.old + TREE_HASHES + SIGNING_HASHES }
-{
-    let key = read_as(alloc, host, Role::Key, names.key, KeyForm)?;
-    factory_keyed(alloc, names, noise, key, host, hashes)
-}
-
-/// Makes a device, and signs its birth by this key.
-fn factory_keyed<H: Host, L: Ledger>(
-    alloc: Global,
-    names: &FactoryNames<'_>,
-    noise: &[u8; 48],
-    key: Keyfile,
-    host: &mut H,
-    hashes: &mut HashCount<L>,
-) -> Result<(), End>
-    ensures carried { CarriesOut (factory_with_key (factory_files names.now) noise.now key) (H.outside host.old) result (H.outside host.new) }
-    ensures cost { hashes.new ≤ hashes.old + TREE_HASHES + SIGNING_HASHES }
-{
+    let mut key = read_as(alloc, host, Role::Key, names.key, KeyForm)?;
     let owner = read_as(alloc, host, Role::Owner, names.owner, PublicKeyForm)?;
-    factory_owned(alloc, names, noise, key, &owner, host, hashes)
-}
-
-/// Makes a device with this owner.
-fn factory_owned<H: Host, L: Ledger>(
-    alloc: Global,
-    names: &FactoryNames<'_>,
-    noise: &[u8; 48],
-    mut key: Keyfile,
-    owner: &PublicKey,
-    host: &mut H,
-    hashes: &mut HashCount<L>,
-) -> Result<(), End>
-    ensures carried { CarriesOut (factory_with_owner (factory_files names.now) noise.now key owner.now) (H.outside host.old) result (H.outside host.new) }
-    ensures cost { hashes.new ≤ hashes.old + TREE_HASHES + SIGNING_HASHES }
-{
     let code = read_as(alloc, host, Role::Code, names.code, CodeForm)?;
-    match make_image(alloc, &mut key, owner, &code, noise, hashes) {
-        Ok(image) => write_device(alloc, names, noise, &key, image, host),
+    match make_image(alloc, &mut key, &owner, &code, &noise, hashes) {
+        Ok(image) => write_device(alloc, names, &noise, &key, image, host),
         Err(end) => Err(end_of(end)),
     }
 }

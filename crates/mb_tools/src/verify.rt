@@ -2,7 +2,7 @@
 
 ghost use Rattle.std.specs.Prelude.{◌≡◌, map};
 ghost use Rattle.mb_model.specs.chains.Acceptance.{chain_acceptance};
-ghost use Rattle.mb_model_commands.specs.VerifyCommand.{verify, verify_under, tell_verdict};
+ghost use Rattle.mb_model_commands.specs.VerifyCommand.{verify, tell_verdict};
 ghost use Rattle.mb_verifier.specs.Ends.{chain_refusal_of};
 ghost use Rattle.mb_tools.specs.Names.{verify_files, verify_given};
 ghost use Rattle.mb_console.specs.Words.{given_argument};
@@ -13,7 +13,6 @@ use crate::input::chains::AnyBytes;
 use crate::input::keys::PublicKeyForm;
 use mb_console::{Arguments, End, file, finish, number, read_as, refused_by_number};
 use mb_host::Host;
-use mb_model::PublicKey;
 use mb_model_commands::Role;
 use mb_verifier::{ChainRefusal, Report, verify as judge, write_listing};
 use std::alloc::Global;
@@ -44,20 +43,8 @@ pub fn verify<H: Host>(alloc: Global, names: &VerifyNames<'_>, host: &mut H) -> 
     ensures { CarriesOut (verify (verify_files names.now)) (H.outside host.old) result (H.outside host.new) }
 {
     let root = read_as(alloc, host, Role::Root, names.root, PublicKeyForm)?;
-    verify_under(alloc, names, &root, host)
-}
-
-/// Verifies a chain under this key.
-fn verify_under<H: Host>(
-    alloc: Global,
-    names: &VerifyNames<'_>,
-    root: &PublicKey,
-    host: &mut H,
-) -> Result<(), End>
-    ensures { CarriesOut (verify_under (verify_files names.now) root.now) (H.outside host.old) result (H.outside host.new) }
-{
     let chain = read_as(alloc, host, Role::Chain, names.chain, AnyBytes)?;
-    match judge(alloc, root, &chain, names.key) {
+    match judge(alloc, &root, &chain, names.key) {
         Ok(report) => print_report(alloc, names.key, &report, host),
         Err(why) => Err(end_of(why)),
     }

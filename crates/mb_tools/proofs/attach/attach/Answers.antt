@@ -1,22 +1,33 @@
-use Rattle.std.proofs.Common.{refl}
-use Rattle.std.proofs.lemmas.Result.{err_from_is_err_and}
-use Rattle.mb_model_commands.specs.Inputs.{chain_input}
-use Rattle.mb_model_commands.specs.ChainCommands.{attach, attach_to}
-use Rattle.mb_model_commands.specs.Commands.{at_first}
-use Rattle.mb_tools.specs.Names.{attach_files}
-use Rattle.mb_console.proofs.CommandLemmas.{input_carried_out, read_on}
+use Rattle.std.proofs.Common.{◌≡◌, ◌≢◌, true, false, is_some, None, refl, sym, ◌∙◌, ap, subst}
+use Rattle.mb_model_commands.specs.ChainCommands.{attach, attach_statement, write_entries}
+use Rattle.mb_console.specs.Ending.{CarriesOut}
+use Rattle.mb_console.proofs.Leading.{begins, reads, chooses_first, chooses_second, stops_at_input, is_refused}
+use Rattle.mb_tools.proofs.ChainLemmas.{none_there}
 use Rattle.mb_tools.proofs.attach.attach.Goals as goal
+
+pub write_entries-requires : goal.write_entries-requires
+write_entries-requires g c = c.attach-stated.ensures.allowed c.in_ok-chain.ensures.keeps c.in_ok-statement.ensures.keeps
 
 pub returns-in_err-chain : goal.returns-in_err-chain
 unfolding attach
-returns-in_err-chain g c = λ final.
-    let p = err_from_is_err_and c.from_residual.result c.from_residual.ensures.1 in
-    let outside = g.H.Host.outside in
-    rw (p.1, p.2) (input_carried_out (chain_input c.args.names.now.chain.now) _ at_first _ final (outside c.args.host.now) (outside c.read_as.new.host) c.in_err-chain.field-0.0 refl refl c.in_err-chain.ensures.err)
+returns-in_err-chain g c = λ final. stops_at_input _ _ _ begins c.from_residual.ensures.1 c.in_err-chain.ensures.err refl refl
+
+pub returns-in_err-statement : goal.returns-in_err-statement
+unfolding attach
+returns-in_err-statement g c = λ final. stops_at_input _ _ _ (reads begins c.in_ok-chain.ensures.read) c.from_residual-in_err-statement.ensures.1 c.in_err-statement.ensures.err refl refl
+
+pub returns-then-is_some : goal.returns-then-is_some
+unfolding attach attach_statement
+returns-then-is_some g c = λ final.
+    let statement = reads (reads begins c.in_ok-chain.ensures.read) c.in_ok-statement.ensures.read in
+    let some : c.in_ok-chain.chain.statement ≢ None = λ none. let true_is : true ≡ false = sym c.if-is_some.true ∙ c.is_some.ensures ∙ ap is_some none in cc in
+    is_refused (chooses_first {mid = g.H.Host.outside c.read_as-2.new.host} statement some) refl _ c.refused.ensures
 
 pub returns : goal.returns
-unfolding attach
+unfolding attach attach_statement
 returns g c = λ final.
+    let statement = reads (reads begins c.in_ok-chain.ensures.read) c.in_ok-statement.ensures.read in
+    let none = none_there c.in_ok-chain.chain.statement c.is_some.result c.is_some.ensures c.if-is_some.false in
     let outside = g.H.Host.outside in
-    read_on (chain_input c.args.names.now.chain.now) (attach_to (attach_files c.args.names.now)) at_first _ final (outside c.args.host.now) (outside c.read_as.new.host) (outside c.attach_to.new.host) c.in_ok-chain.chain
-    c.attach_to.result c.in_ok-chain.ensures.read (c.attach_to.ensures final)
+    let carried = subst (λ chain. CarriesOut (write_entries c.args.names.now.out.now chain) (outside c.read_as-2.new.host) c.write_entries.result (outside c.write_entries.new.host)) c.attach-stated.ensures.is c.write_entries.ensures in
+    (chooses_second {mid = outside c.read_as-2.new.host} statement (λ some. some none)).lead _ _ (carried final)

@@ -1,22 +1,33 @@
-use Rattle.std.proofs.Common.{refl}
-use Rattle.std.proofs.lemmas.Result.{err_from_is_err_and}
-use Rattle.mb_model_commands.specs.Inputs.{image_input}
+use Rattle.std.proofs.Common.{refl, sym, subst}
+use Rattle.mb_model.specs.memories.Valid.{Valid}
 use Rattle.mb_model_commands.specs.ChainCommands.{chain, chain_of}
-use Rattle.mb_model_commands.specs.Commands.{at_first}
+use Rattle.mb_model_memory.specs.Storable.{Storable}
+use Rattle.mb_console.specs.Ending.{CarriesOut}
+use Rattle.mb_console.proofs.Leading.{begins, reads, stops_at_input}
 use Rattle.mb_tools.specs.Names.{chain_files}
-use Rattle.mb_console.proofs.CommandLemmas.{input_carried_out, read_on}
+use Rattle.mb_tools.proofs.ChainLemmas.{dead_has_none}
 use Rattle.mb_tools.proofs.chain.chain.Goals as goal
+
+pub write_log-requires-clause-valid : goal.write_log-requires-clause-valid
+write_log-requires-clause-valid g c = subst Valid c.in-Some.is c.in_ok-image.ensures.valid
+
+pub write_log-requires-clause-stored : goal.write_log-requires-clause-stored
+write_log-requires-clause-stored g c = subst Storable c.in-Some.is c.in_ok-image.ensures.stored
 
 pub returns-in_err-image-clause-carried : goal.returns-in_err-image-clause-carried
 unfolding chain
-returns-in_err-image-clause-carried g c = λ final.
-    let p = err_from_is_err_and c.from_residual.result c.from_residual.ensures.1 in
+returns-in_err-image-clause-carried g c = λ final. stops_at_input _ _ _ begins c.from_residual.ensures.1 c.in_err-image.ensures.err refl refl
+
+pub returns-in-Some-clause-carried : goal.returns-in-Some-clause-carried
+unfolding chain
+returns-in-Some-clause-carried g c = λ final.
+    let image = reads begins c.in_ok-image.ensures.read in
     let outside = g.H.Host.outside in
-    rw (p.1, p.2) (input_carried_out (image_input c.args.names.now.image.now) (λ image. chain_of (chain_files c.args.names.now) image.state) at_first _ final (outside c.args.host.now) (outside c.read_image.new.host) c.in_err-image.field-0.0 refl refl c.in_err-image.ensures.err)
+    let written = subst (λ s. CarriesOut (chain_of (chain_files c.args.names.now) s) (outside c.read_image.new.host) c.write_log.result (outside c.write_log.new.host)) (sym c.in-Some.is) c.write_log.ensures in
+    image.lead _ _ (written final)
 
 pub returns-clause-carried : goal.returns-clause-carried
 unfolding chain
 returns-clause-carried g c = λ final.
-    let outside = g.H.Host.outside in
-    read_on (image_input c.args.names.now.image.now) (λ image. chain_of (chain_files c.args.names.now) image.state) at_first _ final (outside c.args.host.now) (outside c.read_image.new.host) (outside c.chain_of.new.host) (record { bytes = c.in_ok-image.image.bytes.items; state = c.in_ok-image.image.state })
-    c.chain_of.result c.in_ok-image.ensures.read (c.chain_of.ensures final)
+    let image = reads begins c.in_ok-image.ensures.read in
+    dead_has_none (chain_files c.args.names.now) _ _ image c.in-None.is c.refused.ensures refl

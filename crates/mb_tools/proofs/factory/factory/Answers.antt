@@ -1,22 +1,41 @@
-use Rattle.std.proofs.Common.{refl}
-use Rattle.std.proofs.lemmas.Result.{err_from_is_err_and}
-use Rattle.mb_model_commands.specs.Inputs.{birth_noise_input}
-use Rattle.mb_model_commands.specs.FactoryCommand.{factory, factory_with_noise}
-use Rattle.mb_model_commands.specs.Commands.{at_first}
-use Rattle.mb_tools.specs.Names.{factory_files}
-use Rattle.mb_console.proofs.CommandLemmas.{input_carried_out, read_on}
+use Rattle.std.proofs.Common.{List, ℕ, Err, refl, ap, subst}
+use Rattle.mb_model.specs.memories.Factory.{IsFactoryImage}
+use Rattle.mb_model_commands.specs.FactoryCommand.{factory}
+use Rattle.mb_console.proofs.Leading.{begins, reads, stops_at_input}
+use Rattle.mb_tools.proofs.FactoryLemmas.{device_made, device_not_made}
 use Rattle.mb_tools.proofs.factory.factory.Goals as goal
 
 pub returns-in_err-noise-clause-carried : goal.returns-in_err-noise-clause-carried
 unfolding factory
-returns-in_err-noise-clause-carried g c = λ final.
-    let p = err_from_is_err_and c.from_residual.result c.from_residual.ensures.1 in
-    let outside = g.H.Host.outside in
-    rw (p.1, p.2) (input_carried_out (birth_noise_input c.args.names.now.noise.now) _ at_first _ final (outside c.args.host.now) (outside c.read_as.new.host) c.in_err-noise.field-0.0 refl refl c.in_err-noise.ensures.err)
+returns-in_err-noise-clause-carried g c = λ final. stops_at_input _ _ _ begins c.from_residual.ensures.1 c.in_err-noise.ensures.err refl refl
+
+pub returns-in_err-key-clause-carried : goal.returns-in_err-key-clause-carried
+unfolding factory
+returns-in_err-key-clause-carried g c = λ final. stops_at_input _ _ _ (reads begins c.in_ok-noise.ensures.read) c.from_residual-in_err-key.ensures.1 c.in_err-key.ensures.err refl refl
+
+pub returns-in_err-owner-clause-carried : goal.returns-in_err-owner-clause-carried
+unfolding factory
+returns-in_err-owner-clause-carried g c = λ final.
+    let key = reads (reads begins c.in_ok-noise.ensures.read) c.in_ok-key.ensures.read in
+    stops_at_input _ _ _ key c.from_residual-in_err-owner.ensures.1 c.in_err-owner.ensures.err refl refl
+
+pub returns-in_err-code-clause-carried : goal.returns-in_err-code-clause-carried
+unfolding factory
+returns-in_err-code-clause-carried g c = λ final.
+    let owner = reads (reads (reads begins c.in_ok-noise.ensures.read) c.in_ok-key.ensures.read) c.in_ok-owner.ensures.read in
+    stops_at_input _ _ _ owner c.from_residual-in_err-code.ensures.1 c.in_err-code.ensures.err refl refl
+
+pub returns-in-Ok-clause-carried : goal.returns-in-Ok-clause-carried
+unfolding factory
+returns-in-Ok-clause-carried g c = λ final.
+    let owner = reads (reads (reads begins c.in_ok-noise.ensures.read) c.in_ok-key.ensures.read) c.in_ok-owner.ensures.read in
+    let code = reads owner c.in_ok-code.ensures.read in
+    let made = subst (λ (b : List ℕ). IsFactoryImage c.in_ok-key.key.seed c.in_ok-key.key.next c.in_ok-owner.owner b c.in_ok-noise.noise c.in-Ok.image.items) c.deref.ensures.value c.in-Ok.ensures.image in
+    device_made _ _ _ _ _ _ _ _ _ code c.in-Ok.ensures.used made (λ spent. let never = c.in-Ok.ensures.spent.1 spent in cc) c.write_device.ensures
 
 pub returns-clause-carried : goal.returns-clause-carried
 unfolding factory
 returns-clause-carried g c = λ final.
-    let outside = g.H.Host.outside in
-    read_on (birth_noise_input c.args.names.now.noise.now) (factory_with_noise (factory_files c.args.names.now)) at_first _ final (outside c.args.host.now) (outside c.read_as.new.host) (outside c.factory_drawn.new.host) c.in_ok-noise.noise
-    c.factory_drawn.result c.in_ok-noise.ensures.read (c.factory_drawn.ensures.carried final)
+    let owner = reads (reads (reads begins c.in_ok-noise.ensures.read) c.in_ok-key.ensures.read) c.in_ok-owner.ensures.read in
+    let code = reads owner c.in_ok-code.ensures.read in
+    device_not_made _ _ _ _ _ c.in-Err.end _ code (λ is. c.in-Err.ensures.spent.0 (ap Err is)) (λ is. c.in-Err.ensures.countersignable (ap Err is)) c.end_of.ensures

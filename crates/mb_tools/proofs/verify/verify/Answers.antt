@@ -1,22 +1,29 @@
-use Rattle.std.proofs.Common.{refl}
-use Rattle.std.proofs.lemmas.Result.{err_from_is_err_and}
-use Rattle.mb_model_commands.specs.Inputs.{root_input}
-use Rattle.mb_model_commands.specs.VerifyCommand.{verify, verify_under}
-use Rattle.mb_model_commands.specs.Commands.{at_first}
-use Rattle.mb_tools.specs.Names.{verify_files}
-use Rattle.mb_console.proofs.CommandLemmas.{input_carried_out, read_on}
+use Rattle.std.proofs.Common.{ℕ, List, refl, subst}
+use Rattle.mb_model.specs.chains.Acceptance.{Accepts, IsRefused, chain_acceptance}
+use Rattle.mb_model_commands.specs.VerifyCommand.{verify}
+use Rattle.mb_verifier.specs.Ends.{chain_refusal_of}
+use Rattle.mb_console.proofs.Leading.{begins, reads, finds, stops_at_input}
+use Rattle.mb_tools.proofs.ChainLemmas.{IfReason, chain_refused}
 use Rattle.mb_tools.proofs.verify.verify.Goals as goal
 
 pub returns-in_err-root : goal.returns-in_err-root
 unfolding verify
-returns-in_err-root g c = λ final.
-    let p = err_from_is_err_and c.from_residual.result c.from_residual.ensures.1 in
-    let outside = g.H.Host.outside in
-    rw (p.1, p.2) (input_carried_out (root_input c.args.names.now.root.now) _ at_first _ final (outside c.args.host.now) (outside c.read_as.new.host) c.in_err-root.field-0.0 refl refl c.in_err-root.ensures.err)
+returns-in_err-root g c = λ final. stops_at_input _ _ _ begins c.from_residual.ensures.1 c.in_err-root.ensures.err refl refl
+
+pub returns-in_err-chain : goal.returns-in_err-chain
+unfolding verify
+returns-in_err-chain g c = λ final. stops_at_input _ _ _ (reads begins c.in_ok-root.ensures.read) c.from_residual-in_err-chain.ensures.1 c.in_err-chain.ensures.err refl refl
+
+pub returns-in-Ok : goal.returns-in-Ok
+unfolding verify
+returns-in-Ok g c = λ final.
+    let chain = reads (reads begins c.in_ok-root.ensures.read) c.in_ok-chain.ensures.read in
+    let accepts = subst (λ (b : List ℕ). Accepts c.in_ok-root.root b c.args.names.now.key c.in-Ok.report) c.deref.ensures.value c.in-Ok.ensures.accepted in
+    (finds chain (chain_acceptance c.in-Ok.report) accepts).lead _ _ (c.print_report.ensures final)
 
 pub returns : goal.returns
 unfolding verify
 returns g c = λ final.
-    let outside = g.H.Host.outside in
-    read_on (root_input c.args.names.now.root.now) (verify_under (verify_files c.args.names.now)) at_first _ final (outside c.args.host.now) (outside c.read_as.new.host) (outside c.verify_under.new.host) c.in_ok-root.root
-    c.verify_under.result c.in_ok-root.ensures.read (c.verify_under.ensures final)
+    let chain = reads (reads begins c.in_ok-root.ensures.read) c.in_ok-chain.ensures.read in
+    let refused = subst (λ (b : List ℕ). IfReason (chain_refusal_of c.in-Err.why) (IsRefused c.in_ok-root.root b c.args.names.now.key)) c.deref.ensures.value c.in-Err.ensures.refused in
+    chain_refused (chain_refusal_of c.in-Err.why) _ chain refused c.end_of.ensures refl refl
