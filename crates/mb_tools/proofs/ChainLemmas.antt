@@ -97,11 +97,11 @@ pub report_lacks : (n : ℕ) (report : Report) (before : Outside) → CarriesOut
 report_lacks n report before = λ final. memory_unprinted _ at_first not_used final before refl refl
 
 pub chain_refused : {used : Used} {final : Held} {whole : Command} {past : Past} {before : Outside} {later : Past} {mid : Outside}
-    {maker : PublicKey} {bytes : List ℕ} {n m : ℕ} (found : Option ChainRefusal) (why : End)
+    {maker : PublicKey} {bytes : List ℕ} {n : ℕ} (m : ℕ) (found : Option ChainRefusal) (why : End)
     → LeadsTo used final whole past before (find (IsVerdict maker bytes n) (tell_verdict m)) later mid → IfReason found (IsRefused maker bytes n)
     → TellsRefusal found why → later.wrote ≡ false → used ≡ later.used → CarriesOutRest whole past used final before (Err why) mid
-chain_refused (Some reason) why leads refused tells none same = step.is_refused (step.finds leads (chain_rejection reason) (refused reason refl)) same why tells
-chain_refused None why leads refused tells none same = rw tells (step.lacks_memory leads tt none same)
+chain_refused m (Some reason) why leads refused tells none same = step.is_refused (step.finds leads (chain_rejection reason) (refused reason refl)) same why tells
+chain_refused m None why leads refused tells none same = rw tells (step.lacks_memory leads tt none same)
 
 -- ---- audit
 

@@ -13,7 +13,7 @@ ghost use Rattle.mb_console.specs.Ending.{CarriesOut};
 ghost use Rattle.mb_image.specs.declared.image.TheConstants.{IMAGE_HASHES};
 
 use crate::input::chains::AnyBytes;
-use crate::input::devices::read_image;
+use crate::input::devices::{Image, read_image};
 use crate::input::keys::PublicKeyForm;
 use crate::verify::end_of;
 use mb_console::{Arguments, End, file, finish, number, read_as, refused};
@@ -60,10 +60,10 @@ pub fn audit<H: Host, L: Ledger>(
     ensures carried { CarriesOut (audit (audit_files names.now)) (H.outside host.old) result (H.outside host.new) }
     ensures cost { hashes.new ≤ hashes.old + IMAGE_HASHES }
 {
-    let image = read_image(alloc, host, names.image, hashes)?;
+    let Image { bytes: _, state } = read_image(alloc, host, names.image, hashes)?;
     let root = read_as(alloc, host, Role::Root, names.root, PublicKeyForm)?;
     let chain = read_as(alloc, host, Role::Chain, names.chain, AnyBytes)?;
-    match image.state {
+    match state {
         Some(state) => audit_chain(alloc, names, &state, &root, &chain, host),
         None => Err(refused("zeroised")),
     }

@@ -10,7 +10,7 @@ ghost use Rattle.mb_console.specs.Words.{given_argument};
 ghost use Rattle.mb_console.specs.Ending.{CarriesOut};
 ghost use Rattle.mb_image.specs.declared.image.TheConstants.{IMAGE_HASHES};
 
-use crate::input::devices::read_image;
+use crate::input::devices::{Image, read_image};
 use mb_cert::write_chain;
 use mb_console::{Arguments, End, Output, file, finish, refused};
 use mb_host::Host;
@@ -49,8 +49,8 @@ pub fn chain<H: Host, L: Ledger>(
     ensures carried { CarriesOut (chain (chain_files names.now)) (H.outside host.old) result (H.outside host.new) }
     ensures cost { hashes.new ≤ hashes.old + IMAGE_HASHES }
 {
-    let image = read_image(alloc, host, names.image, hashes)?;
-    match image.state {
+    let Image { bytes: _, state } = read_image(alloc, host, names.image, hashes)?;
+    match state {
         Some(state) => write_log(alloc, names, state, host),
         None => Err(refused("zeroised")),
     }

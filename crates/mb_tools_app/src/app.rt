@@ -64,7 +64,8 @@ pub fn app<H: Host, L: Ledger>(
 {
     let image = read_image(alloc, host, names.image, hashes)?;
     let input = read_as(alloc, host, Role::Input, names.input, AnyBytes)?;
-    match image.state {
+    let state = image.state;
+    match state {
         Some(state) => run_stored_code(alloc, names, &state, &input, host),
         None => Err(refused("zeroised")),
     }

@@ -24,12 +24,12 @@ use Rattle.mb_tools_policy.specs.Denials.{TellsDenial}
 -- ---- a chain that is judged
 
 pub chain_not_judged : {used : Used} {final : Held} {whole : Command} {past : Past} {before : Outside} {later : Past} {mid : Outside}
-    {maker : PublicKey} {bytes : List ℕ} {number : ℕ} {items : List PolicyItem} (found : Option ChainRefusal) (why : End)
+    {maker : PublicKey} {bytes : List ℕ} {number : ℕ} (items : List PolicyItem) (found : Option ChainRefusal) (why : End)
     → LeadsTo used final whole past before (find (IsVerdict maker bytes number) (judge_verdict items)) later mid
     → ((reason : ChainRefusal) → found ≡ Some reason → IsRefused maker bytes number reason) → TellsRefusal found why
     → later.wrote ≡ false → used ≡ later.used → CarriesOutRest whole past used final before (Err why) mid
-chain_not_judged (Some reason) why leads refused tells none same = step.is_refused (step.finds leads (chain_rejection reason) (refused reason refl)) same why tells
-chain_not_judged None why leads refused tells none same = rw tells (step.lacks_memory leads tt none same)
+chain_not_judged items (Some reason) why leads refused tells none same = step.is_refused (step.finds leads (chain_rejection reason) (refused reason refl)) same why tells
+chain_not_judged items None why leads refused tells none same = rw tells (step.lacks_memory leads tt none same)
 
 -- ---- a report that is judged
 

@@ -9,29 +9,29 @@ use Rattle.mb_tools.proofs.ChainLemmas.{dead_not_audited}
 use Rattle.mb_tools.proofs.audit.audit.Goals as goal
 
 pub audit_chain-requires-clause-valid : goal.audit_chain-requires-clause-valid
-audit_chain-requires-clause-valid g c = subst Valid c.in-Some.is c.in_ok-image.ensures.valid
+audit_chain-requires-clause-valid g c = subst Valid c.in-Some.is c.in_ok-state.ensures.valid
 
 pub audit_chain-requires-clause-stored : goal.audit_chain-requires-clause-stored
-audit_chain-requires-clause-stored g c = subst Storable c.in-Some.is c.in_ok-image.ensures.stored
+audit_chain-requires-clause-stored g c = subst Storable c.in-Some.is c.in_ok-state.ensures.stored
 
-pub returns-in_err-image-clause-carried : goal.returns-in_err-image-clause-carried
+pub returns-in_err-state-clause-carried : goal.returns-in_err-state-clause-carried
 unfolding audit
-returns-in_err-image-clause-carried g c = λ final. stops_at_input _ _ _ begins c.from_residual.ensures.1 c.in_err-image.ensures.err refl refl
+returns-in_err-state-clause-carried g c = λ final. stops_at_input _ _ _ begins c.from_residual.ensures.1 c.in_err-state.ensures.err refl refl
 
 pub returns-in_err-root-clause-carried : goal.returns-in_err-root-clause-carried
 unfolding audit
-returns-in_err-root-clause-carried g c = λ final. stops_at_input _ _ _ (reads begins c.in_ok-image.ensures.read) c.from_residual-in_err-root.ensures.1 c.in_err-root.ensures.err refl refl
+returns-in_err-root-clause-carried g c = λ final. stops_at_input _ _ _ (reads begins c.in_ok-state.ensures.read) c.from_residual-in_err-root.ensures.1 c.in_err-root.ensures.err refl refl
 
 pub returns-in_err-chain-clause-carried : goal.returns-in_err-chain-clause-carried
 unfolding audit
 returns-in_err-chain-clause-carried g c = λ final.
-    let root = reads (reads begins c.in_ok-image.ensures.read) c.in_ok-root.ensures.read in
+    let root = reads (reads begins c.in_ok-state.ensures.read) c.in_ok-root.ensures.read in
     stops_at_input _ _ _ root c.from_residual-in_err-chain.ensures.1 c.in_err-chain.ensures.err refl refl
 
 pub returns-in-Some-clause-carried : goal.returns-in-Some-clause-carried
 unfolding audit
 returns-in-Some-clause-carried g c = λ final.
-    let chain = reads (reads (reads begins c.in_ok-image.ensures.read) c.in_ok-root.ensures.read) c.in_ok-chain.ensures.read in
+    let chain = reads (reads (reads begins c.in_ok-state.ensures.read) c.in_ok-root.ensures.read) c.in_ok-chain.ensures.read in
     let outside = g.H.Host.outside in
     let names = audit_files c.args.names.now in
     let mid = outside c.read_as-2.new.host in
@@ -43,5 +43,5 @@ returns-in-Some-clause-carried g c = λ final.
 pub returns-clause-carried : goal.returns-clause-carried
 unfolding audit
 returns-clause-carried g c = λ final.
-    let chain = reads (reads (reads begins c.in_ok-image.ensures.read) c.in_ok-root.ensures.read) c.in_ok-chain.ensures.read in
+    let chain = reads (reads (reads begins c.in_ok-state.ensures.read) c.in_ok-root.ensures.read) c.in_ok-chain.ensures.read in
     dead_not_audited (audit_files c.args.names.now) _ _ _ _ chain c.in-None.is c.refused.ensures refl

@@ -26,4 +26,4 @@ unfolding verify
 returns g c = λ final.
     let chain = reads (reads begins c.in_ok-root.ensures.read) c.in_ok-chain.ensures.read in
     let refused = subst (λ (b : List ℕ). IfReason (chain_refusal_of c.in-Err.why) (IsRefused c.in_ok-root.root b c.args.names.now.key)) c.deref.ensures.value c.in-Err.ensures.refused in
-    chain_refused (chain_refusal_of c.in-Err.why) _ chain refused c.end_of.ensures refl refl
+    chain_refused _ (chain_refusal_of c.in-Err.why) _ chain refused c.end_of.ensures refl refl

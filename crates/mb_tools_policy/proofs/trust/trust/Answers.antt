@@ -33,4 +33,4 @@ returns g c = λ final.
     let policy = reads (reads (reads begins c.in_ok-root.ensures.read) c.in_ok-chain.ensures.read) c.in_ok-policy.ensures.read in
     let refused = subst (λ (b : List ℕ). (reason : ChainRefusal) → chain_refusal_of c.in-Err.why ≡ Some reason → IsRefused c.in_ok-root.root b c.args.names.now.key reason)
     c.deref.ensures.value c.in-Err.ensures.refused in
-    chain_not_judged (chain_refusal_of c.in-Err.why) _ policy refused c.end_of.ensures refl refl
+    chain_not_judged _ (chain_refusal_of c.in-Err.why) _ policy refused c.end_of.ensures refl refl
