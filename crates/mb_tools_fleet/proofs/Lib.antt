@@ -1,2 +1,1 @@
 pub mod FleetLemmas
-pub mod FleetFromTop
