@@ -1,6 +1,7 @@
 use Rattle.std.proofs.Common.{◌≡◌, ℕ, List, Some, refl, subst}
 use Rattle.mb_model.specs.chains.Acceptance.{ChainRefusal, Accepts, IsRefused, chain_acceptance}
 use Rattle.mb_verifier.specs.Ends.{chain_refusal_of}
+use Rattle.mb_policy.specs.Meanings.{policy_items}
 use Rattle.mb_console.proofs.Leading.{begins, reads, finds, stops_at_input}
 use Rattle.mb_tools_policy.specs.TrustCommand.{trust}
 use Rattle.mb_tools_policy.proofs.TrustLemmas.{chain_not_judged}
@@ -33,4 +34,4 @@ returns g c = λ final.
     let policy = reads (reads (reads begins c.in_ok-root.ensures.read) c.in_ok-chain.ensures.read) c.in_ok-policy.ensures.read in
     let refused = subst (λ (b : List ℕ). (reason : ChainRefusal) → chain_refusal_of c.in-Err.why ≡ Some reason → IsRefused c.in_ok-root.root b c.args.names.now.key reason)
     c.deref.ensures.value c.in-Err.ensures.refused in
-    chain_not_judged _ (chain_refusal_of c.in-Err.why) _ policy refused c.end_of.ensures refl refl
+    chain_not_judged (policy_items c.in_ok-policy.policy) (chain_refusal_of c.in-Err.why) _ policy refused c.end_of.ensures refl refl
