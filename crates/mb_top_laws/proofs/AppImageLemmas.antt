@@ -13,6 +13,7 @@ use Rattle.mb_model.specs.owners.Layers.{Runnable}
 use Rattle.mb_model.specs.memories.Meaning.{IsWellFormed}
 use Rattle.mb_model.specs.outside.Texts.{line_with_lf}
 use Rattle.mb_model_commands.specs.Commands.{Input, Past, Ended, end_seen_from, HasRead, SaysLine, Stops, WantsMemory, InputEnds, input_is_too_long, input_is_faulty, input_is_not_read, memory_lacks, PrintEnds, text_is_printed, text_is_not_printed, CommandEnds}
+use Rattle.mb_model_commands.specs.Commands as command
 use Rattle.mb_model_commands.specs.Inputs.{image_input}
 use Rattle.mb_model_commands.specs.Outside.{Outside, HasRisen, read_once, FailsToRead, by_fault, by_absence, Prints, FailsToPrint}
 use Rattle.mb_model_lemmas.proofs.FaultLemmas.{well_formed_has_no_fault, well_formed_stands_for_one}
@@ -27,7 +28,7 @@ use Rattle.mb_appvm.specs.Instructions.{Stands, instruction_format}
 use Rattle.mb_appvm.specs.Runs.{first_state, RunsTo, readable_secrets, AppRun}
 use Rattle.mb_appvm.proofs.Determined.{runs_end_once}
 use Rattle.mb_model_histories.specs.KeyFileLaws.{Files}
-use Rattle.mb_tools_app.specs.AppCommand.{RunsStoredCode, AppNames, app, app_device, run_stored_code, code_of_layer, app_line, tell_end}
+use Rattle.mb_tools_app.specs.AppCommand.{RunsStoredCode, AppNames, app, run_stored_code, code_of_layer, app_line, tell_end}
 use Rattle.mb_tools_app.specs.AppInputs.{app_input}
 use Rattle.mb_tools_app.specs.Seeing.{ShowsPrinted}
 use Rattle.mb_tools_app.proofs.SeeingLemmas.{app_sees_nothing_else, IsComplete, never_lacks}
@@ -126,7 +127,7 @@ module _ (now : Files) where
   module _ (names : AppNames) (one other : Option State)
       (switch : (input : List ℕ) (past : Past) (e : Ended) → CommandEnds (run_stored_code names one input) past e → CommandEnds (run_stored_code names other input) past e)
       (files : List ℕ → Option (List ℕ)) (same : now names.input ≡ files names.input) where
-    device_over : (past : Past) (e : Ended) → e.before.files ≡ Some files → CommandEnds (app_device names one) past e → CommandEnds (app_device names other) past (over_files now e)
+    device_over : (past : Past) (e : Ended) → e.before.files ≡ Some files → CommandEnds (command.read (app_input names.input) (run_stored_code names one)) past e → CommandEnds (command.read (app_input names.input) (run_stored_code names other)) past (over_files now e)
     unfolding CommandEnds
     device_over past e told (inl ends) = inl (input_over names.input past e files told same ends)
     device_over past e told (inr (bytes, has, (input, is, ends))) =
@@ -160,7 +161,7 @@ module _ (now : Files) where
           (
             record { bytes = twin; state = other },
             (refl, also),
-            device_over past (once e) told (subst (λ (s : Option State). CommandEnds (app_device names s) past (once e)) state ends),
+            device_over past (once e) told (subst (λ (s : Option State). CommandEnds (command.read (app_input names.input) (run_stored_code names s)) past (once e)) state ends),
           ),
         )
 
