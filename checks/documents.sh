@@ -32,11 +32,11 @@ from definitions import names_of
 LINK = re.compile(r"\[[^\]]*\]\(([^)\s]+)\)")
 NAMED = re.compile(r"\[`([^`\]]+)`\]\(([^)\s#]+\.(?:antt|rt))\)")
 ITEM = re.compile(r"^\s*(?:pub )?(?:const )?(?:fn|struct|enum|trait|const|type) (\w+)", re.M)
-PATH = re.compile(r"`((?:crates|docs|checks|examples|bench|peers|\.ci)/[A-Za-z0-9_./-]+)`")
+PATH = re.compile(r"`((?:crates|docs|checks|examples|bench|library|peers|\.ci)/[A-Za-z0-9_./-]+)`")
 CODE = re.compile(r"`([a-z_/]+\.rt)`")
 WIDEST = 120
 HEADER = re.compile(r"^(?:pub )?(?:unsafe )?(impl|trait)\b(.*)")
-CALL = re.compile(r"^\s*(pub )?(?:const )?fn ([a-z_0-9]+)")
+CALL = re.compile(r'^\s*(pub )?(?:const )?(?:extern "C" )?fn ([a-z_0-9]+)')
 CLAUSE = re.compile(r"^\s*ensures (?:([a-z_0-9]+) )?\{")
 UNNAMED = "its one clause"
 COMMON = "common clause"
@@ -127,7 +127,7 @@ def exported_by(root):
     names = set(re.findall(r"\w+", " ".join(re.findall(r"^pub use ([^;]*);", text, re.M))))
     modules = [root.parent / f"{name}.rt" for name in re.findall(r"^pub mod (\w+);", text, re.M)]
     for declared in [text, *(path.read_text() for path in modules)]:
-        names.update(re.findall(r"^pub (?:fn|struct|enum|trait) (\w+)", declared, re.M))
+        names.update(re.findall(r'^pub (?:(?:extern "C" )?fn|struct|enum|trait) (\w+)', declared, re.M))
     return names
 
 
@@ -244,7 +244,7 @@ def check_proved(shared):
 def crates_listed(path):
     """The crates of a list of crates, with those on which each stands."""
     rows = (line.split("#")[0].partition(":") for line in path.read_text().splitlines())
-    return {name.strip(): set(others.split()) for name, colon, others in rows if colon}
+    return {name.split()[0]: set(others.split()) for name, colon, others in rows if colon}
 
 
 def check_crates(path):

@@ -9,7 +9,7 @@ import pathlib
 import sys
 
 ROWS = [
-    ("the program", "#e7edf6", ["miniboot"]),
+    ("the program, the library", "#e7edf6", ["miniboot", "mb_library"]),
     ("its table of commands", "#e7edf6", ["mb_top", "mb_top_laws"]),
     ("commands", "#e7edf6", ["mb_tools..", "mb_console"]),
     ("the device", "#e5f2e9", ["mb_device", "mb_device_orders", "mb_device_regions"]),
@@ -35,7 +35,7 @@ INK = 'stroke="#4a5661"'
 
 def crates_listed(path):
     rows = (line.split("#")[0].partition(":") for line in path.read_text().splitlines())
-    return {name.strip(): others.split() for name, colon, others in rows if colon}
+    return {name.split()[0]: others.split() for name, colon, others in rows if colon}
 
 
 def beginning(start, listed):

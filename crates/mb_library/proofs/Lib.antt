@@ -1,0 +1,3 @@
+mod KeyBytes
+mod Ends
+mod Determined

@@ -1,0 +1,20 @@
+//! The verifiers as a library for programs in C, and in languages that call C.
+//!
+//! This crate owns what crosses to such a program: its calls, the codes that they answer, and the details beside a
+//! code. What is verified and judged stands in `mb_lms`, `mb_hss`, `mb_verifier` and `mb_policy`. No call requires
+//! anything of the values at its pointers, none keeps a value from one call to the next, and those of signatures take
+//! no memory.
+#![tactic(auto)]
+
+pub mod chains;
+mod codes;
+mod details;
+pub mod judging;
+mod laws;
+pub mod signatures;
+
+pub use codes::{
+    ACCEPTED, BAD_POLICY, BAD_SIGNATURE, DENIED, NO_KEY, NO_MEMORY, NO_ROOM, TOO_LONG,
+};
+pub use details::Details;
+pub use laws::answers_are_determined;
