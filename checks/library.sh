@@ -1,0 +1,143 @@
+#!/usr/bin/env bash
+# The library of crates/mb_library as programs get it, which no proof sees: builds the archive over what `rt ci` has left,
+# by both compilers; compares what each defines and needs with checks/library/symbols.txt; links it into programs without
+# a C library; and calls it from C (also with sanitizers on the caller), C++, Python and Rust on values of another program
+# in checks/library/vectors: a signature of each of the twenty pairs of types, HSS, a chain, and policies, with changed
+# bits; and with each allocation failing in turn. checks/library.sh [FOLDER] takes a library that library/build.sh has
+# built there in place of both. The archive by LLVM stays in library/out, for examples/library. Prints a line for each
+# thing that was tried, and tells on standard error what was not, since a tool is not there, and what was wrong; ends with
+# status 1 if anything was.
+set -u
+export LC_ALL=C
+cd "$(dirname "$0")/.." || exit 2
+
+work=$(mktemp -d)
+trap 'rm -rf "$work"' EXIT
+here=$PWD/checks/library
+vectors=$here/vectors
+loader=$PWD/examples/library
+failed=0
+
+# Runs these words, and tells what they print, or that they fail, under a title: try TITLE WORD..
+try() {
+    local title=$1
+    shift
+    if "$@" >"$work/said" 2>&1; then
+        printf '%s: %s\n' "$title" "$(tail -n 1 "$work/said")"
+    else
+        failed=$((failed + 1))
+        printf '%s failed:\n' "$title" >&2
+        tail -n 20 "$work/said" >&2
+    fi
+}
+
+# Whether a tool is there.
+has() {
+    command -v "$1" >/dev/null && return
+    echo "$1 is not there: skipped what needs it" >&2
+    return 1
+}
+
+# What the archive defines, and what it needs and does not define.
+symbols() {
+    {
+        nm -g --defined-only "$archive" | awk 'NF == 3 { print $2, $3 }'
+        nm -gu "$archive" | awk '$1 == "U" && $2 !~ /^rattle_/ { print $1, $2 }'
+    } | sort -u >"$work/symbols"
+    diff <(grep -v '^#' "$here/symbols.txt") "$work/symbols" && echo "as listed"
+}
+
+# Compiles a caller in C with these words, and runs it on the vectors: call_c COMPILER FLAG..
+call_c() {
+    "$@" -std=c11 -Wall -Wextra -pedantic -Werror -I "$folder/include" "$here/caller.c" "$archive" -o "$work/caller" &&
+        "$work/caller" "$vectors"
+}
+
+call_cpp() {
+    echo '#include "mb_library.h"
+int main() { return mb_lms_verdict((const uint8_t *)"", 0, (const uint8_t *)"", 0, (const uint8_t *)"", 0) - MB_NO_KEY; }' \
+        >"$work/caller.cpp" &&
+        "$1" -std=c++17 -Wall -Wextra -pedantic -Werror -I "$folder/include" "$work/caller.cpp" "$archive" -o "$work/caller" &&
+        "$work/caller" && echo "the header and a call"
+}
+
+fail_allocations() {
+    "$1" -O1 -Wall -Wextra -Werror -I "$folder/include" "$here/failing.c" "$archive" -o "$work/failing" &&
+        "$work/failing" "$vectors/maker" "$vectors/chain" | tee "$work/failing.said" && paste -sd ';' "$work/failing.said"
+}
+
+# Links a program without a C library: link_alone COMPILER NAME FLAG..
+link_alone() {
+    local compiler=$1 name=$2
+    shift 2
+    (cd "$work" && "$compiler" -std=c11 -O2 -Wall -Wextra -ffreestanding -fno-builtin -fno-stack-protector -fno-pie -no-pie \
+        -static -nostdlib -fno-tree-loop-distribute-patterns -I "$folder/include" -I "$loader" -I . "$@" \
+        "$here/freestanding.c" "$loader/platform.c" "$loader/platform.S" "$archive" -o "$name")
+}
+
+run_alone() {
+    cp "$vectors/maker" "$work/key" && cp "$vectors/chain" "$work/image" && : >"$work/signature" &&
+        link_alone "$1" alone "$loader/arena.c" && "$work/alone" | cmp - "$vectors/listing" && echo "a chain and a policy"
+}
+
+run_signatures_alone() {
+    : >"$work/key" && : >"$work/image" && : >"$work/signature" &&
+        link_alone "$1" signatures -DSIGNATURES -Wl,--gc-sections && "$work/signatures" &&
+        size "$work/signatures" | awk 'NR == 2 { print "signatures, in " $4 " bytes of code and data" }'
+}
+
+call_python() {
+    "$1" -shared -o "$work/libmb_library.so" -Wl,--whole-archive "$archive" -Wl,--no-whole-archive &&
+        python3 -B "$here/caller.py" "$work/libmb_library.so" "$vectors"
+}
+
+call_rust() {
+    cp -r library/rust "$work/rust" &&
+        (cd "$work/rust" && MB_LIBRARY=$folder MB_VECTORS=$vectors CARGO_TARGET_DIR=$work/target \
+            cargo test --offline --quiet) && echo "each function, and eight threads"
+}
+
+# Tries the library in `folder`, by this compiler's name.
+try_library() {
+    local name=$1 compiler='' tool
+    archive=$folder/lib/libmb_library.a
+    for tool in gcc clang; do
+        if has "$tool"; then
+            [ -n "$compiler" ] || compiler=$tool
+            try "$name, C by $tool" call_c "$tool" -O2
+        fi
+    done
+    if [ -z "$compiler" ]; then return; fi
+    if has nm; then try "$name, symbols" symbols; fi
+    if has clang; then try "$name, C with sanitizers" call_c clang -O1 -fsanitize=address,undefined -fno-sanitize-recover=all; fi
+    for tool in g++ clang++; do
+        if has "$tool"; then try "$name, C++ by $tool" call_cpp "$tool"; fi
+    done
+    try "$name, failing allocations" fail_allocations "$compiler"
+    if [ "$(uname -sm)" = 'Linux x86_64' ]; then
+        try "$name, without a C library" run_alone "$compiler"
+        # the other compiler puts all code into one section
+        [ "$name" = rattle ] || try "$name, without a C library and a heap" run_signatures_alone "$compiler"
+    else
+        echo "this is not Linux on x86-64: skipped programs without a C library" >&2
+    fi
+    if has python3; then try "$name, Python" call_python "$compiler"; fi
+    if has cargo; then try "$name, Rust" call_rust; fi
+}
+
+if [ $# -gt 0 ]; then
+    folder=$(realpath -m -- "$1")
+    try_library "${1##*/}"
+elif has rt; then
+    for backend in llvm rattle; do
+        folder=$work/$backend
+        [ "$backend" = rattle ] || folder=$PWD/library/out
+        if library/build.sh --over-gate "$folder" --backend "$backend"; then
+            try_library "$backend"
+        else
+            failed=$((failed + 1))
+            echo "$backend: the library was not built" >&2
+        fi
+    done
+fi
+[ "$failed" -eq 0 ]
