@@ -7,13 +7,13 @@
 # what the page has that they do not say; each clause of each public call has a row there, but for those that the table
 # of common clauses in docs/believe/crates.md has; the table of crates in docs/change/architecture.md has a row for each
 # crate and for nothing else, and names those on which each stands as crates.txt does; the first block of
-# docs/use/commands.md is the text that a test expects of --help, and the version that CHANGELOG.md names is the one that
-# it expects of --version; each block of a tutorial in docs/start/ stands in an example, and each line in its tables is
-# listed, with its status, in docs/use/commands.md or docs/use/formats.md; the figure of the layers of crates is that of
-# crates.txt; each file of definitions that a clause of `top` reaches is named in a section of
-# docs/believe/definitions.md, and the counts of such files and their lines there and in docs/believe/theorem.md are
-# right within a tenth. A method of a trait is a call of the type that implements it if it has clauses of its own there.
-# Prints a line for each that is wrong, and nothing if none is.
+# docs/use/commands.md is the text that a test expects of --help, and the version that CHANGELOG.md names is the one
+# that it expects of --version, and that of the library's header and of its crate for Rust; each block of a tutorial in
+# docs/start/ stands in an example, and each line in its tables is listed, with its status, in docs/use/commands.md or
+# docs/use/formats.md; the figure of the layers of crates is that of crates.txt; each file of definitions that a clause
+# of `top` reaches is named in a section of docs/believe/definitions.md, and the counts of such files and their lines
+# there and in docs/believe/theorem.md are right within a tenth. A method of a trait is a call of the type that
+# implements it if it has clauses of its own there. Prints a line for each that is wrong, and nothing if none is.
 set -u
 cd "$(dirname "$0")/.." || exit 2
 
@@ -40,6 +40,10 @@ CALL = re.compile(r'^\s*(pub )?(?:const )?(?:extern "C" )?fn ([a-z_0-9]+)')
 CLAUSE = re.compile(r"^\s*ensures (?:([a-z_0-9]+) )?\{")
 UNNAMED = "its one clause"
 COMMON = "common clause"
+LIBRARY_VERSIONS = {
+    "library/include/mb_library.h": r'^#define MB_LIBRARY_VERSION "([\d.]+)"$',
+    "library/rust/Cargo.toml": r'^version = "([\d.]+)"$',
+}
 
 CODES = [path.as_posix() for path in pathlib.Path("crates").glob("*/src/**/*.rt")]
 
@@ -295,6 +299,10 @@ def check_help(page, changes, test):
     version = re.search(r"The current version is ([\d.]+),", changes.read_text())
     if not version or f"miniboot {version[1]}\\n" != expected["VERSION"]:
         report(changes, 1, f"--version prints {expected['VERSION']}, and the current version is another")
+    for path, pattern in LIBRARY_VERSIONS.items():
+        shown = re.search(pattern, pathlib.Path(path).read_text(), re.M)
+        if not version or not shown or shown[1] != version[1]:
+            report(path, 1, "the version is another than the current one of CHANGELOG.md")
 
 
 documents = [page for folder in (".", "peers") for page in sorted(pathlib.Path(folder).glob("*.md"))]
