@@ -112,6 +112,8 @@ tell() {
 first_look() {
     echo "This build is NOT PROVED: it shows what the program does, and nothing of what is guaranteed."
     echo "Compiling the program without proving anything, in about a minute .."
+    cd "$work"
+    write_inputs
     by_try || {
         echo "the build that is not proved did not do it; \`rt try --cases\` is of later kits" >&2
         return 1
@@ -120,19 +122,19 @@ first_look() {
     compare_told "$here"
 }
 
-cd "$work"
-write_inputs
-if [ $# -eq 0 ] && [ ! -x "$crate/out/miniboot" ]; then
-    first_look || true
-    echo
-    echo "So far nothing was proved. With --unproved it ends here."
-fi
 if [ "${1-}" = --unproved ]; then
     first_look
     echo "By a build that is NOT PROVED. Run it without --unproved for one that is."
     exit 0
 fi
+if [ $# -eq 0 ] && [ ! -x "$crate/out/miniboot" ]; then
+    (first_look) || true
+    echo
+    echo "So far nothing was proved. With --unproved it ends here."
+fi
 find_or_build "$@"
+cd "$work"
+write_inputs
 by_program
 tell >told
 compare_told "$here"
