@@ -16,6 +16,6 @@ python3 -B "$here/compare.py" || status=1
 if [ -x "$program" ]; then
     python3 -B "$here/workload.py" compare "$program" || status=1
 else
-    echo "$program is not there: what it generates was not compared (examples/device-life/run.sh builds it)"
+    echo "$program is not there: what it generates was not compared (examples/first-run/run.sh builds it)"
 fi
 exit "$status"
