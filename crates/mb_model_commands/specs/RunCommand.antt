@@ -53,22 +53,14 @@ pub record IsServed
   -- the same with boots among the events, if the image is clean
   pub quiet : IsCleanImage image → All LeavesCleanMemory answered → image_of final.memory ≡ image.bytes
 
--- the new image is written over the old one, and then the replies are printed
-abbrev pub write_image : RunNames → List Answered → Held → Command
-write_image names answered final =
-    write (record { role = role.Image; name = names.image; bytes = image_of final.memory })
-    (print (replies_text answered))
-
--- the image is loaded, and the events are served
-abbrev pub serve_events : RunNames → Image → List Event → Command
-serve_events names image events = load image.bytes (serve (IsServed image events) (write_image names))
-
-abbrev pub read_noise : RunNames → Image → List Event → Command
-read_noise names image events = read (draws_input events names.noise) (serve_events names image)
-
-abbrev pub read_script : RunNames → Image → Command
-read_script names image = read (script_input names.script) (read_noise names image)
-
--- image, script and noise are read, the image is loaded, and the events are served
+-- Image, script and noise are read, the image is loaded, and the events of the script are served with their draws. The
+-- new image is written over the old one, and then the replies are printed.
 unfoldable pub run : RunNames → Command
-run names = read (image_input names.image) (read_script names)
+run names =
+    read (image_input names.image) (λ image.
+    read (script_input names.script) (λ undrawn.
+    read (draws_input undrawn names.noise) (λ events.
+    load image.bytes
+    (serve (IsServed image events) (λ answered final.
+    write (record { role = role.Image; name = names.image; bytes = image_of final.memory })
+    (print (replies_text answered)))))))

@@ -25,7 +25,7 @@ use Rattle.mb_policy.specs.Policies.{PolicyItem}
 use Rattle.mb_appvm.specs.declared.running.AppEnd.{AppEnd}
 use Rattle.mb_appvm.specs.declared.running.AppEnd.TheVariants as app_end
 use Rattle.mb_tools.specs.Names.{keygen_given, sign_given, countersign_given, factory_given, migrate_given, verify_given, audit_given, chain_given, attach_given}
-use Rattle.mb_tools_hss.specs.HssKeygen.{HsskeygenNames, hsskeygen, write_maker_key}
+use Rattle.mb_tools_hss.specs.HssKeygen.{HsskeygenNames, hsskeygen}
 use Rattle.mb_tools_hss.specs.Endorse.{EndorseNames, endorse, endorse_root, use_number}
 use Rattle.mb_tools_hss.specs.Endorsed.{EndorsedNames, endorsed, judge_endorsement}
 use Rattle.mb_tools_hss.specs.Names.{hsskeygen_given, endorse_given, endorsed_given}
@@ -148,7 +148,7 @@ never_attach names = λ chain statement. (tt, λ bytes. tt)
 -- ---- the commands of the other crates
 
 never_hsskeygen : (names : HsskeygenNames) → NeverLoads (hsskeygen names)
-unfolding hsskeygen write_maker_key NeverLoads
+unfolding hsskeygen NeverLoads
 never_hsskeygen names = λ noise. tt
 
 never_endorse : (names : EndorseNames) → NeverLoads (endorse names)
