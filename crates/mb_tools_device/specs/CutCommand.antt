@@ -135,25 +135,17 @@ tell_cut held answered final =
     either_command (AnyLacksMemory answered) lack
     (either_command (LastIsStopped answered) (tell_state held final) (print (line_with_lf (codes "unstopped"))))
 
--- once the first run was served, the image is loaded anew, and the second run is served
-abbrev pub serve_cut : CutNames → Image → CutRun → List Answered → Held → Command
-serve_cut names image cut answered held =
-    either_command (AnyLacksMemory answered) lack
-    (load image.bytes (serve (IsCutServed image names.count cut) (tell_cut held)))
-
-abbrev pub serve_first : CutNames → Image → CutRun → Command
-serve_first names image cut = load image.bytes (rehearse (IsRehearsed image cut) (serve_cut names image cut))
-
-abbrev pub serve_twice : CutNames → Image → List Event → Command
-serve_twice names image events = find (IsCutRun names.fill events) (serve_first names image)
-
-abbrev pub read_cut_noise : CutNames → Image → List Event → Command
-read_cut_noise names image events = read (draws_input events names.noise) (serve_twice names image)
-
-abbrev pub read_uncut_script : CutNames → Image → Command
-read_uncut_script names image = read (uncut_script_input names.script) (read_cut_noise names image)
-
--- Image, script and noise are read, the image is loaded twice, and the events are served twice: those before the last,
--- and then all of them with a power loss in the last. No file is written.
+-- Image, script and noise are read, and the events of two runs are found. The image is loaded, and the events before
+-- the last are served. Then it is loaded anew, and all events are served with a power loss in the last. No file is
+-- written.
 unfoldable pub cutat : CutNames → Command
-cutat names = read (image_input names.image) (read_uncut_script names)
+cutat names =
+    read (image_input names.image) (λ image.
+    read (uncut_script_input names.script) (λ undrawn.
+    read (draws_input undrawn names.noise) (λ events.
+    find (IsCutRun names.fill events) (λ cut.
+    load image.bytes
+    (rehearse (IsRehearsed image cut) (λ answered held.
+    either_command (AnyLacksMemory answered) lack
+    (load image.bytes
+    (serve (IsCutServed image names.count cut) (tell_cut held)))))))))

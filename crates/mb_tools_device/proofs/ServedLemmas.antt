@@ -1,4 +1,4 @@
--- What carries out `run`.
+-- What a board shows that was loaded and has served events.
 use Rattle.std.proofs.Common.{◌≡◌, ℕ, ◌+◌, ◌≤◌, Bool, true, false, List, [], ◌∷◌, length, length-append, map, ◌++◌, Option, Some, Result, refl, sym, ◌∙◌, ap, subst, arith}
 use Rattle.std.specs.Prelude.{All, nat_lt, if◌then◌else◌}
 use Rattle.std.proofs.lemmas.List.{length-map}
@@ -12,12 +12,8 @@ use Rattle.mb_model.specs.chains.Script.{IsScriptEvent}
 use Rattle.mb_model.specs.outside.Board.{Memory, Ledger, Meter, Held, Used, IsLoaded, image_of, phase_at, held_at_load, ledger_at_load, counted_load, use_of, not_used, loaded_once_more, having_answered}
 use Rattle.mb_model.specs.memories.Acknowledged.{Shows}
 use Rattle.mb_model.specs.memories.Clean.{Clean}
-use Rattle.mb_model.specs.chains.Replies.{replies_text}
-use Rattle.mb_model_commands.specs.declared.role.Role.TheVariants as role
-use Rattle.mb_model_commands.specs.Outside.{Outside}
-use Rattle.mb_model_commands.specs.RunCommand.{RunNames, IsServed, write_image, serve_events}
+use Rattle.mb_model_commands.specs.RunCommand.{IsServed}
 use Rattle.mb_model_commands.specs.Inputs.{Image}
-use Rattle.mb_model_commands.specs.Commands.{print, serve, at_first}
 use Rattle.mb_board.specs.Calls.{Seen, IsBetweenEvents, held_by}
 use Rattle.mb_device.specs.Served.{IsServedFrom}
 use Rattle.mb_model_lemmas.proofs.FaultLemmas.{image_parts}
@@ -25,13 +21,14 @@ use Rattle.mb_model_lemmas.proofs.LineLemmas.{cons_same}
 use Rattle.mb_model_lemmas.proofs.ValidStates.{kept_rightly}
 use Rattle.mb_model_runs.proofs.SoundLemmas.{run_is_sound}
 use Rattle.mb_model_runs.proofs.StatementLemmas.{statements_stay_accepted}
-use Rattle.mb_console.specs.declared.end.End.{End}
-use Rattle.mb_console.specs.Ending.{CarriesOutAfter, CarriesOutRest}
-use Rattle.mb_console.specs.Outputs.{writes}
-use Rattle.mb_console.proofs.CommandLemmas.{load_goes, serve_goes}
+use Rattle.mb_tools_device.specs.Holding.{HoldsAnswered}
 use Rattle.mb_tools.proofs.ImageLemmas.{image_stored}
 
 -- ---- the board after the load
+
+-- an image has the length of both memories
+pub image_sized : (image : List ℕ) (state : Option State) → IsWellFormed image state → length image ≡ 1077248
+image_sized image state formed = omega (arith, ap length formed.image_is.0, length-append formed.flash formed.bbram, formed.image_is.1.flash, formed.image_is.1.bbram)
 
 -- a board on which an image was loaded shows the world that opens with the image's state
 pub loaded_shows : (memory : Memory) (power : Bool) (level : ℕ) (meter : Meter) (image : List ℕ) (state : Option State) → IsLoaded memory → image_of memory ≡ image
@@ -88,6 +85,9 @@ pub answered_count : (world : World) (before after : Ledger) (held : Held) → I
 answered_count world before after held from =
     omega (arith, ap length from.grown, length-append before.answered from.more, ap length from.all, length-map {A = Answered} {B = Event} from.more (λ a. a.event))
 
+pub all_answered : {image : Image} {events : List Event} {answered : List Answered} {final : Held} → IsServed image events answered final → length answered ≡ length events
+all_answered {answered = answered} served = sym (length-map {A = Answered} {B = Event} answered (λ a. a.event)) ∙ ap length served.all
+
 -- events that were answered are those of a script, where those are that were given
 all_scripted : (answered : List Answered) (events : List Event) → map (λ a. a.event) answered ≡ events → All IsScriptEvent events → All (λ a. IsScriptEvent a.event) answered
 all_scripted [] events same scripts = All-nil (λ (a : Answered). IsScriptEvent a.event)
@@ -125,23 +125,8 @@ served_whole image state events memory before after held formed scripts is sized
           ap image_of (from.quiet clean.state held all ∙ at) ∙ loaded);
     }))
 
-pub events_served : (names : RunNames) (image : Image) (events : List Event) (used : Used) (final : Held) (before now : Outside) (result : Result (Unit {0}) End)
-    → used ≡ having_answered used.answered (loaded_once_more image.bytes not_used) → IsServed image events used.answered final
-    → CarriesOutRest (write_image names used.answered final) (record { used = used; wrote = false }) used final before result now
-    → CarriesOutRest (serve_events names image events) at_first used final before result now
-events_served names image events used final before now result same served carried =
-    load_goes image.bytes (serve (IsServed image events) (write_image names)) at_first used final before now result
-    (serve_goes (IsServed image events) (write_image names) (record at_first { used = loaded_once_more image.bytes not_used }) used final before now result same served carried)
+-- ---- the end
 
--- ---- the image and the replies
-
--- they were written
-pub image_written : (names : RunNames) (used : Used) (final : Held) (bytes text : List ℕ) (before now : Outside) (result : Result (Unit {0}) End)
-    → bytes ≡ image_of final.memory → text ≡ replies_text used.answered
-    → CarriesOutAfter (writes (record { role = role.Image; name = names.image; bytes = bytes } ∷ []) (print text)) before result now
-    → CarriesOutRest (write_image names used.answered final) (record { used = used; wrote = false }) used final before result now
-unfolding writes
-image_written names used final bytes text before now result is_image is_text carried =
-    (subst (λ b. CarriesOutAfter (writes (record { role = role.Image; name = names.image; bytes = b } ∷ []) (print (replies_text used.answered))) before result now) is_image
-    (subst (λ t. CarriesOutAfter (writes (record { role = role.Image; name = names.image; bytes = bytes } ∷ []) (print t)) before result now) is_text carried))
-    (record { used = used; wrote = false }) final
+-- what a board holds that has served its events, whether the command is done then or not
+pub holds_done : {Done : Type 0} {seen : Seen} → HoldsAnswered (Unit {0}) seen → HoldsAnswered Done seen
+holds_done holds = record { loaded = holds.loaded; between = holds.between; none_waits = λ done. holds.none_waits tt }
