@@ -3,30 +3,30 @@ _miniboot() {
     local word=${COMP_WORDS[COMP_CWORD]} words=()
     COMPREPLY=()
     if [ "$COMP_CWORD" -eq 1 ]; then
-        mapfile -t COMPREPLY < <(compgen -W "run cutat verify audit trust chain attach fleet factory keygen sign countersign hsskeygen endorse endorsed migrate app asm disasm generate --help --version" -- "$word")
+        mapfile -t COMPREPLY < <(compgen -W "keygen factory hsskeygen endorse sign countersign run cutat chain attach migrate generate verify audit trust endorsed fleet asm disasm app --help --version" -- "$word")
         return
     fi
     case ${COMP_WORDS[1]} in
+    keygen) words=(NOISE KEY PUBLIC) ;;
+    factory) words=(NOISE KEY OWNER CODE IMAGE) ;;
+    hsskeygen) words=(NOISE LEVELS KEY PUBLIC) ;;
+    endorse) words=(KEY ROOT OUT) ;;
+    sign) words=(KEY DRAFT OUT) ;;
+    countersign) words=(KEY LAYER ORDER OUT) ;;
     run) words=(IMAGE SCRIPT NOISE) ;;
     cutat) words=(IMAGE SCRIPT NOISE COUNT FILL) ;;
+    chain) words=(IMAGE OUT) ;;
+    attach) words=(CHAIN STATEMENT OUT) ;;
+    migrate) words=(IMAGE OUT) ;;
+    generate) words=(NUMBER ROUNDS IMAGE SCRIPT NOISE) ;;
     verify) words=(ROOT CHAIN KEYNUMBER) ;;
     audit) words=(IMAGE ROOT CHAIN KEYNUMBER) ;;
     trust) words=(ROOT CHAIN KEYNUMBER POLICY) ;;
-    chain) words=(IMAGE OUT) ;;
-    attach) words=(CHAIN STATEMENT OUT) ;;
-    fleet) words=(ROOT REGISTER ITEMS) ;;
-    factory) words=(NOISE KEY OWNER CODE IMAGE) ;;
-    keygen) words=(NOISE KEY PUBLIC) ;;
-    sign) words=(KEY DRAFT OUT) ;;
-    countersign) words=(KEY LAYER ORDER OUT) ;;
-    hsskeygen) words=(NOISE LEVELS KEY PUBLIC) ;;
-    endorse) words=(KEY ROOT OUT) ;;
     endorsed) words=(PUBLIC ROOT ENDORSEMENT) ;;
-    migrate) words=(IMAGE OUT) ;;
-    app) words=(IMAGE LAYER INPUT STEPS) ;;
+    fleet) words=(ROOT REGISTER ITEMS) ;;
     asm) words=(TEXT OUT) ;;
     disasm) words=(CODE OUT) ;;
-    generate) words=(NUMBER ROUNDS IMAGE SCRIPT NOISE) ;;
+    app) words=(IMAGE LAYER INPUT STEPS) ;;
     esac
     case ${words[COMP_CWORD - 2]-} in
     "") ;;

@@ -8,7 +8,7 @@ ghost use Rattle.mb_top.specs.CommandTable.{commands};
 ghost use Rattle.mb_top.specs.Top.{command_of, Ends, HoldsAfter, HoldsAfterWords, HoldsAtStatus, CarriesOutWords};
 ghost use Rattle.mb_tools_device.specs.Boards.{IsFresh, CarriesOutOn};
 
-use crate::table::{COMMANDS, Call, Command, call_in};
+use crate::table::{Call, Command, GROUPS, call_in};
 use mb_board::Board;
 use mb_console::{End, stop};
 use mb_host::Host;
@@ -80,7 +80,7 @@ fn called(words: &[String]) -> Option<Call<'_>>
         ((called : Command) (given : List Argument) → IsCall commands (map string_bytes words.now) called given → ⊥)
         (λ call. IsCall commands (map string_bytes words.now) call.command (map given_argument call.arguments.items)) }
 {
-    call_in(&COMMANDS, words)
+    call_in(&GROUPS, words)
 }
 
 /// Carries out a command, up to the line of its status.
