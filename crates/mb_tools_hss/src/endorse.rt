@@ -66,7 +66,7 @@ pub fn endorse<H: Host, L: Ledger>(
     let body = key_bytes(&root);
     let mut signature = Vec::new(alloc);
     match sign(&mut maker, &[ENDORSED_TEXT], &body, &mut signature, hashes) {
-        Ok(index) => write_endorsement(alloc, names, &maker, signature, index, host),
+        Ok(index) => use_number(alloc, names, &maker, signature, index, host),
         Err(end) => Err(end_of(end)),
     }
 }
@@ -82,7 +82,7 @@ fn end_of(end: HssEnd) -> End
 }
 
 /// Writes a maker's file with one more of its numbers used, then the signature with that number, and prints the number.
-fn write_endorsement<H: Host>(
+fn use_number<H: Host>(
     alloc: Global,
     names: &EndorseNames<'_>,
     maker: &Maker,

@@ -1,6 +1,6 @@
 use Rattle.std.proofs.Common.{◌∙◌}
 use Rattle.mb_tools.proofs.SignLemmas.{index_used, index_lacks}
-use Rattle.mb_tools.proofs.sign.write_signed.Goals as goal
+use Rattle.mb_tools.proofs.sign.use_index.Goals as goal
 
 pub returns-in_default : goal.returns-in_default
 returns-in_default g c = λ before used index. index_lacks c.args.names.key.now c.args.names.out.now before c.args.order.now (g.H.Host.outside c.args.host.now)

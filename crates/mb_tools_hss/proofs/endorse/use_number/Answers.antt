@@ -3,7 +3,7 @@ use Rattle.mb_hss.specs.MakerSignatures.{Signs}
 use Rattle.mb_tools_hss.specs.Endorse.{endorsed_text}
 use Rattle.mb_tools_hss.specs.Names.{endorse_files}
 use Rattle.mb_tools_hss.proofs.EndorseLemmas.{endorsement_written, endorsement_lacks}
-use Rattle.mb_tools_hss.proofs.endorse.write_endorsement.Goals as goal
+use Rattle.mb_tools_hss.proofs.endorse.use_number.Goals as goal
 
 pub returns-in_default : goal.returns-in_default
 returns-in_default g c = λ before root signs index. endorsement_lacks (endorse_files c.args.names.now) before root (g.H.Host.outside c.args.host.now)
