@@ -38,7 +38,7 @@ pub fn make_maker(noise: &[u8; 32], levels: u8) -> Maker
 
 /// The number of signatures that a maker of 1 to 8 levels can make, 32^levels.
 #[tactic(auto, using(crate::proofs::Digits::digit_powers))]
-pub(crate) fn number_count(levels: u8) -> u64
+pub fn number_count(levels: u8) -> u64
     requires { levels ≤ LEVEL_LIMIT }
     ensures { result ≡ 32 ^ levels }
 {
