@@ -58,6 +58,8 @@ build_over_gate() {
     done
     of_build+=(--crate-checked out/checked --toolchain "$kit/toolchain" -o out/libmb_library.a)
     of_check+=(--logic-built "$kit/logic_built" --jobs "${JOBS:-$(nproc)}" -o out/checked)
+    # where `rt ci` took what it had kept, it leaves no such folder
+    mkdir -p "$crate/out"
     # what was checked before serves if nothing has changed since
     [ -d "$crate/out/checked" ] && run "$kit/bin/rattle" build "${words[@]}" "${of_build[@]}" 2>/dev/null && return
     rm -rf "$crate/out/checked"
