@@ -3,16 +3,21 @@ _miniboot() {
     local word=${COMP_WORDS[COMP_CWORD]} words=()
     COMPREPLY=()
     if [ "$COMP_CWORD" -eq 1 ]; then
-        mapfile -t COMPREPLY < <(compgen -W "keygen factory hsskeygen endorse sign countersign run cutat chain attach migrate generate verify audit trust endorsed fleet asm disasm app --help --version" -- "$word")
+        mapfile -t COMPREPLY < <(compgen -W "keygen showkey factory hsskeygen showmaker endorse showorder ordered sign countersign cosign run cutat chain attach migrate generate verify audit trust endorsed fleet asm disasm app --help --version" -- "$word")
         return
     fi
     case ${COMP_WORDS[1]} in
     keygen) words=(NOISE KEY PUBLIC) ;;
+    showkey) words=(KEY) ;;
     factory) words=(NOISE KEY OWNER CODE IMAGE) ;;
     hsskeygen) words=(NOISE LEVELS KEY PUBLIC) ;;
+    showmaker) words=(KEY) ;;
     endorse) words=(KEY ROOT OUT) ;;
+    showorder) words=(ORDER) ;;
+    ordered) words=(PUBLIC ORDER) ;;
     sign) words=(KEY DRAFT OUT) ;;
     countersign) words=(KEY LAYER ORDER OUT) ;;
+    cosign) words=(KEY LAYER ORDER DRAFT OUT) ;;
     run) words=(IMAGE SCRIPT NOISE) ;;
     cutat) words=(IMAGE SCRIPT NOISE COUNT FILL) ;;
     chain) words=(IMAGE OUT) ;;

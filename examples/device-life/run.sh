@@ -32,14 +32,6 @@ need cut diff grep head od paste sed sha256sum tr uniq
 
 find_or_build "$@"
 
-# Writes the draft of an order, and shows its lines: draft NAME LINE..
-draft() {
-    local name=$1
-    shift
-    printf '%s\n' "$@" >"$name.draft"
-    echo "  $name.draft: $(paste -s -d ';' "$name.draft" | sed 's/;/; /g')"
-}
-
 # Has the owner in charge sign a draft, and others countersign the order: signed NAME OFFICER [LAYER OFFICER]..
 signed() {
     local name=$1

@@ -35,6 +35,8 @@ the_maker() {
     ask endorse hss.key south.public south.endorsement
     hash_of north.endorsement north.endorsement
     hash_of south.endorsement south.endorsement
+    echo "It sees how many endorsements are left:"
+    ask showmaker maker.key
 }
 
 the_buyer() {

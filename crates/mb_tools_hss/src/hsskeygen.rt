@@ -83,7 +83,7 @@ pub fn hsskeygen<H: Host, L: Ledger>(
 }
 
 /// The line of the hash of a maker's public key.
-fn maker_text(alloc: Global, public: &[u8; 60]) -> Result<String, NoMemory>
+pub(crate) fn maker_text(alloc: Global, public: &[u8; 60]) -> Result<String, NoMemory>
     ensures { IfOk result (λ text. string_bytes text ≡ maker_text public.now) }
 {
     let hash = hex::encode(alloc, Sha256::digest(public))?;

@@ -29,17 +29,27 @@ commands =
     -- ---- to make keys and devices
     -- keygen NOISE KEY PUBLIC
     row command.Keygen (codes "keygen") (a_file ∷ a_file ∷ a_file ∷ [])
+    -- showkey KEY
+    ∷ row command.Showkey (codes "showkey") (a_file ∷ [])
     -- factory NOISE KEY OWNER CODE IMAGE
     ∷ row command.Factory (codes "factory") (a_file ∷ a_file ∷ a_file ∷ a_file ∷ a_file ∷ [])
     -- hsskeygen NOISE LEVELS KEY PUBLIC
     ∷ row command.Hsskeygen (codes "hsskeygen") (a_file ∷ a_number 1 8 ∷ a_file ∷ a_file ∷ [])
+    -- showmaker KEY
+    ∷ row command.Showmaker (codes "showmaker") (a_file ∷ [])
     -- endorse KEY ROOT OUT
     ∷ row command.Endorse (codes "endorse") (a_file ∷ a_file ∷ a_file ∷ [])
     -- ---- to give orders
+    -- showorder ORDER
+    ∷ row command.Showorder (codes "showorder") (a_file ∷ [])
+    -- ordered PUBLIC ORDER
+    ∷ row command.Ordered (codes "ordered") (a_file ∷ a_file ∷ [])
     -- sign KEY DRAFT OUT
     ∷ row command.Sign (codes "sign") (a_file ∷ a_file ∷ a_file ∷ [])
     -- countersign KEY LAYER ORDER OUT
     ∷ row command.Countersign (codes "countersign") (a_file ∷ a_number 2 3 ∷ a_file ∷ a_file ∷ [])
+    -- cosign KEY LAYER ORDER DRAFT OUT
+    ∷ row command.Cosign (codes "cosign") (a_file ∷ a_number 2 3 ∷ a_file ∷ a_file ∷ a_file ∷ [])
     -- ---- to serve a device
     -- run IMAGE SCRIPT NOISE
     ∷ row command.Run (codes "run") (a_file ∷ a_file ∷ a_file ∷ [])

@@ -31,6 +31,11 @@ use mb_tools_fleet::fleet::{FleetNames, fleet};
 use mb_tools_hss::endorse::{EndorseNames, endorse};
 use mb_tools_hss::endorsed::{EndorsedNames, endorsed};
 use mb_tools_hss::hsskeygen::{HsskeygenNames, hsskeygen};
+use mb_tools_hss::showmaker::{ShowMakerNames, showmaker};
+use mb_tools_orders::cosign::{CosignNames, cosign};
+use mb_tools_orders::ordered::{OrderedNames, ordered};
+use mb_tools_orders::showkey::{ShowKeyNames, showkey};
+use mb_tools_orders::showorder::{ShowOrderNames, showorder};
 use mb_tools_policy::trust::{TrustNames, trust};
 use std::alloc::Global;
 use std::marker::Brand;
@@ -109,9 +114,14 @@ fn carry_out<H: Host, B: Board, L: Ledger>(
         Command::Fleet => fleet(alloc, &FleetNames::of(given), host),
         Command::Factory => factory(alloc, &FactoryNames::of(given), host, hashes),
         Command::Keygen => keygen(alloc, &KeygenNames::of(given), host, hashes),
+        Command::Showkey => showkey(alloc, &ShowKeyNames::of(given), host, hashes),
         Command::Sign => sign(alloc, &SignNames::of(given), host, hashes),
         Command::Countersign => countersign(alloc, &CountersignNames::of(given), host, hashes),
+        Command::Cosign => cosign(alloc, &CosignNames::of(given), host, hashes),
+        Command::Showorder => showorder(alloc, &ShowOrderNames::of(given), host),
+        Command::Ordered => ordered(alloc, &OrderedNames::of(given), host),
         Command::Hsskeygen => hsskeygen(alloc, &HsskeygenNames::of(given), host, hashes),
+        Command::Showmaker => showmaker(alloc, &ShowMakerNames::of(given), host, hashes),
         Command::Endorse => endorse(alloc, &EndorseNames::of(given), host, hashes),
         Command::Endorsed => endorsed(alloc, &EndorsedNames::of(given), host),
         Command::Migrate => migrate(alloc, &MigrateNames::of(given), host, hashes),

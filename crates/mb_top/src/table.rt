@@ -15,11 +15,16 @@ use mb_tools_hss::LEVEL_LIMIT;
 #[derive(Clone, Copy)]
 pub enum Command {
     Keygen,
+    Showkey,
     Factory,
     Hsskeygen,
+    Showmaker,
     Endorse,
+    Showorder,
+    Ordered,
     Sign,
     Countersign,
+    Cosign,
     Run,
     Cutat,
     Chain,
@@ -146,6 +151,13 @@ pub const GROUPS: [Group; 5] = [
       key's hash",
             ),
             (
+                Command::Showkey,
+                "showkey",
+                &[KEY],
+                "
+      prints the hash of the public key of an officer's key, its next index, and how many indices are left",
+            ),
+            (
                 Command::Factory,
                 "factory",
                 &[NOISE, KEY, OWNER, CODE, IMAGE],
@@ -162,6 +174,14 @@ pub const GROUPS: [Group; 5] = [
       prints the public key's hash",
             ),
             (
+                Command::Showmaker,
+                "showmaker",
+                &[KEY],
+                "
+      prints the hash of the public key of a maker's HSS key, its levels, its next number, and how many
+      numbers are left",
+            ),
+            (
                 Command::Endorse,
                 "endorse",
                 &[KEY, ROOT, OUT],
@@ -174,6 +194,20 @@ pub const GROUPS: [Group; 5] = [
     (
         "to give orders",
         &[
+            (
+                Command::Showorder,
+                "showorder",
+                &[ORDER],
+                "
+      prints what an order line says, line by line, and verifies nothing",
+            ),
+            (
+                Command::Ordered,
+                "ordered",
+                &[PUBLIC, ORDER],
+                "
+      names the signatures of an order line that verify under the public key",
+            ),
             (
                 Command::Sign,
                 "sign",
@@ -189,6 +223,13 @@ pub const GROUPS: [Group; 5] = [
                 "
       adds the countersignature of the owner of layer 2 or 3 to an order line, writes the key with one
       more index used and the order as a line, and prints the index",
+            ),
+            (
+                Command::Cosign,
+                "cosign",
+                &[KEY, LAYER, ORDER, DRAFT, OUT],
+                "
+      countersigns as countersign does, if the order line says what the draft says, and else refuses",
             ),
         ],
     ),

@@ -58,7 +58,7 @@ migrate_alike names = alike_read _ _ (old_image_once _) (λ bytes image are is. 
 
 -- ---- a maker's HSS key
 
-maker_once : (name : List ℕ) → IsReadOnce (maker_input name)
+pub maker_once : (name : List ℕ) → IsReadOnce (maker_input name)
 maker_once name = binary_once _ _ name (IsClearWhole-from_exact maker_exact)
 
 hss_key_once : (name : List ℕ) → IsReadOnce (hss_key_input name)

@@ -11,6 +11,7 @@ use Rattle.mb_model_commands.specs.Outside.{read_once}
 use Rattle.mb_model_commands.specs.Inputs.{Image, image_input, script_input, draws_input}
 use Rattle.mb_model_commands.specs.Keygen.{KeygenNames, keygen}
 use Rattle.mb_model_commands.specs.Sign.{SignNames, CountersignNames, sign, countersign, sign_by, use_index}
+use Rattle.mb_model_commands.specs.Cosign.{CosignNames, cosign}
 use Rattle.mb_model_commands.specs.FactoryCommand.{FactoryNames, factory, make_device, write_device}
 use Rattle.mb_model_commands.specs.MigrateCommand.{MigrateNames, migrate}
 use Rattle.mb_model_commands.specs.VerifyCommand.{VerifyNames, verify, tell_verdict}
@@ -25,10 +26,15 @@ use Rattle.mb_policy.specs.Policies.{PolicyItem}
 use Rattle.mb_appvm.specs.declared.running.AppEnd.{AppEnd}
 use Rattle.mb_appvm.specs.declared.running.AppEnd.TheVariants as app_end
 use Rattle.mb_tools.specs.Names.{keygen_given, sign_given, countersign_given, factory_given, migrate_given, verify_given, audit_given, chain_given, attach_given}
+use Rattle.mb_tools_orders.specs.ShowOrder.{ShowOrderNames, showorder}
+use Rattle.mb_tools_orders.specs.Ordered.{OrderedNames, ordered}
+use Rattle.mb_tools_orders.specs.ShowKey.{ShowKeyNames, showkey}
+use Rattle.mb_tools_orders.specs.Names.{cosign_given, showorder_given, ordered_given, showkey_given}
 use Rattle.mb_tools_hss.specs.HssKeygen.{HsskeygenNames, hsskeygen}
+use Rattle.mb_tools_hss.specs.ShowMaker.{ShowMakerNames, showmaker}
 use Rattle.mb_tools_hss.specs.Endorse.{EndorseNames, endorse, endorse_root, use_number}
 use Rattle.mb_tools_hss.specs.Endorsed.{EndorsedNames, endorsed, judge_endorsement}
-use Rattle.mb_tools_hss.specs.Names.{hsskeygen_given, endorse_given, endorsed_given}
+use Rattle.mb_tools_hss.specs.Names.{hsskeygen_given, showmaker_given, endorse_given, endorsed_given}
 use Rattle.mb_tools_policy.specs.TrustCommand.{TrustNames, trust, tell_judgement, judge_verdict}
 use Rattle.mb_tools_policy.specs.Names.{trust_given}
 use Rattle.mb_tools_app.specs.AppCommand.{AppNames, app, run_stored_code, tell_end}
@@ -147,6 +153,26 @@ never_attach names = λ chain statement. (tt, λ bytes. tt)
 
 -- ---- the commands of the other crates
 
+never_cosign : (names : CosignNames) → NeverLoads (cosign names)
+unfolding cosign sign_by use_index NeverLoads
+never_cosign names = λ key order drafted. (tt, ((tt, tt), tt))
+
+never_showorder : (names : ShowOrderNames) → NeverLoads (showorder names)
+unfolding showorder NeverLoads
+never_showorder names = λ order. tt
+
+never_ordered : (names : OrderedNames) → NeverLoads (ordered names)
+unfolding ordered NeverLoads
+never_ordered names = λ key order lines. (tt, tt)
+
+never_showkey : (names : ShowKeyNames) → NeverLoads (showkey names)
+unfolding showkey NeverLoads
+never_showkey names = λ key. tt
+
+never_showmaker : (names : ShowMakerNames) → NeverLoads (showmaker names)
+unfolding showmaker NeverLoads
+never_showmaker names = λ maker. tt
+
 never_hsskeygen : (names : HsskeygenNames) → NeverLoads (hsskeygen names)
 unfolding hsskeygen NeverLoads
 never_hsskeygen names = λ noise. tt
@@ -219,6 +245,11 @@ all_load_nothing e command.Factory given is ends = nothing_is_loaded (factory (f
 all_load_nothing e command.Keygen given is ends = nothing_is_loaded (keygen (keygen_given given)) at_first e (never_keygen (keygen_given given)) ends
 all_load_nothing e command.Sign given is ends = nothing_is_loaded (sign (sign_given given)) at_first e (never_sign (sign_given given)) ends
 all_load_nothing e command.Countersign given is ends = nothing_is_loaded (countersign (countersign_given given)) at_first e (never_countersign (countersign_given given)) ends
+all_load_nothing e command.Cosign given is ends = nothing_is_loaded (cosign (cosign_given given)) at_first e (never_cosign (cosign_given given)) ends
+all_load_nothing e command.Showorder given is ends = nothing_is_loaded (showorder (showorder_given given)) at_first e (never_showorder (showorder_given given)) ends
+all_load_nothing e command.Ordered given is ends = nothing_is_loaded (ordered (ordered_given given)) at_first e (never_ordered (ordered_given given)) ends
+all_load_nothing e command.Showkey given is ends = nothing_is_loaded (showkey (showkey_given given)) at_first e (never_showkey (showkey_given given)) ends
+all_load_nothing e command.Showmaker given is ends = nothing_is_loaded (showmaker (showmaker_given given)) at_first e (never_showmaker (showmaker_given given)) ends
 all_load_nothing e command.Hsskeygen given is ends = nothing_is_loaded (hsskeygen (hsskeygen_given given)) at_first e (never_hsskeygen (hsskeygen_given given)) ends
 all_load_nothing e command.Endorse given is ends = nothing_is_loaded (endorse (endorse_given given)) at_first e (never_endorse (endorse_given given)) ends
 all_load_nothing e command.Endorsed given is ends = nothing_is_loaded (endorsed (endorsed_given given)) at_first e (never_endorsed (endorsed_given given)) ends

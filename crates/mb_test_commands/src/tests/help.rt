@@ -10,23 +10,34 @@ to make keys and devices:
   miniboot keygen NOISE KEY PUBLIC
       makes an officer's key from the noise, writes its file and its public key, and prints the public
       key's hash
+  miniboot showkey KEY
+      prints the hash of the public key of an officer's key, its next index, and how many indices are left
   miniboot factory NOISE KEY OWNER CODE IMAGE
       makes a device of this owner and code from the noise, signs its birth by the maker's key, writes
       that key with one more index used and the device's image, and prints the device's serial
   miniboot hsskeygen NOISE LEVELS KEY PUBLIC
       makes a maker's HSS key of 1 to 8 levels from the noise, writes its file and its public key, and
       prints the public key's hash
+  miniboot showmaker KEY
+      prints the hash of the public key of a maker's HSS key, its levels, its next number, and how many
+      numbers are left
   miniboot endorse KEY ROOT OUT
       endorses the public key in ROOT by a maker's HSS key, writes that key with one more of its numbers
       used and the endorsement, and prints the number
 
 to give orders:
+  miniboot showorder ORDER
+      prints what an order line says, line by line, and verifies nothing
+  miniboot ordered PUBLIC ORDER
+      names the signatures of an order line that verify under the public key
   miniboot sign KEY DRAFT OUT
       signs the order of the draft, writes the key with one more index used and the order as a line, and
       prints the index
   miniboot countersign KEY LAYER ORDER OUT
       adds the countersignature of the owner of layer 2 or 3 to an order line, writes the key with one
       more index used and the order as a line, and prints the index
+  miniboot cosign KEY LAYER ORDER DRAFT OUT
+      countersigns as countersign does, if the order line says what the draft says, and else refuses
 
 to serve a device:
   miniboot run IMAGE SCRIPT NOISE
