@@ -8,6 +8,7 @@ use mb_model::separators::MAKER_SECRET;
 use sha2::{Digest, Sha256};
 
 /// A maker's key, from which the keys of all its levels are derived. It cannot be copied: each number signs only once.
+/// It is not shown by `Debug` either: a text of it would have the seed.
 #[derive(PartialEq, Eq, Drop)]
 pub struct Maker {
     /// The number of levels, 1 to 8.

@@ -61,7 +61,8 @@ abbrev pub prepared_image : Prepared → Image
 prepared_image made = record { bytes = made.files.image; state = made.state }
 
 -- A workload is found. Its image is loaded, its three files are written, its events are served, and the summary is
--- printed.
+-- printed. The files are written first, so that a workload that goes wrong can be served again. The length of the log
+-- is counted in the final image: that of the last `done` is not enough if a power loss stopped an order.
 unfoldable pub generate : GenerateNames → Command
 generate names =
     find (IsPrepared names.number names.rounds) (λ made.

@@ -29,7 +29,8 @@ pub record IsCleanImage (image : Image) : Type 0 where
   pub clean : Clean memory.bbram (Some state)
 
 -- The events were answered, all and in order, by a run of the machine from the state of the image that was loaded. What
--- the board held at the last answer shows the world in which that run ended.
+-- the board held at the last answer shows the world in which that run ended. `untouched` and `quiet` are said of the
+-- whole list of answers, since a reader of `ends` sees no single answer of the board.
 pub record IsServed
     (image : Image)
     (events : List Event)
@@ -54,7 +55,8 @@ pub record IsServed
   pub quiet : IsCleanImage image → All LeavesCleanMemory answered → image_of final.memory ≡ image.bytes
 
 -- Image, script and noise are read, the image is loaded, and the events of the script are served with their draws. The
--- new image is written over the old one, and then the replies are printed.
+-- new image is written over the old one, and then the replies are printed. The image is checked whole before the script
+-- is read, although a device reads at its boot what it needs: no event is served on an image that means nothing.
 unfoldable pub run : RunNames → Command
 run names =
     read (image_input names.image) (λ image.

@@ -67,7 +67,9 @@ pub record CutRun : Type 0 where
   pub last : Event
   pub tear : Tear
 
--- The run has the events of a script. Nothing is kept of the write, and the bytes of this word fill its range.
+-- The run has the events of a script. Nothing is kept of the write, and the bytes of this word fill its range. Four
+-- fillings show each way in which a selector can be torn. A number of bytes to keep would be one more word, for writes
+-- whose first bytes decide nothing.
 pub record IsCutRun (fill_word : List ℕ) (events : List Event) (cut : CutRun) : Type 0 where
   pub whole : events ≡ cut.first ++ cut.last ∷ []
   pub fill : List ℕ
@@ -104,7 +106,9 @@ pub record IsRehearsed (image : Image) (cut : CutRun) (answered : List Answered)
       → (old : Option State) × ShowsState held old × MachineComesTo image.state cut.first old
 
 -- The second run was served. If no allocation failed and power failed in the script's last event, it leaves the state
--- to which the machine comes before that event, or after it.
+-- to which the machine comes before that event, or after it. The line speaks of the second run, which the board still
+-- holds. The old state by the machine alone would be computed by no code. Which of the two it is at `new` follows,
+-- since the machine is a function (`cuts_count_wholly_or_not_at_all`).
 pub record IsCutServed
     (image : Image)
     (count : ℕ)
@@ -116,7 +120,8 @@ pub record IsCutServed
       → (old : Option State) × (new : Option State) × MachineComesTo image.state cut.first old
       × MachineComesTo image.state (cut.first ++ cut.last ∷ []) new × (ShowsState final old ⊎ ShowsState final new)
 
--- both runs leave one state
+-- Both runs leave one state. States are compared, and not images or their hashes: one state can stand in either of two
+-- areas, and what stands behind a record is free. The length of the log stays over a `put`.
 pub record ShowSame (held final : Held) : Type 0 where
   pub state : Option State
   pub first : ShowsState held state
@@ -124,7 +129,9 @@ pub record ShowSame (held final : Held) : Type 0 where
 
 -- ---- the command
 
--- which state is left if power failed: the old one if both runs leave one state, else the new one
+-- Which state is left if power failed: the old one if both runs leave one state, else the new one. The old state comes
+-- first: a boot that does pending work, and a `put` of what stands there, leave the state that was before. A fourth
+-- line would have to be known to be no danger.
 abbrev pub tell_state : Held → Held → Command
 tell_state held final =
     either_command (ShowSame held final) (print (line_with_lf (codes "old"))) (print (line_with_lf (codes "new")))

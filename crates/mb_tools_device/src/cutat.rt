@@ -56,7 +56,8 @@ impl<'a> CutNames<'a> {
 }
 
 /// Serves a script without its last event, and then all of it with a power loss in that event. Prints whether power
-/// failed there, and which state is left.
+/// failed there, and which state is left. The hashes are bounded by the most events that a script can have, twice: what
+/// the first run answered is gone from the board, and the script is read inside the call.
 pub fn cutat<H: Host, B: Board, L: Ledger>(
     alloc: Global,
     names: &CutNames<'_>,

@@ -26,7 +26,8 @@ use std::alloc::Global;
 use std::sync::ledger::Ledger;
 
 /// Domain separator of what a maker's HSS key signs to endorse a root key. It differs from those of what owners,
-/// devices and regions sign.
+/// devices and regions sign. This crate alone signs and verifies such a text. Among the others, in `mb_model`, it would
+/// have every crate proved anew for one command.
 pub const ENDORSED_TEXT: u8 = 0x05;
 
 /// The names of the files of `endorse`.

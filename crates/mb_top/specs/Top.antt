@@ -90,12 +90,15 @@ CarriesOutWords words used final before result now =
 
 -- ---- what the board holds
 
--- the words call `cutat`
+-- The words call `cutat`, which turns power off before the second load, in which an allocation may fail: an `off` at
+-- the end of the first run would be an event that no script has.
 abbrev pub CallsCutat : List (List ℕ) → Type 0
 CallsCutat words = (given : List Argument) × IsCall commands words command.Cutat given
 
 -- What a board holds after a command: it was left alone, or it holds what it held at its last answer. Or an allocation
--- of `cutat` failed between its two runs, and power was turned off.
+-- of `cutat` failed between its two runs, and power was turned off. There is no condition on the beginning: with the
+-- number of loads in `ends` it follows whether the board was loaded. That no event waits is said at status 0 alone:
+-- `generate` loads before it writes its files, and if a write fails its events still wait.
 abbrev pub HoldsAfter : Command → Result (Unit {0}) End → Seen → Seen → Type 0
 HoldsAfter called result before after =
     EndsHolding (IsDone result) ((called ≡ command.Cutat) × IsOutOfMemory result) before after

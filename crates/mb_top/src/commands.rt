@@ -132,7 +132,8 @@ fn carry_out<H: Host, B: Board, L: Ledger>(
     }
 }
 
-/// Does what the words say, over this host and this board, and answers the exit status.
+/// Does what the words say, over this host and this board, and answers the exit status. Its clause `complete` does not
+/// ask that no absence was counted, which follows from having the files.
 pub fn top<H: Host, B: Board>(alloc: Global, words: &[String], host: &mut H, board: &mut B) -> u8
     requires off { (B.seen board.old).power ≡ false }
     requires none_out { (B.seen board.old).ledger.out ≡ None }

@@ -15,7 +15,8 @@ use Rattle.mb_model.specs.outside.Pieces.{part}
 
 -- ---- what the words of an event may be
 
--- the name of a secret: 1 to 32 printed characters of ASCII, and no space
+-- The name of a secret: 1 to 32 printed characters of ASCII, and no space. It stands in a line as it is, and may be `-`
+-- or begin with `#`.
 pub record IsName (name : List ℕ) : Type 0 where
   pub some : 1 ≤ length name
   pub most : length name ≤ NAME_LIMIT
@@ -102,7 +103,8 @@ SaysEvent line (event.Sign region key message) =
     IsTrue (is_upper region) × (key ≤ number_limit) × FitsMessage message
     × EndsInHex line (codes "sign" ∷ decimal region ∷ decimal key ∷ []) message
 
--- empty lines, and lines that begin with a number sign, say nothing
+-- Empty lines, and lines that begin with a number sign, say nothing. They may hold any bytes. A line of spaces is not
+-- empty, and is wrong.
 abbrev pub is_skipped : List ℕ → Bool
 is_skipped [] = true
 is_skipped (byte ∷ rest) = byte == 35

@@ -1,4 +1,6 @@
-//! Makers, keys and endorsements that another program made.
+//! Makers, keys and endorsements that another program made. The keys of the levels are tested by what the maker shows
+//! of them: the public key before the last of the signatures. A public call that derives the key of a level is needed
+//! by no crate.
 
 ghost use Rattle.std.specs.Prelude.{◌≡◌, ◌<◌, ◌≤◌, IfOk};
 ghost use Rattle.mb_hss.specs.declared.limits.TheConstants.{LEVEL_LIMIT};
