@@ -90,7 +90,7 @@ keyless_reply other = other
 
 -- the event without its draw
 abbrev pub undrawn_event : Event → Event
-undrawn_event (event.Command text draw) = event.Command text []
+undrawn_event (event.Order text draw) = event.Order text []
 undrawn_event other = other
 
 -- ---- what a draw decides

@@ -43,7 +43,7 @@ fn count_commands(events: &[Event]) -> usize
 {
     events
         .iter()
-        .filter(|event| matches!(event, Event::Command { .. }))
+        .filter(|event| matches!(event, Event::Order { .. }))
         .count()
 }
 
@@ -55,11 +55,11 @@ fn draw_event(event: Event, noise: &[u8]) -> (Event, &[u8])
     ensures left { result.1.now ≡ drop (DRAW_LENGTH * commands_in (event ∷ [])) noise.now }
 {
     match event {
-        Event::Command { text, draw: _ } => {
+        Event::Order { text, draw: _ } => {
             let (front, remaining) = noise.split_at(DRAW_LENGTH);
             let mut draw = [0; DRAW_LENGTH];
             draw.copy_from_slice(front);
-            (Event::Command { text, draw }, remaining)
+            (Event::Order { text, draw }, remaining)
         }
         other => (other, noise),
     }

@@ -57,7 +57,7 @@ IsScriptEvent event.Tamper = Unit {0}
 IsScriptEvent event.Status = Unit {0}
 IsScriptEvent event.Go = Unit {0}
 IsScriptEvent (event.Cut count tear) = (fill : List ℕ) × IsCut count tear fill
-IsScriptEvent (event.Command text draw) = length draw ≡ DRAW_LENGTH
+IsScriptEvent (event.Order text draw) = length draw ≡ DRAW_LENGTH
 IsScriptEvent (event.Put region name value) = IsTrue (is_upper region) × IsName name × FitsMessage value
 IsScriptEvent (event.Get region name) = IsTrue (is_upper region) × IsName name
 IsScriptEvent (event.Drop region name) = IsTrue (is_upper region) × IsName name
@@ -91,7 +91,7 @@ SaysEvent line event.Tamper = line ≡ codes "tamper"
 SaysEvent line event.Status = line ≡ codes "status"
 SaysEvent line event.Go = line ≡ codes "go"
 SaysEvent line (event.Cut count tear) = IsCutLine line count tear
-SaysEvent line (event.Command text draw) = EndsInHex line (codes "command" ∷ []) text × (draw ≡ replicate DRAW_LENGTH 0)
+SaysEvent line (event.Order text draw) = EndsInHex line (codes "command" ∷ []) text × (draw ≡ replicate DRAW_LENGTH 0)
 SaysEvent line (event.Put region name value) =
     IsTrue (is_upper region) × IsName name × FitsMessage value
     × EndsInHex line (codes "put" ∷ decimal region ∷ name ∷ []) value
@@ -128,7 +128,7 @@ is_command event.Tamper = false
 is_command event.Status = false
 is_command event.Go = false
 is_command (event.Cut count tear) = false
-is_command (event.Command text draw) = true
+is_command (event.Order text draw) = true
 is_command (event.Put region name value) = false
 is_command (event.Get region name) = false
 is_command (event.Drop region name) = false
@@ -140,8 +140,8 @@ commands_in events = count_by is_command events
 
 -- the event with its draw: the i-th command, from 0, has the bytes 32 i to 32 i + 31 of the noise
 abbrev pub drawn_event : List ℕ → List Event → Event → Event
-drawn_event noise before (event.Command text draw) =
-    event.Command text (part (DRAW_LENGTH * commands_in before) DRAW_LENGTH noise)
+drawn_event noise before (event.Order text draw) =
+    event.Order text (part (DRAW_LENGTH * commands_in before) DRAW_LENGTH noise)
 drawn_event noise before other = other
 
 -- the events with their draws
