@@ -14,7 +14,7 @@ use Rattle.mb_model.specs.outside.Board.{Memory, IsLoaded}
 use Rattle.mb_model.specs.memories.Memory.{IsBlank, HoldsRecord}
 use Rattle.mb_model.specs.memories.Sectors.{header_sector, log_sector, BeginsAs}
 use Rattle.mb_model.specs.memories.Flash.{sector, HoldsHeader, HoldsLog, HoldsPublic}
-use Rattle.mb_model.specs.memories.StoredLog.{outgoing_of, log_completed_by}
+use Rattle.mb_model.specs.memories.StoredLog.{outgoing_of, log_completed_by, signer_of}
 use Rattle.mb_model.specs.memories.Meaning.{RootIn, Contents, state_of_contents, region_after_fate, fate_of_two}
 use Rattle.mb_model.specs.memories.Meaning.{fate_of_three}
 use Rattle.mb_model.specs.memories.Clean.{root_of}
@@ -41,8 +41,8 @@ use Rattle.mb_layout.specs.declared.room.Room.{Room}
 use Rattle.mb_area.specs.Flashes.{HasSomeHeader, IsPublicWritten, IsSpared}
 use Rattle.mb_area.specs.Roots.{HasSomeRoot, Finishes, KeepsOrFinishes, IsReadyToFinish}
 use Rattle.mb_region.specs.Fates.{IsPending, AppliesFate}
-use Rattle.mb_boot.specs.Completions.{BeginsWithHeader, text_at_place, unsigned_count, signer_of, IsSignedSector, SignsText, SignsTextAt}
-use Rattle.mb_boot.specs.declared.pending.Signer.{Signer}
+use Rattle.mb_boot.specs.Completions.{BeginsWithHeader, text_at_place, unsigned_count, IsSignedSector, SignsText, SignsTextAt}
+use Rattle.mb_model.specs.declared.stored.Signer.{Signer}
 use Rattle.mb_board.specs.Calls.{Seen, IsUp, Ran, RanOnFlash}
 use Rattle.mb_boot.specs.Settling.{IsLive, IsLiveWith, IsOnlyRoot, AppliesBoth, signed_anew, log_until, AddsToLog, CompletesLog, CountsLog, SignsRecord, Settles}
 use Rattle.mb_boot.proofs.Completed.{texts_counted, made_at, IsNext, next_is, none_next, two_are_all}

@@ -4,10 +4,10 @@ use Rattle.std.specs.Prelude.{List, IsSome}
 use Rattle.mb_model.specs.declared.stored.Header.{Header}
 use Rattle.mb_model.specs.declared.stored.Outgoing.{Outgoing}
 use Rattle.mb_model.specs.declared.stored.Root.{Root}
-use Rattle.mb_model.specs.memories.StoredLog.{outgoing_of}
+use Rattle.mb_model.specs.memories.StoredLog.{outgoing_of, signer_by, signer_of}
 use Rattle.mb_signer.specs.declared.bench.Bench.{Bench}
 use Rattle.mb_signer.specs.Benches.{HasTree, HasRoom, KeepsTrees}
-use Rattle.mb_boot.specs.Completions.{text_at_place, signer_by, signer_of}
+use Rattle.mb_boot.specs.Completions.{text_at_place}
 use Rattle.mb_boot.specs.Signers.{HasSigner, HoldsDeviceTree, DeviceKeySigns}
 
 -- if no key gives way, the device key signs at both places

@@ -3,10 +3,9 @@ use Rattle.std.specs.Prelude.{◌≡◌, ℕ, ◌⊎◌, List, None, IsSome}
 use Rattle.mb_model.specs.declared.stored.Header.{Header}
 use Rattle.mb_model.specs.declared.stored.Root.{Root}
 use Rattle.mb_model.specs.memories.Flash.{HoldsHeader}
-use Rattle.mb_model.specs.memories.StoredLog.{outgoing_of}
+use Rattle.mb_model.specs.memories.StoredLog.{outgoing_of, signer_of}
 use Rattle.mb_signer.specs.declared.bench.Bench.{Bench}
 use Rattle.mb_signer.specs.Benches.{HasTree, HasRoom}
-use Rattle.mb_boot.specs.Completions.{signer_of}
 
 -- the tree of the key that signs the unsigned entry at a place, 0 or 1, is on the bench
 abbrev pub HasSigner : Bench → Root → ℕ → Type 0

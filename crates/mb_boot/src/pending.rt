@@ -9,11 +9,11 @@ ghost use Rattle.mb_model.specs.declared.stored.Header.{Header};
 ghost use Rattle.mb_model.specs.records.HeaderFormat.{header_format};
 ghost use Rattle.mb_model.specs.memories.Sectors.{BeginsAs};
 ghost use Rattle.mb_model.specs.signatures.Signing.{signature_of};
-ghost use Rattle.mb_model.specs.memories.StoredLog.{outgoing_of};
+ghost use Rattle.mb_model.specs.memories.StoredLog.{outgoing_of, signer_of};
 ghost use Rattle.mb_model_memory.specs.NextHeaders.{header_settled};
 ghost use Rattle.mb_segments.specs.Uncopied.{header_of};
 ghost use Rattle.mb_area.specs.Flashes.{IsPlan};
-ghost use Rattle.mb_boot.specs.Completions.{BeginsWithHeader, signer_of, text_at_place, count_of, unsigned_count, IsSignedSector, SignsTextAt};
+ghost use Rattle.mb_boot.specs.Completions.{BeginsWithHeader, text_at_place, count_of, unsigned_count, IsSignedSector, SignsTextAt};
 ghost use Rattle.mb_boot.specs.Signers.{HasSigner};
 ghost use Rattle.mb_signer.specs.Benches.{HasTree, HasRoom, KeepsTrees};
 ghost use Rattle.mb_lms.specs.declared.hash_count.TheConstants.{LEAF_HASHES, SIGNING_HASHES};
@@ -21,7 +21,7 @@ ghost use Rattle.mb_lms.specs.declared.hash_count.TheConstants.{LEAF_HASHES, SIG
 use mb_layout::Room;
 use mb_lms::HashCount;
 use mb_model::separators::ENTRY_TEXT;
-use mb_model::{Header, KeySeed, Outgoing, Root, SIGNATURE_LENGTH};
+use mb_model::{Header, KeySeed, Outgoing, Root, SIGNATURE_LENGTH, Signer};
 use mb_segments::{StoredHeader, header_at, put_log, write_header};
 use mb_signer::{Bench, Uses, take_index};
 use std::sync::ledger::Ledger;
@@ -93,13 +93,6 @@ pub(crate) fn settle_header(room: &mut Room)
 }
 
 // ---- signatures
-
-/// A key, and the index at which it signs.
-#[derive(Drop)]
-struct Signer {
-    key: KeySeed,
-    index: u32,
-}
 
 /// The key that signs the unsigned entry at a place, 0 or 1, and its index.
 fn signer_of(root: &Root, place: u32) -> Signer

@@ -1,29 +1,29 @@
 //! How the bytes of an order are read and judged.
 
 ghost use Rattle.std.specs.Prelude.{◌≡◌, ◌≤◌, ◌+◌, false, IfOk, IfErr, IsSome, OnErr, ◌*◌};
-ghost use Rattle.mb_format.specs.Format.{IsBytes};
+ghost use Rattle.mb_format.specs.Format.{IsBytes, Spells};
 ghost use Rattle.mb_model.specs.declared.state.State.{State};
 ghost use Rattle.mb_model.specs.chains.Listing.{is_done};
 ghost use Rattle.mb_model.specs.owners.Log.{keys_made_by};
-ghost use Rattle.mb_model.specs.machine.OrderChecks.{view_of};
+ghost use Rattle.mb_model.specs.records.OrderFormat.{order_format};
+ghost use Rattle.mb_model.specs.machine.OrderChecks.{view_of, Passes};
 ghost use Rattle.mb_log.specs.Additions.{IsInRange};
-ghost use Rattle.mb_orders.specs.Judging.{refusal_of};
 ghost use Rattle.mb_board.specs.Calls.{IsUp};
 ghost use Rattle.mb_model_memory.specs.Holding.{IsReady};
 ghost use Rattle.mb_boot.specs.Settling.{IsOnlyRoot};
 ghost use Rattle.mb_device_orders.specs.Remembering.{Knows, IsRemembered};
-ghost use Rattle.mb_device_orders.specs.Planning.{reply_for, ReadsText, JudgesText};
+ghost use Rattle.mb_device_orders.specs.Planning.{ReadsText, ChecksText, JudgesText};
 ghost use Rattle.mb_signer.specs.Benches.{HasTree, IsBare, HasRoom};
 ghost use Rattle.mb_lms.specs.declared.hash_count.TheConstants.{TREE_HASHES};
 
 use crate::remembering::Known;
 use mb_area::read_root;
 use mb_board::Board;
-use mb_command::{OrderEnd, read_order};
+use mb_command::{OrderEnd, read_order, signed_prefix};
 use mb_layout::Room;
 use mb_lms::HashCount;
-use mb_model::{Order, Refusal, Reply, Root, View};
-use mb_orders::{JudgeEnd, Plan, judge};
+use mb_model::{NoMemory, Order, Refusal, Reply, Root, View};
+use mb_orders::{Plan, check, make_plan};
 use mb_ratchet::{R1, Three, Two, Up};
 use mb_region::count_stored_keys;
 use mb_signer::Bench;
@@ -46,18 +46,19 @@ fn read_text(alloc: Global, text: &[u8]) -> Result<Order, Reply>
 {
     match read_order(alloc, text) {
         Ok(order) => Ok(order),
-        Err(OrderEnd::BadText { .. }) => Err(Refusal::BadText.reply()),
+        Err(OrderEnd::Bad { .. }) => Err(Refusal::BadText.reply()),
         Err(OrderEnd::NoMemory) => Err(Reply::NoMemory),
     }
 }
 
-/// The answer to an order that is not obeyed.
-fn reply_for(end: JudgeEnd) -> Reply
-    ensures { result ≡ reply_for (refusal_of end) }
+/// Tries every check on the order that the bytes spell. The error is the answer to an order that fails one.
+fn check_text(view: &View, order: &Order, text: &[u8]) -> Result<(), Reply>
+    requires { Spells order_format text.now order.now }
+    ensures { ChecksText view.now order.now result }
 {
-    match end.refusal() {
-        Some(refusal) => refusal.reply(),
-        None => Reply::NoMemory,
+    match check(view, order, signed_prefix(order, text)) {
+        Ok(()) => Ok(()),
+        Err(refusal) => Err(Refusal::Order(refusal).reply()),
     }
 }
 
@@ -119,8 +120,9 @@ pub fn judge_text<B: Board, L: Ledger>(
     let order = read_text(alloc, text)?;
     let root = read_root(b, room);
     let view = view_now(up, b, known, &root, room);
-    match judge(alloc, &view, &order, draw, bench, hashes) {
+    check_text(&view, &order, text)?;
+    match make_plan(alloc, &view, &order, draw, bench, hashes) {
         Ok(plan) => Ok(Judged { order, plan, root }),
-        Err(end) => Err(reply_for(end)),
+        Err(NoMemory) => Err(Reply::NoMemory),
     }
 }

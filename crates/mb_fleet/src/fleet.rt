@@ -5,7 +5,8 @@ ghost use Rattle.std.specs.List.{insert};
 ghost use Rattle.mb_model.specs.declared.limits.TheConstants.{FILE_LIMIT, ENTRY_LIMIT};
 ghost use Rattle.mb_bytes.specs.Reads.{ReadsWhole};
 ghost use Rattle.mb_bytes.specs.Puts.{Writes};
-ghost use Rattle.mb_fleet.specs.Ends.{fleet_at, fleet_end_of, AnswersChain, AnswersRow};
+ghost use Rattle.mb_bytes.specs.Ends.{end_at};
+ghost use Rattle.mb_fleet.specs.Ends.{fleet_end_of, AnswersChain, AnswersRow};
 ghost use Rattle.mb_fleet.specs.Places.{HasFewEntries, IsHeld, IsFree};
 ghost use Rattle.mb_fleet.specs.Questions.{serials_with, AreCounts};
 ghost use Rattle.mb_fleet.specs.RegisterFormat.{register_format};
@@ -63,7 +64,7 @@ impl Fleet {
     /// the last field; and `NoMemory`.
     pub fn read(alloc: Global, bytes: &[u8]) -> Result<Fleet, FleetReadEnd>
         requires { length bytes.now ≤ FILE_LIMIT }
-        ensures { ReadsWhole fleet_at register_format bytes.now result }
+        ensures { ReadsWhole end_at register_format bytes.now result }
     {
         read_whole::<RegisterField>(alloc, bytes)
     }
@@ -86,12 +87,10 @@ impl Fleet {
         requires { length chain.now ≤ FILE_LIMIT }
         ensures { AnswersChain root.now self.old chain.now result self.new }
     {
-        let chain = match verify_entries(alloc, root, chain) {
-            Ok(chain) => chain,
-            Err(refusal) => return Err(end_of(refusal)),
-        };
-        let row = row_of(alloc, root, &chain)?;
-        self.meet(alloc, row)
+        match verify_entries(alloc, root, chain) {
+            Ok(shown) => self.meet(alloc, row_of(shown)),
+            Err(refusal) => Err(end_of(refusal)),
+        }
     }
 
     /// The serials of the devices whose layer, 1 to 3, has this code now, in ascending order.

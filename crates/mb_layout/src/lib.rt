@@ -6,7 +6,6 @@
 #![tactic(auto)]
 
 mod area;
-mod end;
 mod entry;
 mod layer;
 mod region;
@@ -14,9 +13,9 @@ mod room;
 mod root;
 
 pub use area::{fill_area, is_blank, record_in, region_in, root_in};
-pub use end::LayoutEnd;
-pub use entry::{EntryField, read_entry, write_entry};
+pub use entry::{EntryField, entry_bytes, read_entry, write_entry};
 pub use layer::{read_layer, write_layer};
+pub use mb_bytes::ReadEnd;
 pub use mb_model::{BadRecord, Fate, Outgoing, Pending, Root};
 pub use region::{
     StoredSecret, most_secrets, put_keys, read_region, region_of_bytes, region_version_at,

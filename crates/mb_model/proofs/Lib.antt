@@ -8,3 +8,4 @@ pub mod HeaderFormatLaws
 pub mod FormatBounds
 pub mod RegionWriting
 pub mod OrderReach
+pub mod Passed

@@ -27,6 +27,7 @@ use Rattle.mb_model.specs.declared.order.Order.{Order}
 use Rattle.mb_model.specs.declared.region.Region.{Region}
 use Rattle.mb_model.specs.declared.region.RegionKey.{RegionKey}
 use Rattle.mb_model.specs.declared.region.Secret.{Secret}
+use Rattle.mb_model.specs.declared.reply.OrderRefusal.{OrderRefusal}
 use Rattle.mb_model.specs.declared.reply.Refusal.{Refusal}
 use Rattle.mb_model.specs.declared.reply.Refusal.TheVariants as refusal
 use Rattle.mb_model.specs.declared.reply.Reply.{Reply}
@@ -41,7 +42,7 @@ use Rattle.mb_model.specs.owners.Layers.{is_runnable, layer_standing, layer_of}
 use Rattle.mb_model.specs.owners.Log.{entries_of, is_change, device_in, keys_in, number_of, uses_of_device_key}
 use Rattle.mb_model.specs.owners.Log.{keys_made_by}
 use Rattle.mb_model.specs.machine.Machine.{Phase, off, dead, ratchet, World, Told, boot_event, running_state, running_state_in, status_of, status_event, go_event, region_event, CommandStep, Machine, may_want_memory, may_be_cut, Step, machine_step, lacks_memory, loses_power}
-use Rattle.mb_model.specs.machine.OrderChecks.{view_of, change_by, needs_succession, Passes, Fails, RegionHasRoom}
+use Rattle.mb_model.specs.machine.OrderChecks.{view_of, change_by, needs_succession, Check, checks_of, EachHolds, IsFirstRefusal, Passes, Fails}
 use Rattle.mb_model.specs.machine.OrderEffects.{cosigners_of, change_fact, entry_of, next_device_key, next_key, device_after, succession_entry, key_made, codes_after, entry_signed_by, log_with, state_after_succession, state_after_change, state_after_new_key, state_after_act, state_after_order, ready_for}
 use Rattle.mb_model.specs.declared.state.Fact.TheVariants as fact
 use Rattle.mb_format.specs.Combinators.{number_bytes}
@@ -214,39 +215,21 @@ same_view state twin same = view_kept state ∙ ap view_of same ∙ sym (view_ke
 -- ---- orders are judged alike
 
 -- no check looks at the device key
-passes_with : (view : View) (device : KeySeed) (order : Order) → Passes view order → Passes (record view { device = device }) order
-passes_with view device order p =
-    record { targets = p.targets; condition = p.condition; signature = p.signature; countersignatures = p.countersignatures; log = p.log; keys = keys_same order.act p.keys }
+same_checks : (view : View) (device : KeySeed) (order : Order) → checks_of (record view { device = device }) order ≡ checks_of view order
+same_checks view device order = of_act order.act
   where
-    keys_same : (a : Act) → RegionHasRoom view order.layer a → RegionHasRoom (record view { device = device }) order.layer a
-    keys_same (act.Establish owner trust) x = x
-    keys_same act.Surrender x = x
-    keys_same (act.Load payload) x = x
-    keys_same (act.Emergency payload) x = x
-    keys_same (act.NewKey kind) x = x
+    of_act : (a : Act) → checks_of (record view { device = device }) (record order { act = a }) ≡ checks_of view (record order { act = a })
+    of_act (act.Establish owner trust) = refl
+    of_act act.Surrender = refl
+    of_act (act.Load payload) = refl
+    of_act (act.Emergency payload) = refl
+    of_act (act.NewKey kind) = refl
 
-room_without : (view : View) (device : KeySeed) (layer : ℕ) (a : Act) → RegionHasRoom (record view { device = device }) layer a → RegionHasRoom view layer a
-room_without view device layer (act.Establish owner trust) x = x
-room_without view device layer act.Surrender x = x
-room_without view device layer (act.Load payload) x = x
-room_without view device layer (act.Emergency payload) x = x
-room_without view device layer (act.NewKey kind) x = x
+passes_with : (view : View) (device : KeySeed) (order : Order) → Passes view order → Passes (record view { device = device }) order
+passes_with view device order p = record { each = subst EachHolds (sym (same_checks view device order)) p.each }
 
-fails_with : (view : View) (device : KeySeed) (order : Order) (r : Refusal) → Fails view order r → Fails (record view { device = device }) order r
-fails_with view device order (refusal.WrongTarget index) f = f
-fails_with view device order refusal.WrongState f = f
-fails_with view device order refusal.WrongSignature f = f
-fails_with view device order (refusal.WrongCountersignature cosigner) f = f
-fails_with view device order refusal.LogFull f = f
-fails_with view device order refusal.KeysFull f = (f.0, f.1, f.2, f.3, f.4, λ room. f.5 (room_without view device order.layer order.act room))
-fails_with view device order refusal.BadText f = f
-fails_with view device order refusal.PoweredOff f = f
-fails_with view device order refusal.WrongPhase f = f
-fails_with view device order refusal.Zeroised f = f
-fails_with view device order refusal.WrongLayer f = f
-fails_with view device order refusal.RegionFull f = f
-fails_with view device order refusal.NoSuchKey f = f
-fails_with view device order refusal.KeySpent f = f
+fails_with : (view : View) (device : KeySeed) (order : Order) (why : OrderRefusal) → Fails view order why → Fails (record view { device = device }) order why
+fails_with view device order why f = subst (λ (checks : List Check). IsFirstRefusal checks why) (sym (same_checks view device order)) f
 
 module _ (state twin : State) (same : Twins state twin) (order : Order) where
   passes_alike : Passes (view_of state) order → Passes (view_of twin) order
@@ -254,7 +237,7 @@ module _ (state twin : State) (same : Twins state twin) (order : Order) where
       passes_with (keyless_view (view_of twin)) twin.device order
       (subst (λ (v : View). Passes v order) (same_view state twin same) (passes_with (view_of state) no_key order p))
 
-  fails_alike : (r : Refusal) → Fails (view_of state) order r → Fails (view_of twin) order r
+  fails_alike : (r : OrderRefusal) → Fails (view_of state) order r → Fails (view_of twin) order r
   fails_alike r f =
       fails_with (keyless_view (view_of twin)) twin.device order r
       (subst (λ (v : View). Fails v order r) (same_view state twin same) (fails_with (view_of state) no_key order r f))

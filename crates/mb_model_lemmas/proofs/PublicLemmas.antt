@@ -1,6 +1,6 @@
 -- What is true of a root and of a public record that can be spelled: their numbers are small, and their entries can be
 -- spelled too.
-use Rattle.std.proofs.Common.{◌≡◌, ◌≤◌, ℕ, suc, List, [], ◌∷◌, ◌++◌, length, map, Option, None, Some, refl, ap, arith}
+use Rattle.std.proofs.Common.{◌≡◌, ◌≤◌, ℕ, suc, ◌-◌, List, [], ◌∷◌, ◌++◌, length, map, Option, None, Some, refl, ap, arith}
 use Rattle.std.specs.Prelude.{All, IfSome}
 use Rattle.std.specs.List.{AllByRecursion}
 use Rattle.std.proofs.lemmas.List.{length-map}
@@ -18,7 +18,7 @@ use Rattle.mb_model.specs.declared.stored.Root.{Root}
 use Rattle.mb_model.specs.records.EntryFormat.{entry_format, signed_entry_format}
 use Rattle.mb_model.specs.machine.OrderEffects.{entry_signed_by}
 use Rattle.mb_model.specs.records.RootFormat.{outgoing_format, pending_format, root_format}
-use Rattle.mb_model.specs.memories.StoredLog.{entries_signed_for, how_many_unsigned, outgoing_of}
+use Rattle.mb_model.specs.memories.StoredLog.{signer_by, entries_signed_for, how_many_unsigned, outgoing_of}
 use Rattle.mb_model.specs.memories.PublicRecord.{public_entry_format, public_format}
 use Rattle.mb_model.specs.memories.OldFlash.{with_signature, without_signature}
 
@@ -90,6 +90,11 @@ entry_from_signed signed is = is.0
 
 -- as many entries are signed as there are
 pub length-signed_for : (device : KeySeed) (uses : ℕ) (outgoing : Option Outgoing) (unsigned : List Entry) → length (entries_signed_for device uses outgoing unsigned) ≡ length unsigned
-length-signed_for device uses None unsigned = length-map unsigned (entry_signed_by device _)
-length-signed_for device uses (Some outgoing) [] = refl
-length-signed_for device uses (Some outgoing) (first ∷ rest) = ap (λ (n : ℕ). suc n) (length-map rest (entry_signed_by device 0))
+length-signed_for device uses outgoing [] = refl
+length-signed_for device uses outgoing (first ∷ rest) =
+    ap (λ (n : ℕ). suc n) (length-map rest (entry_signed_by (signer_by device uses outgoing 1).key (signer_by device uses outgoing 1).index))
+
+-- if no key gives way, the device key signs them all
+pub signed_by_device : (device : KeySeed) (uses : ℕ) (unsigned : List Entry) → entries_signed_for device uses None unsigned ≡ map (entry_signed_by device (uses - 1)) unsigned
+signed_by_device device uses [] = refl
+signed_by_device device uses (first ∷ rest) = refl

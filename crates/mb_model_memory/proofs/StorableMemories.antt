@@ -19,6 +19,7 @@ use Rattle.mb_model.specs.declared.state.State.{State}
 use Rattle.mb_model.specs.declared.stored.Fate.{Fate}
 use Rattle.mb_model.specs.declared.stored.Fate.TheVariants.{Keep, Empty, DropConfiguration, AddKey}
 use Rattle.mb_model.specs.declared.stored.Outgoing.{Outgoing}
+use Rattle.mb_model.specs.declared.stored.Signer.{Signer}
 use Rattle.mb_model.specs.declared.stored.Pending.{Pending}
 use Rattle.mb_model.specs.declared.stored.Root.{Root}
 use Rattle.mb_model.specs.owners.Layers.{unowned_layers}
@@ -31,7 +32,7 @@ use Rattle.mb_model.specs.records.EntryFormat.{birth_format, change_format, entr
 use Rattle.mb_model.specs.records.RootFormat.{region_key_format, fate_format, pending_format, root_format}
 use Rattle.mb_model.specs.records.RegionFormat.{secret_format, secrets_format, keys_format, region_by, region_format, SpellsRegion}
 use Rattle.mb_model.specs.machine.OrderEffects.{entry_signed_by}
-use Rattle.mb_model.specs.memories.StoredLog.{entries_signed_for, outgoing_of, log_completed_by}
+use Rattle.mb_model.specs.memories.StoredLog.{signer_by, entries_signed_for, outgoing_of, log_completed_by}
 use Rattle.mb_model.specs.memories.Flash.{HoldsPublic}
 use Rattle.mb_model.specs.memories.OldFlash.{HeldPublic}
 use Rattle.mb_model.specs.memories.Meaning.{Contents, FlashForm, HoldsContentsBy, region_after_fate, fate_of_two, fate_of_three, state_of_contents, StandsForBy, IsWellFormedBy, IsWellFormed}
@@ -121,10 +122,11 @@ mapped_signed key index (entry ∷ more) are =
     All-cons signed_entry_format.Allowed (entry_signed_by key index entry) (map (entry_signed_by key index) more) (signed_allowed key index entry are.0) (mapped_signed key index more are.1)
 
 all_signed : (device : KeySeed) (uses : ℕ) (outgoing : Option Outgoing) (unsigned : List Entry) → AllByRecursion entry_format.Allowed unsigned → All signed_entry_format.Allowed (entries_signed_for device uses outgoing unsigned)
-all_signed device uses None unsigned are = mapped_signed device _ unsigned are
-all_signed device uses (Some outgoing) [] are = All-nil signed_entry_format.Allowed
-all_signed device uses (Some outgoing) (first ∷ rest) are =
-    All-cons signed_entry_format.Allowed _ (map (entry_signed_by device 0) rest) (signed_allowed outgoing.seed _ first are.0) (mapped_signed device 0 rest are.1)
+all_signed device uses outgoing [] are = All-nil signed_entry_format.Allowed
+all_signed device uses outgoing (first ∷ rest) are =
+    let one : Signer = signer_by device uses outgoing 0 in
+    let other : Signer = signer_by device uses outgoing 1 in
+    All-cons signed_entry_format.Allowed (entry_signed_by one.key one.index first) (map (entry_signed_by other.key other.index) rest) (signed_allowed one.key one.index first are.0) (mapped_signed other.key other.index rest are.1)
 
 -- the layers that entries name can be stored
 abbrev NamesAllowed : Option Layers → Type 0

@@ -33,6 +33,7 @@ use Rattle.mb_model.specs.owners.Regions.{region_of, with_region}
 use Rattle.mb_model.specs.machine.OrderChecks.{change_by, needs_succession, RegionHasRoom, Passes, view_of}
 use Rattle.mb_model.specs.machine.OrderEffects.{entry_signed_by, log_with, state_after_succession, device_after, cosigners_of, next_device_key, state_after_change, key_made, state_after_new_key, ready_for, state_after_act, state_after_order, succession_entry, entry_of, change_fact}
 use Rattle.mb_model.specs.declared.state.Fact.TheVariants as fact
+use Rattle.mb_model.proofs.Passed.{passed}
 use Rattle.mb_model_lemmas.proofs.LogLemmas.{number_of-le-length, made-le-length, length-entries_of}
 use Rattle.mb_model_memory.specs.Storable.{IsStorableRegion, IsStorableState}
 use Rattle.mb_model_memory.proofs.CommitLemmas.{kept_ready, succeeded_layers}
@@ -285,9 +286,9 @@ unfolding state_after_order
 obeyed_storable state order draw allowed passes is =
     let ready : State = ready_for state order draw in
     let needed : Bool = needs_succession (view_of state) order in
-    let ready_is : IsStorableState ready = ready_by_storable state draw needed is passes.log in
+    let ready_is : IsStorableState ready = ready_by_storable state draw needed is (passed passes).log in
     let condition : Condition ready.layers (change_by order) order.layer =
-    subst (λ (l : Layers). Condition l (change_by order) order.layer) (sym (kept_ready (λ (s : State). s.layers) state order draw (succeeded_layers state draw))) passes.condition
+    subst (λ (l : Layers). Condition l (change_by order) order.layer) (sym (kept_ready (λ (s : State). s.layers) state order draw (succeeded_layers state draw))) (passed passes).condition
     in
-    carried_storable ready order order.act draw ready_is (can_bring ready order ready_is allowed condition (ready_room state draw needed passes.log)) (may_be_for order allowed).0
-    (ready_keys state order draw order.layer order.act passes.keys)
+    carried_storable ready order order.act draw ready_is (can_bring ready order ready_is allowed condition (ready_room state draw needed (passed passes).log)) (may_be_for order allowed).0
+    (ready_keys state order draw order.layer order.act (passed passes).keys)

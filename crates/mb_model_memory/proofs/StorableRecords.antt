@@ -45,6 +45,7 @@ use Rattle.mb_model_memory.proofs.Additions.{own_fate, gives_way, outgoing_with,
 use Rattle.mb_model.specs.machine.Fates.{change_fate}
 use Rattle.mb_model.specs.memories.Clean.{root_of}
 use Rattle.mb_model.specs.memories.Valid.{IsValidState}
+use Rattle.mb_model.proofs.Passed.{passed}
 use Rattle.mb_model.proofs.FormatBounds.{root_short, public_short}
 use Rattle.mb_model_lemmas.proofs.LogLemmas.{used-bound}
 use Rattle.mb_model_lemmas.proofs.Splits.{All-split}
@@ -111,7 +112,7 @@ outgoing_allowed true state valid is = (tt, (is.device, (omega arith, omega (ari
 outgoing_allowed false state valid is = (tt, refl)
 
 ready_storable : (state : State) (order : Order) (draw : List ℕ) → IsStorableState state → Passes (view_of state) order → IsStorableState (ready_for state order draw)
-ready_storable state order draw is passes = ready_by_storable state draw (needs_succession (view_of state) order) is passes.log
+ready_storable state order draw is passes = ready_by_storable state draw (needs_succession (view_of state) order) is (passed passes).log
 
 pending_allowed : (state : State) (order : Order) (draw : List ℕ) → IsValidState state → IsStorableState state → Passes (view_of state) order → pending_format.Allowed (pending_for state order draw)
 unfolding pending_format pending_for
@@ -202,7 +203,7 @@ committed_public state order draw is allowed passes =
     let own : Entry = entry_of (view_of (ready_for state order draw)) (fact_of (ready_for state order draw).layers order order.act) draw in
     let first_is : entry_format.Allowed first = succession_allowed (length state.log) _ (small_length state is) (born_public_allowed draw state.serial (keys_made_by (entries_of state.log))) in
     let are : All entry_format.Allowed (if needed then first ∷ own ∷ [] else own ∷ []) = new_allowed needed first own first_is (own_allowed state order draw allowed passes is) in
-    let few = new_few state.log needed first own passes.log in
+    let few = new_few state.log needed first own (passed passes).log in
     subst (λ (es : List Entry). public_format.Allowed (public_of_parts (state_after_order state order draw).codes state.log es)) (sym (new_entries_are state order draw))
     (public_allowed (state_after_order state order draw).codes state.log (if needed then first ∷ own ∷ [] else own ∷ []) (obeyed_storable state order draw allowed passes is).codes is.log are few.0 few.1)
 

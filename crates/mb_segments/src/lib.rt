@@ -5,13 +5,12 @@
 //! here, 1 to 400 of them; `mb_layout` decides whether they spell an entry.
 #![tactic(auto)]
 
-mod end;
 mod header;
 mod log;
 mod sectors;
 
-pub use end::HeaderEnd;
 pub use header::{StoredHeader, header_at, read_header, write_header};
 pub use log::{LogSector, log_at, put_log};
+pub use mb_bytes::ReadEnd;
 pub use mb_model::{BadRecord, Header, Slot};
 pub use sectors::{code_sector, header_sector, log_sector};

@@ -10,7 +10,7 @@ mod listing;
 mod refusal;
 mod statement;
 
-pub use chain::{verify, verify_entries};
+pub use chain::{Shown, verify, verify_entries};
 pub use listing::{kind_word, trust_words, write_listing};
 pub use mb_model::Report;
 pub use refusal::ChainRefusal;

@@ -14,7 +14,7 @@ use super::states::{Device, is_clean, read};
 use mb_area::commit_root;
 use mb_board::{Board, SimBoard};
 use mb_boot::{BootEnd, boot};
-use mb_layout::{LayoutEnd, Room, region_of_bytes, root_of_bytes};
+use mb_layout::{ReadEnd, Room, region_of_bytes, root_of_bytes};
 use mb_lms::HashCount;
 use mb_model::{Items, Region, Root};
 use mb_outbound::{BindEnd, bind};
