@@ -30,12 +30,10 @@ audit_chain names None maker bytes = refuse (codes "zeroised")
 audit_chain names (Some state) maker bytes =
     find (IsAudited state maker bytes names.key) (compare state names.key)
 
-abbrev pub audit_under : AuditNames → Option State → PublicKey → Command
-audit_under names state maker = read (chain_bytes_input names.chain) (audit_chain names state maker)
-
-abbrev pub audit_device : AuditNames → Option State → Command
-audit_device names state = read (root_input names.root) (audit_under names state)
-
--- reads the device's image, the maker's public key and the chain, and audits the chain
+-- the device's image, the maker's public key and the chain are read, and the chain is audited
 unfoldable pub audit : AuditNames → Command
-audit names = read (image_input names.image) (λ image. audit_device names image.state)
+audit names =
+    read (image_input names.image) (λ image.
+    read (root_input names.root) (λ maker.
+    read (chain_bytes_input names.chain) (λ bytes.
+    audit_chain names image.state maker bytes)))

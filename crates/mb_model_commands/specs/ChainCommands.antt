@@ -52,8 +52,9 @@ attach_statement names chain statement =
     either_command (chain.statement ≢ None) (refuse (codes "has statement"))
     (write_entries names.out (stated_chain chain.entries statement))
 
-abbrev pub attach_to : AttachNames → Chain → Command
-attach_to names chain = read (statement_input names.statement) (attach_statement names chain)
-
+-- the chain and the statement are read, and the statement is attached
 unfoldable pub attach : AttachNames → Command
-attach names = read (chain_input names.chain) (attach_to names)
+attach names =
+    read (chain_input names.chain) (λ chain.
+    read (statement_input names.statement) (λ statement.
+    attach_statement names chain statement))

@@ -1,5 +1,5 @@
 -- What a call of `sign` or `countersign` leaves of the files.
-use Rattle.std.proofs.Common.{◌≡◌, ◌≢◌, ◌<◌, ◌≤◌, ◌⊎◌, ℕ, ◌+◌, List, [], ◌∷◌, ◌++◌, Bool, inl, inr, Option, Some, true, false, true≢false, refl, sym, ap, ◌∙◌, subst, arith}
+use Rattle.std.proofs.Common.{◌≡◌, ◌≢◌, ◌<◌, ◌≤◌, ◌⊎◌, ℕ, ◌+◌, List, [], ◌∷◌, ◌++◌, codes, Bool, inl, inr, Option, Some, true, false, true≢false, refl, sym, ap, ◌∙◌, subst, arith}
 use Rattle.std.specs.Prelude.{◌==◌, if◌then◌else◌, All, AllPairs}
 use Rattle.std.proofs.lemmas.List.Elements.{All-nil, All-cons, All-head}
 use Rattle.std.proofs.lemmas.List.Kept.{AllPairs-cons}
@@ -10,15 +10,15 @@ use Rattle.mb_model.specs.declared.order.Order.{Order}
 use Rattle.mb_model.specs.declared.tools.Keyfile.{Keyfile}
 use Rattle.mb_model.specs.records.KeyFormat.{keyfile_format}
 use Rattle.mb_model.specs.chains.OrderLines.{order_line}
-use Rattle.mb_model.specs.machine.SignedOrders.{keyfile_after_use, signed_order, countersigned_order}
+use Rattle.mb_model.specs.machine.SignedOrders.{keyfile_after_use, signed_order, countersigned_order, IsCountersignable}
 use Rattle.mb_model.specs.outside.Texts.{line_with_lf}
 use Rattle.mb_model.proofs.KeyFormatLaws.{keyfile_exact}
 use Rattle.mb_model_commands.specs.declared.role.Role.{Role}
 use Rattle.mb_model_commands.specs.declared.role.Role.TheVariants as role
-use Rattle.mb_model_commands.specs.Commands.{Input, Command, read, write, print, HasRead, Past, Ended, end_seen_from, SaysLine, Stops, InputEnds, input_is_too_long, input_is_faulty, input_is_not_read, memory_lacks, text_is_printed, text_is_not_printed, CommandEnds, at_first}
+use Rattle.mb_model_commands.specs.Commands.{Input, Command, read, either_command, write, print, refuse, HasRead, Past, Ended, end_seen_from, SaysLine, Stops, InputEnds, input_is_too_long, input_is_faulty, input_is_not_read, memory_lacks, text_is_printed, text_is_not_printed, CommandEnds, at_first}
 use Rattle.mb_model_commands.specs.Inputs.{key_input, draft_input, order_input}
 use Rattle.mb_model_commands.specs.Outside.{Outside, read_once, FailsToRead, by_fault, by_absence}
-use Rattle.mb_model_commands.specs.Sign.{CountersignNames, index_text, use_index, sign_by, sign_draft, sign, countersign_by, countersign_order, countersign}
+use Rattle.mb_model_commands.specs.Sign.{CountersignNames, index_text, use_index, sign_by, sign, countersign}
 use Rattle.mb_model_lemmas.proofs.ListLemmas.{pairs_head}
 use Rattle.mb_model_histories.specs.KeyFileLaws.{Files, LeavesKey, nothing_is_written, key_is_not_written, index_is_used, SigningUsesUpItsIndex, CountersigningUsesUpItsIndex, KeyCommand, by_sign, by_countersign, key_name_of, out_name_of, EndsSo, KeyCall, NothingIsSignedWithoutAnIndex, CallsInTurn, indices_used, IndicesInTurnDiffer, OldKeysSignAgain}
 
@@ -139,13 +139,15 @@ signing_uses_up_its_index names ending before after bytes key (inl ends) is_befo
 signing_uses_up_its_index names ending before after bytes key (inr (found, has, (value, is, ends))) is_before is_after holds spelled apart =
     let one : value ≡ key = one_key names.key bytes found key value ending.before before is_before holds spelled has is in
     let Made : Order → Type 0 = λ made. (order : Order) × (made ≡ signed_order key order) in
-    draft_read (draft_input names.draft) (λ order. sign_by names.key names.out key (signed_order key order)) names.key names.out key Made before after
+    let rest = λ (k : Keyfile) (order : Order). sign_by names.key names.out k (signed_order k order) in
+    draft_read (draft_input names.draft) (rest key) names.key names.out key Made before after
     (end_seen_from (read_once ending.before) ending) is_before is_after
     (λ order mid at_before at_after. signed_by names.key names.out key Made spelled.allowed apart before after (signed_order key order) mid (order, refl) at_before at_after)
-    (subst (λ k. CommandEnds (sign_draft names k) at_first (end_seen_from (read_once ending.before) ending)) one ends)
+    (subst (λ k. CommandEnds (read (draft_input names.draft) (rest k)) at_first (end_seen_from (read_once ending.before) ending)) one ends)
 
 countersigned_by : (names : CountersignNames) (key : Keyfile) (Made : Order → Type 0) → keyfile_format.Allowed key → names.out ≢ names.key → (before after : Files) (order : Order) (ending : Ended)
-    → Made (countersigned_order key names.layer order) → ending.before.files ≡ Some before → ending.after.files ≡ Some after → CommandEnds (countersign_by names key order) at_first ending
+    → Made (countersigned_order key names.layer order) → ending.before.files ≡ Some before → ending.after.files ≡ Some after
+    → CommandEnds (either_command (IsCountersignable order names.layer → ⊥) (refuse (codes "not countersignable")) (sign_by names.key names.out key (countersigned_order key names.layer order))) at_first ending
     → LeavesKey names.key names.out key Made before after ending.status
 unfolding CommandEnds
 countersigned_by names key Made allowed apart before after order ending made is_before is_after (inl (not_so, inl stops)) =
@@ -164,10 +166,12 @@ countersigning_uses_up_its_index names ending before after bytes key (inl ends) 
 countersigning_uses_up_its_index names ending before after bytes key (inr (found, has, (value, is, ends))) is_before is_after holds spelled apart =
     let one : value ≡ key = one_key names.key bytes found key value ending.before before is_before holds spelled has is in
     let Made : Order → Type 0 = λ made. (order : Order) × (made ≡ countersigned_order key names.layer order) in
-    draft_read (order_input names.order) (countersign_by names key) names.key names.out key Made before after
+    let rest = λ (k : Keyfile) (order : Order).
+        either_command (IsCountersignable order names.layer → ⊥) (refuse (codes "not countersignable")) (sign_by names.key names.out k (countersigned_order k names.layer order)) in
+    draft_read (order_input names.order) (rest key) names.key names.out key Made before after
     (end_seen_from (read_once ending.before) ending) is_before is_after
     (λ order mid at_before at_after. countersigned_by names key Made spelled.allowed apart before after order mid (order, refl) at_before at_after)
-    (subst (λ k. CommandEnds (countersign_order names k) at_first (end_seen_from (read_once ending.before) ending)) one ends)
+    (subst (λ k. CommandEnds (read (order_input names.order) (rest k)) at_first (end_seen_from (read_once ending.before) ending)) one ends)
 
 -- ---- calls one after another
 

@@ -11,3 +11,4 @@ pub mod Shutting
 pub mod FirstRun
 pub mod CutCounterProofs
 pub mod OutcomeLemmas
+pub mod RehearseLemmas

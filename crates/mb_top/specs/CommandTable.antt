@@ -28,6 +28,12 @@ unfoldable pub commands : List (Row Command)
 commands =
     -- run IMAGE SCRIPT NOISE
     row command.Run (codes "run") (a_file ∷ a_file ∷ a_file ∷ [])
+    -- rehearse IMAGE SCRIPT NOISE
+    ∷ row command.Rehearse (codes "rehearse") (a_file ∷ a_file ∷ a_file ∷ [])
+    -- showimage IMAGE
+    ∷ row command.Showimage (codes "showimage") (a_file ∷ [])
+    -- history ROOT CHAIN
+    ∷ row command.History (codes "history") (a_file ∷ a_file ∷ [])
     -- cutat IMAGE SCRIPT NOISE COUNT FILL
     ∷ row command.Cutat (codes "cutat") (a_file ∷ a_file ∷ a_file ∷ a_number 1 100000 ∷ a_fill ∷ [])
     -- verify ROOT CHAIN KEYNUMBER

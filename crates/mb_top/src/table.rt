@@ -15,6 +15,9 @@ use mb_tools_hss::LEVEL_LIMIT;
 #[derive(Clone, Copy)]
 pub enum Command {
     Run,
+    Rehearse,
+    Showimage,
+    History,
     Cutat,
     Verify,
     Audit,
@@ -130,7 +133,7 @@ const TEXT: Word = ("TEXT", Kind::File);
 pub type Row = (Command, &'static str, &'static [Word], &'static str);
 
 /// The commands in the order in which `--help` lists them.
-pub const COMMANDS: [Row; 20] = [
+pub const COMMANDS: [Row; 23] = [
     (
         Command::Run,
         "run",
@@ -138,6 +141,30 @@ pub const COMMANDS: [Row; 20] = [
         "
       gives the device of IMAGE the events of SCRIPT, writes the new image over IMAGE, and prints a line
       for each reply",
+    ),
+    (
+        Command::Rehearse,
+        "rehearse",
+        &[IMAGE, SCRIPT, NOISE],
+        "
+      serves SCRIPT on the device of IMAGE and writes no file; prints a line for each reply, without the
+      values of secrets and without statements, and which event was the first that was not obeyed",
+    ),
+    (
+        Command::Showimage,
+        "showimage",
+        &[IMAGE],
+        "
+      prints what IMAGE says of its device: serial, configuration number, length of the log, layers, names
+      of secrets, keys, and how often each key can still sign",
+    ),
+    (
+        Command::History,
+        "history",
+        &[ROOT, CHAIN],
+        "
+      verifies the chain under the maker's public key, and tells the device's history entry by entry, with
+      its serial, its keys, and who signed the chain's statement",
     ),
     (
         Command::Cutat,

@@ -36,6 +36,10 @@ use Rattle.mb_tools_app.specs.AssemblyCommands.{AsmNames, DisasmNames, asm, disa
 use Rattle.mb_tools_app.specs.Names.{app_given, asm_given, disasm_given}
 use Rattle.mb_tools_fleet.specs.FleetCommand.{FleetNames, FleetOutcome, all_served, text_too_long, keep_register, fleet}
 use Rattle.mb_tools_fleet.specs.FleetWords.{fleet_given}
+use Rattle.mb_tools_shown.specs.HistoryCommand.{HistoryNames, Finding, has_history, is_untold, history, tell_history}
+use Rattle.mb_tools_shown.specs.ShowimageCommand.{ShowimageNames, showimage, show_device}
+use Rattle.mb_tools_shown.specs.Names.{history_given, showimage_given}
+use Rattle.mb_tools_device.specs.RehearseCommand.{WholeScript, whole_script_input, tell_rehearsal, serve_rehearsal, rehearsal}
 use Rattle.mb_tools_device.specs.CutCommand.{CutNames, CutRun, IsCutServed, cutat, uncut_script_input, read_uncut_script, read_cut_noise, serve_first, serve_cut, tell_cut}
 use Rattle.mb_tools_device.specs.Names.{run_given, cut_given, generate_given}
 use Rattle.mb_top.specs.declared.table.Command.TheVariants as command
@@ -205,8 +209,29 @@ never_fleet : (names : FleetNames) → NeverLoads (fleet names)
 unfolding fleet NeverLoads
 never_fleet names = λ maker rows listed outcome. never_kept names.register outcome
 
+never_shown : (image : List ℕ) (state : Option State) → NeverLoads (show_device image state)
+unfolding NeverLoads
+never_shown image None = tt
+never_shown image (Some state) = λ pending. tt
+
+never_showimage : (names : ShowimageNames) → NeverLoads (showimage names)
+unfolding showimage NeverLoads
+never_showimage names = λ image. never_shown image.bytes image.state
+
+never_history_told : (finding : Finding) → NeverLoads (tell_history finding)
+unfolding NeverLoads
+never_history_told (has_history chain signer) = tt
+never_history_told (is_untold why) = tt
+
+never_history : (names : HistoryNames) → NeverLoads (history names)
+unfolding history NeverLoads
+never_history names = λ maker bytes finding. never_history_told finding
+
 pub all_load_nothing : (e : Ended) → NothingIsLoaded e
 all_load_nothing e command.Run given is ends = absurd (grind (arith, is))
+all_load_nothing e command.Rehearse given is ends = absurd (grind (arith, is))
+all_load_nothing e command.Showimage given is ends = nothing_is_loaded (showimage (showimage_given given)) at_first e (never_showimage (showimage_given given)) ends
+all_load_nothing e command.History given is ends = nothing_is_loaded (history (history_given given)) at_first e (never_history (history_given given)) ends
 all_load_nothing e command.Cutat given is ends = absurd (grind (arith, is))
 all_load_nothing e command.Generate given is ends = absurd (grind (arith, is))
 all_load_nothing e command.Verify given is ends = nothing_is_loaded (verify (verify_given given)) at_first e (never_verify (verify_given given)) ends
@@ -229,7 +254,7 @@ all_load_nothing e command.Disasm given is ends = nothing_is_loaded (disasm (dis
 
 -- ---- after the last load
 
--- a command that reads no input, loads no board and is not refused
+-- a command that reads no input and loads no board
 unfoldable GoesOn : Command → Type 0
 GoesOn (read input rest) = ⊥
 GoesOn (find {A = A} Is rest) = (value : A) → GoesOn (rest value)
@@ -239,10 +264,11 @@ GoesOn (serve IsServed rest) = (answered : List Answered) (held : Held) → Goes
 GoesOn (rehearse IsRehearsed rest) = ⊥
 GoesOn (write output rest) = GoesOn rest
 GoesOn (print text) = Unit {0}
-GoesOn (refuse line) = ⊥
+GoesOn (refuse line) = Unit {0}
 GoesOn lack = Unit {0}
 
--- such a command has loaded as often as before, and is done, or an output failed, or memory was lacking
+-- such a command has loaded as often as before, and is done, or an output failed, or memory was lacking, or it was
+-- refused
 GoneOn : Past → Ended → Type 0
 GoneOn past e = (e.used.loads ≡ past.used.loads) × ((e.status ≡ 0) ⊎ (5 ≤ e.status))
 
@@ -272,7 +298,8 @@ gone_on (write output rest) past e goes (inr (inr wants)) = wanted past e wants
 gone_on (print text) past e goes (inl (text_is_printed prints same is)) = (loads_as past e same, inl is)
 gone_on (print text) past e goes (inl (text_is_not_printed mid fails stops)) = (loads_as past e stops.used, inr (omega (arith, stops.status_is)))
 gone_on (print text) past e goes (inr wants) = wanted past e wants
-gone_on (refuse line) past e goes ends = absurd goes
+gone_on (refuse line) past e goes (inl stops) = (loads_as past e stops.used, inr (omega (arith, stops.status_is)))
+gone_on (refuse line) past e goes (inr wants) = wanted past e wants
 gone_on lack past e goes stops = (loads_as past e stops.used, inr (omega (arith, stops.status_is)))
 
 input_status : {A : Type 0} (input : Input A) (past : Past) (e : Ended) → InputEnds input past e → 3 ≤ e.status
@@ -315,6 +342,31 @@ unfolding run CommandEnds
 run_loads names e (inl ends) = input_ended (image_input names.image) e ends
 run_loads names e (inr it) = script_read names it.2.0 (end_seen_from (read_once e.before) e) it.2.2
 
+-- ---- `rehearse`
+
+rehearsal_goes_on : (image : Image) (text : List ℕ) (events : List Event) → GoesOn (serve (IsServed image events) (λ answered final. tell_rehearsal text answered))
+unfolding GoesOn
+rehearsal_goes_on image text events = λ answered held. (tt, λ first. tt)
+
+rehearsal_noise_read : (names : RunNames) (image : Image) (script : WholeScript) (e : Ended)
+    → CommandEnds (read (draws_input script.events names.noise) (λ events. serve_rehearsal image script.text events)) at_first e → EndsAfterLoads (e.used.loads ≡ 1) e
+unfolding CommandEnds
+rehearsal_noise_read names image script e (inl ends) = input_ended (draws_input script.events names.noise) e ends
+rehearsal_noise_read names image script e (inr it) =
+    loaded_ended image.bytes (serve (IsServed image it.2.0) (λ answered final. tell_rehearsal script.text answered)) (end_seen_from (read_once e.before) e) (rehearsal_goes_on image script.text it.2.0) it.2.2
+
+rehearsal_script_read : (names : RunNames) (image : Image) (e : Ended)
+    → CommandEnds (read (whole_script_input names.script) (λ script. read (draws_input script.events names.noise) (λ events. serve_rehearsal image script.text events))) at_first e
+    → EndsAfterLoads (e.used.loads ≡ 1) e
+unfolding CommandEnds
+rehearsal_script_read names image e (inl ends) = input_ended (whole_script_input names.script) e ends
+rehearsal_script_read names image e (inr it) = rehearsal_noise_read names image it.2.0 (end_seen_from (read_once e.before) e) it.2.2
+
+rehearse_loads : (names : RunNames) (e : Ended) → CommandEnds (rehearsal names) at_first e → EndsAfterLoads (e.used.loads ≡ 1) e
+unfolding rehearsal CommandEnds
+rehearse_loads names e (inl ends) = input_ended (image_input names.image) e ends
+rehearse_loads names e (inr it) = rehearsal_script_read names it.2.0 (end_seen_from (read_once e.before) e) it.2.2
+
 -- ---- `generate`
 
 -- what comes after the load
@@ -335,7 +387,11 @@ generate_loads names e (inl it) = loaded_ended it.0.files.image (write_workload 
 generate_loads names e (inr wants) = lacked e wants
 
 pub all_load_once : (e : Ended) → LoadsOnce e
-all_load_once e = record { run = λ given ends. run_loads (run_given given) e ends; generate = λ given ends. generate_loads (generate_given given) e ends }
+all_load_once e = record {
+  run = λ given ends. run_loads (run_given given) e ends;
+  rehearse = λ given ends. rehearse_loads (run_given given) e ends;
+  generate = λ given ends. generate_loads (generate_given given) e ends;
+}
 
 -- ---- `cutat`
 

@@ -14,6 +14,10 @@ pub const FILES_ARE_MADE: &[Step] = &[
         &[Part::Text("boot\nput 2 pin 35363738\ncommand 00\noff\n")],
     ),
     Step::Writes(
+        "obeyed",
+        &[Part::Text("boot\nput 2 pin 35363738\noff\n")],
+    ),
+    Step::Writes(
         "every",
         &[Part::Text(
             "go\nput 2 pin 35\nget 2 pin\ndrop 2 pin\nsign 3 1 68\ncut 1 keep 2 fill 00\ncommand 00\n",
@@ -90,6 +94,21 @@ const COMMANDS: &[Access] = &[
         words: "run image events draw",
         reads: &[("image", "image"), ("script", "events"), ("noise", "draw")],
         writes: &[("image", "image")],
+    },
+    Access {
+        words: "rehearse image obeyed draw",
+        reads: &[("image", "image"), ("script", "obeyed"), ("noise", "draw")],
+        writes: &[],
+    },
+    Access {
+        words: "showimage image",
+        reads: &[("image", "image")],
+        writes: &[],
+    },
+    Access {
+        words: "history public0 chain",
+        reads: &[("root", "public0"), ("chain", "chain")],
+        writes: &[],
     },
     Access {
         words: "cutat image events draw 1 00",
