@@ -40,6 +40,14 @@ ask() {
     [ "$status" -eq 0 ] || echo "    status $status"
 }
 
+# Writes the draft of an order, and shows its lines: draft NAME LINE..
+draft() {
+    local name=$1
+    shift
+    printf '%s\n' "$@" >"$name.draft"
+    echo "  $name.draft: $(paste -s -d ';' "$name.draft" | sed 's/;/; /g')"
+}
+
 # Writes the script of these events. An order is given by the name of its file.
 write_script() {
     local event

@@ -16,6 +16,7 @@ import sys
 import app_readers
 import chain_readers
 import examples
+import order_readers
 import party_readers
 import pieces
 import readers
@@ -52,11 +53,12 @@ READERS = {
     "crates/mb_test_lives/src/tests/trusts.rt": chain_readers.chains_tests,
     "crates/mb_test_commands/src/tests/fleet.rt": chain_readers.fleet_tests,
     "crates/mb_test_commands/src/tests/short_files.rt": chain_readers.short_inputs,
-    "crates/mb_test_commands/src/tests/shown.rt": chain_readers.chains_tests,
+    "crates/mb_test_commands/src/tests/devices_shown.rt": chain_readers.chains_tests,
     "crates/mb_test_commands/src/tests/limits.rt": chain_readers.last_entries,
     "crates/mb_test_commands/src/tests/devices.rt": top_readers.plays,
     "crates/mb_test_commands/src/tests/keys.rt": top_readers.plays,
     "crates/mb_test_commands/src/tests/sign.rt": top_readers.signed_orders,
+    "crates/mb_test_commands/src/tests/shown.rt": order_readers.answered,
     "crates/mb_test_lives/src/tests/workloads.rt": readers.workloads,
     "crates/miniboot/stdout": readers.stored_run,
     "examples/device-life/expected.txt": examples.device_life,
@@ -64,6 +66,8 @@ READERS = {
     "examples/outbound/expected.txt": examples.outbound,
     "examples/fleet/expected.txt": examples.fleet_of_devices,
     "examples/policy/expected.txt": examples.policy,
+    "examples/orders/expected.txt": examples.orders,
+    "examples/endorsement/expected.txt": examples.endorsement,
 }
 
 

@@ -17,8 +17,8 @@ sys.path.insert(0, str(pathlib.Path(__file__).resolve().parents[2] / "peers"))
 
 import cases  # noqa: E402
 import commands  # noqa: E402
+import devices_shown  # noqa: E402
 import pool  # noqa: E402
-import shown  # noqa: E402
 from lms import sha256  # noqa: E402
 
 # the seconds by the clock after which a call is given up, and the status that it then has
@@ -112,7 +112,7 @@ def wrong_in(case, answer, found, after, folders):
         return f"on standard error: {errors}"
     if folders != case.folders:
         return f"there are the folders {sorted(folders)}, and not {sorted(case.folders)}"
-    if isinstance(answer.served, shown.Rehearsed):
+    if isinstance(answer.served, devices_shown.Rehearsed):
         return wrong_in_rehearsal(case, answer.served, status, printed, after)
     if answer.served is not None:
         return wrong_in_run(case, answer.served, status, printed, after)
@@ -171,7 +171,7 @@ def wrong_in_rehearsal(case, rehearsed, status, printed, after):
     if not case.is_full:
         if printed and not printed.endswith("\n"):
             return "the last line does not end"
-        return shown.wrong_in_rehearsal(rehearsed, status, printed.splitlines())
+        return devices_shown.wrong_in_rehearsal(rehearsed, status, printed.splitlines())
     # the status of a refusal is kept if its lines cannot be printed
     refused = commands.first_unobeyed(rehearsed.numbers, only_replies(rehearsed))
     wanted = 7 if refused else 5 if rehearsed.events else 0
@@ -271,7 +271,7 @@ def again(case):
 
 def expected(case, answer):
     """What a command should do, in words."""
-    if isinstance(answer.served, shown.Rehearsed):
+    if isinstance(answer.served, devices_shown.Rehearsed):
         return "replies of the device as peers/machine.py has them, veiled, and all files as they were\n"
     if answer.served is not None:
         return "status 0, replies of the device as peers/machine.py has them, and its image\n"

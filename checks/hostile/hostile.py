@@ -19,12 +19,12 @@ sys.path[:0] = [str(HERE.parents[1] / "peers"), str(HERE.parent / "chains")]
 
 import chains  # noqa: E402
 import commands  # noqa: E402
+import devices_shown  # noqa: E402
 import fleet  # noqa: E402
 import forged  # noqa: E402
 import hss  # noqa: E402
 import images  # noqa: E402
 import machine  # noqa: E402
-import shown  # noqa: E402
 from device import owned  # noqa: E402
 from lms import sha256  # noqa: E402
 from officer import Officer, body, order, order_line, signed_text  # noqa: E402
@@ -89,6 +89,15 @@ SIGN = Command("sign key draft out", (("key", "key"), ("draft", "draft")), (("ke
 COUNTERSIGN = Command(
     "countersign key 3 order out", (("key", "key"), ("order", "order")), (("key", "key"), ("out", "out"))
 )
+COSIGN = Command(
+    "cosign key 3 order draft out",
+    (("key", "key"), ("order", "order"), ("draft", "draft")),
+    (("key", "key"), ("out", "out")),
+)
+SHOWORDER = Command("showorder order", (("order", "order"),))
+ORDERED = Command("ordered owner order", (("public", "owner"), ("order", "order")))
+SHOWKEY = Command("showkey key", (("key", "key"),))
+SHOWMAKER = Command("showmaker maker", (("key", "maker"),))
 MIGRATE = Command("migrate image out", (("image", "image"),), (("out", "out"),))
 GENERATE = Command("generate 1 1 new events draws", (), (("image", "new"), ("script", "events"), ("noise", "draws")))
 HSSKEYGEN = Command("hsskeygen noise 2 made public", (("noise", "noise"),), (("key", "made"), ("public", "public")))
@@ -107,7 +116,10 @@ FLEET = Command(
 )
 LEAST_NOISE = {RUN: 32, REHEARSE: 0, CUTAT: 32, FACTORY: 48, KEYGEN: 32, HSSKEYGEN: 32}
 # those whose short inputs end as peers/commands.py predicts
-PREDICTED = HSSKEYGEN, ENDORSE, ENDORSED, TRUST, APP, ASM, DISASM, FLEET
+PREDICTED = (
+    *(HSSKEYGEN, ENDORSE, ENDORSED, TRUST, APP, ASM, DISASM, FLEET),
+    *(COSIGN, SHOWORDER, ORDERED, SHOWKEY, SHOWMAKER),
+)
 COMMANDS = (
     *(RUN, REHEARSE, SHOWIMAGE, HISTORY, CUTAT, VERIFY, AUDIT, CHAIN, ATTACH, FACTORY, KEYGEN, SIGN, COUNTERSIGN, MIGRATE, GENERATE),
     *PREDICTED,
@@ -228,7 +240,7 @@ def long_inputs(files):
 
 def ends_of_longest(command, role):
     """The end of a command whose input goes on to the most bytes, or None if peers/commands.py predicts it."""
-    if (command, role) == (ENDORSE, "key"):
+    if command in (ENDORSE, SHOWMAKER) and role == "key":
         return (3, "input key at 45\n")
     if role in ("key", "root", "owner"):
         return (3, f"input {role} at 56\n")
@@ -455,7 +467,7 @@ class Worker:
         if ends is None and trial.command != RUN:
             answer = predicted(trial.command, before)
             ends, wanted = (answer.status, answer.text), wanted | answer.written
-            if answer.served and not shown.wrong_in_rehearsal(answer.served, found[0], found[1].splitlines()):
+            if answer.served and not devices_shown.wrong_in_rehearsal(answer.served, found[0], found[1].splitlines()):
                 ends = found
         if found != ends and (ends or found[0] != 0):
             return f"{self.told(trial)}: {found[0]}, {found[1][:100]!r}, and not {ends or 0}"

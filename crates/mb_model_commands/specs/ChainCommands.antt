@@ -28,7 +28,8 @@ pub record AttachNames : Type 0 where
 abbrev pub entries_text : ℕ → List ℕ
 entries_text count = line_with_lf (codes "entries " ++ decimal count)
 
--- writes bytes that spell the chain, and prints the number of its entries
+-- Writes bytes that spell the chain, and prints the number of its entries. The bytes spell this chain, and are not the
+-- spelling of some chain: so no reader refuses their form.
 unfoldable pub write_entries : List ℕ → Chain → Command
 write_entries out chain = find (λ bytes. Spells chain_format bytes chain) (λ bytes.
     write (record { role = role.Out; name = out; bytes = bytes })
@@ -46,7 +47,8 @@ chain names = read (image_input names.image) (λ image. chain_of names image.sta
 
 -- ---- attach
 
--- attaches the statement, unless the chain has one already
+-- Attaches the statement, unless the chain has one already. Nothing is verified, so that no key is needed. A statement
+-- of a later configuration than the chain's last leaves the whole chain, and `verify` then says 26.
 unfoldable pub attach_statement : AttachNames → Chain → Statement → Command
 attach_statement names chain statement =
     either_command (chain.statement ≢ None) (refuse (codes "has statement"))

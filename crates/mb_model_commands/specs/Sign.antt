@@ -47,7 +47,9 @@ sign names =
     read (draft_input names.draft) (λ order.
     sign_by names.key names.out key (signed_order key order)))
 
--- the key countersigns as the owner of a layer, if the order that is read is countersignable for that layer
+-- The key countersigns as the owner of a layer, if the order that is read is countersignable for that layer. Whether an
+-- order can take the countersignature is asked before whether the key is spent: it does not depend on the key, and an
+-- officer should learn it without looking for another one.
 unfoldable pub countersign : CountersignNames → Command
 countersign names =
     read (key_input names.key) (λ key.

@@ -13,6 +13,7 @@ pub mod rehearse;
 mod replies;
 pub mod run;
 mod scripts;
+mod serving;
 mod summary;
 mod twice;
 

@@ -12,7 +12,7 @@ mod signer;
 mod statement;
 
 pub use chain::{verify, verify_entries};
-pub use listing::{kind_word, layer_line, life_word, write_listing};
+pub use listing::{kind_word, layer_line, life_word, trust_words, write_listing};
 pub use mb_model::Report;
 pub use refusal::ChainRefusal;
 pub use signer::{life_of, signer_of};

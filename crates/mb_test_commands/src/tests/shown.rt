@@ -1,445 +1,577 @@
-//! What images and chains are shown to hold, and scripts that are tried, against an independent program.
+//! The commands that show orders and keys, and `cosign`: each line of each kind of order, who signed it, and what differs
+//! from a draft. The lines and hashes are those of another program.
 
-use super::births::owned_device_goes_through;
-use super::{A_NEW_DEVICE, A_WHOLE_LIFE, Content, Given, Part, Play, Step, perform};
-use mb_model::IMAGE_LENGTH;
+use super::{Content, Given, Play, Step, perform};
 use std::test::Fail;
 
-/// A new device, and one with a key that has signed nothing.
-const NEW_DEVICES_ARE_SHOWN: &[Step] = &[
-    Step::Ends(
-        "showimage fresh",
-        0,
-        "serial c10b471ceff881272aa5ed819fd9a0e0\nnumber 0\nlength 1 128\npending 0\ndevice 0 32\n\
-        layer 1 a40bf9d678da59a9e050d292356cbcb44ba41a7e2df7a4cc8f77c8f3acf75b0f \
-        f191e625176e7514249870c60bc24622131b04927a418001d1969c9cecd260f1 1 reliable always\n\
-        layer 2 - - - unreliable never\nlayer 3 - - - unreliable never\n",
-    ),
-    Step::Ends(
-        "showimage keyed",
-        0,
-        "serial c10b471ceff881272aa5ed819fd9a0e0\nnumber 4\nlength 6 128\npending 0\ndevice 5 27\n\
-        layer 1 a40bf9d678da59a9e050d292356cbcb44ba41a7e2df7a4cc8f77c8f3acf75b0f \
-        f191e625176e7514249870c60bc24622131b04927a418001d1969c9cecd260f1 1 reliable always\n\
-        layer 2 68cd35f6dc5234d9a7e9df889d48ec8302912dee6f7c9fe17efeffa7bf970b63 \
-        ba7816bf8f01cfea414140de5dae2223b00361a396177a9cb410ff61f20015ad 1 reliable countersigned\n\
-        layer 3 b3cee4b09ec5e77e7b1285231704c0e8fcdcd7b721946b5bac2437e157b6bae1 \
-        cb8379ac2098aa165029e3938a51da0bcecfc008fd6795f401178647f96c5b34 1 reliable countersigned\n\
-        key 1 epoch layer 3 0 32\n",
-    ),
-];
+/// The lines of the public keys of the first two noises.
+const ONE: &str = "owner 4f6e9ff38c1bc427d7e117d76edf284a97cc41938a0dc9375856a06c06f87f9b\n";
 
-/// The device of a whole life, whose key has signed once.
-const ITS_LIFE_IS_SHOWN: &[Step] = &[Step::Ends(
-    "showimage image",
-    0,
-    "serial c10b471ceff881272aa5ed819fd9a0e0\nnumber 6\nlength 8 128\npending 0\ndevice 1 31\n\
-    layer 1 a40bf9d678da59a9e050d292356cbcb44ba41a7e2df7a4cc8f77c8f3acf75b0f \
-    7692c3ad3540bb803c020b3aee66cd8887123234ea0c6e7143c0add73ff431ed 2 reliable always\n\
-    layer 2 68cd35f6dc5234d9a7e9df889d48ec8302912dee6f7c9fe17efeffa7bf970b63 \
-    ba7816bf8f01cfea414140de5dae2223b00361a396177a9cb410ff61f20015ad 1 reliable countersigned\n\
-    layer 3 b3cee4b09ec5e77e7b1285231704c0e8fcdcd7b721946b5bac2437e157b6bae1 \
-    50ae61e841fac4e8f9e40baf2ad36ec868922ea48368c18f9535e47db56dd7fb 2 reliable countersigned\n\
-    secret 2 pin 4\nsecret 3 token 2\nkey 1 epoch layer 3 1 31\n",
-)];
+const TWO: &str = "owner 58ef7fca03598093aff0337e08eb4607108c6aa66c14b7565cabf1199a9584e5\n";
 
-/// Images that are not shown.
-const OTHER_IMAGES: &[Step] = &[
-    Step::Gives(Given {
-        name: "dead",
-        content: Content::Laid(&[("", IMAGE_LENGTH, 0)]),
-    }),
-    Step::Gives(Given {
-        name: "erased",
-        content: Content::Laid(&[("", IMAGE_LENGTH, 0xFF)]),
-    }),
-    Step::Gives(Given {
-        name: "longer",
-        content: Content::Sevens(4_194_305),
-    }),
-    Step::Ends("showimage", 2, "words\n"),
-    Step::Ends("showimage ", 2, "words\n"),
-    Step::Ends("showimage fresh fresh", 2, "words\n"),
-    Step::Ends("showimage missing", 4, "read failed image\n"),
-    Step::Ends("showimage longer", 3, "input image too long\n"),
-    Step::Ends("showimage public0", 3, "input image length\n"),
-    Step::Ends("showimage erased", 3, "input image root\n"),
-    Step::Ends("showimage dead", 7, "zeroised\n"),
-];
-
-/// Scripts are tried on a device, which stays as it was: the second trial finds no more than the first.
-const TRIALS: &[Step] = &[
-    Step::Writes(
-        "trial",
-        &[Part::Text(
-            "boot\ngo\nput 2 pin 31323334\nget 2 pin\ngo\nsign 3 1 68656c6c6f\nstatus\noff\n",
-        )],
-    ),
-    Step::Ends(
-        "rehearse keyed trial nothing",
-        0,
-        "booted\nat 2\nkept\nvalue -\nat 3\nsigned 1 0 -\n\
-        status c10b471ceff881272aa5ed819fd9a0e0 4 6 runnable runnable runnable\noff\n",
-    ),
-    Step::Matches("keyed", "image"),
-    Step::Ends(
-        "rehearse keyed trial nothing",
-        0,
-        "booted\nat 2\nkept\nvalue -\nat 3\nsigned 1 0 -\n\
-        status c10b471ceff881272aa5ed819fd9a0e0 4 6 runnable runnable runnable\noff\n",
-    ),
-    Step::Writes(
-        "loads",
-        &[
-            Part::Text("boot\n"),
-            Part::File("order6"),
-            Part::File("order7"),
-            Part::Text("off\n"),
-        ],
-    ),
-    Step::Ends(
-        "rehearse keyed loads noise",
-        0,
-        "booted\ndone 5 7\ndone 6 8\noff\n",
-    ),
-    Step::Writes("tampering", &[Part::Text("off\ntamper\n")]),
-    Step::Ends("rehearse keyed tampering nothing", 0, "off\ntampered\n"),
-    Step::Ends("rehearse keyed nothing nothing", 0, ""),
-    Step::Matches("keyed", "image"),
-    // the rehearsed script is served
-    Step::Ends(
-        "run image trial nothing",
-        0,
-        "booted\nat 2\nkept\nvalue 31323334\nat 3\nsigned 1 0 0000000*\n\
-        status c10b471ceff881272aa5ed819fd9a0e0 4 6 runnable runnable runnable\noff\n",
-    ),
-];
-
-/// Scripts that a device does not obey to their ends.
-const UNOBEYED_TRIALS: &[Step] = &[
-    Step::Writes(
-        "trial",
-        &[Part::Text(
-            "# orders are tried\n\nboot\ncommand 00\nget 2 pin\ngo\nstatus\ncommand 00\noff\n",
-        )],
-    ),
-    Step::Ends(
-        "rehearse keyed trial noise",
-        7,
-        "booted\nrefused 10 text\nabsent\nat 2\n\
-        status c10b471ceff881272aa5ed819fd9a0e0 4 6 runnable runnable runnable\nrefused 2 phase\noff\n\
-        first 4 refused 10 text\n",
-    ),
-    Step::Writes(
-        "trial",
-        &[Part::Text(
-            "boot\ngo\ncut 1 keep 0 fill 00\n# power is lost\n\nput 2 pin 31323334\nboot\nget 2 pin\noff\n",
-        )],
-    ),
-    Step::Ends(
-        "rehearse keyed trial nothing",
-        7,
-        "booted\nat 2\narmed\nstopped\nbooted\nabsent\noff\nfirst 6 stopped\n",
-    ),
-    Step::Gives(Given {
-        name: "dead",
-        content: Content::Laid(&[("", IMAGE_LENGTH, 0)]),
-    }),
-    Step::Writes("trial", &[Part::Text("off\nboot\n")]),
-    Step::Ends(
-        "rehearse dead trial nothing",
-        7,
-        "off\nrefused 3 zeroised\nfirst 2 refused 3 zeroised\n",
-    ),
-    Step::Matches("keyed", "image"),
-];
-
-/// Rehearsals that end before an event is served.
-const OTHER_TRIALS: &[Step] = &[
-    Step::Writes("jump", &[Part::Text("boot\njump\n")]),
-    Step::Writes("trial", &[Part::Text("command 00\n")]),
-    Step::Gives(Given {
-        name: "few",
-        content: Content::Sevens(31),
-    }),
-    Step::Gives(Given {
-        name: "longer",
-        content: Content::Sevens(4_194_305),
-    }),
-    Step::Ends("rehearse keyed trial", 2, "words\n"),
-    Step::Ends("rehearse keyed trial noise noise", 2, "words\n"),
-    Step::Ends("rehearse keyed  noise", 2, "words\n"),
-    Step::Ends("rehearse missing jump few", 4, "read failed image\n"),
-    Step::Ends("rehearse public0 jump few", 3, "input image length\n"),
-    Step::Ends("rehearse keyed missing few", 4, "read failed script\n"),
-    Step::Ends("rehearse keyed longer few", 3, "input script too long\n"),
-    Step::Ends("rehearse keyed jump few", 3, "input script line 2\n"),
-    Step::Ends("rehearse keyed trial missing", 4, "read failed noise\n"),
-    Step::Ends("rehearse keyed trial few", 3, "input noise length\n"),
-    Step::Matches("keyed", "image"),
-];
-
-/// The history of a new device, which has no key yet, so that no key's number is asked for.
-const A_NEW_DEVICE_IS_TOLD_OF: &[Step] = &[
-    Step::Ends("chain fresh born", 0, "entries 1\n"),
-    Step::Ends(
-        "history public0 born",
-        0,
-        "serial c10b471ceff881272aa5ed819fd9a0e0\nentry 0 birth\n\
-        layer 1 a40bf9d678da59a9e050d292356cbcb44ba41a7e2df7a4cc8f77c8f3acf75b0f \
-        f191e625176e7514249870c60bc24622131b04927a418001d1969c9cecd260f1 1 reliable always\n\
-        layer 2 - - - unreliable never\nlayer 3 - - - unreliable never\n",
-    ),
-];
-
-/// The history of a whole life, and of the chain with the statement that was made before its end.
-const A_LIFE_IS_TOLD: &[Step] = &[
-    Step::Ends(
-        "history public0 chain",
-        0,
-        "serial c10b471ceff881272aa5ed819fd9a0e0\n\
-        entry 0 birth\n\
-        layer 1 a40bf9d678da59a9e050d292356cbcb44ba41a7e2df7a4cc8f77c8f3acf75b0f \
-        f191e625176e7514249870c60bc24622131b04927a418001d1969c9cecd260f1 1 reliable always\n\
-        layer 2 - - - unreliable never\nlayer 3 - - - unreliable never\n\
-        entry 1 establish 2 configuration 1 countersigned - kept -\n\
-        layer 1 a40bf9d678da59a9e050d292356cbcb44ba41a7e2df7a4cc8f77c8f3acf75b0f \
-        f191e625176e7514249870c60bc24622131b04927a418001d1969c9cecd260f1 1 reliable always\n\
-        layer 2 68cd35f6dc5234d9a7e9df889d48ec8302912dee6f7c9fe17efeffa7bf970b63 - - unreliable countersigned\n\
-        layer 3 - - - unreliable never\n\
-        entry 2 establish 3 configuration 2 countersigned - kept 2\n\
-        layer 1 a40bf9d678da59a9e050d292356cbcb44ba41a7e2df7a4cc8f77c8f3acf75b0f \
-        f191e625176e7514249870c60bc24622131b04927a418001d1969c9cecd260f1 1 reliable always\n\
-        layer 2 68cd35f6dc5234d9a7e9df889d48ec8302912dee6f7c9fe17efeffa7bf970b63 - - unreliable countersigned\n\
-        layer 3 b3cee4b09ec5e77e7b1285231704c0e8fcdcd7b721946b5bac2437e157b6bae1 - - unreliable countersigned\n\
-        entry 3 emergency 2 configuration 3 countersigned - kept -\n\
-        layer 1 a40bf9d678da59a9e050d292356cbcb44ba41a7e2df7a4cc8f77c8f3acf75b0f \
-        f191e625176e7514249870c60bc24622131b04927a418001d1969c9cecd260f1 1 reliable always\n\
-        layer 2 68cd35f6dc5234d9a7e9df889d48ec8302912dee6f7c9fe17efeffa7bf970b63 \
-        ba7816bf8f01cfea414140de5dae2223b00361a396177a9cb410ff61f20015ad 1 reliable countersigned\n\
-        layer 3 b3cee4b09ec5e77e7b1285231704c0e8fcdcd7b721946b5bac2437e157b6bae1 - - unreliable countersigned\n\
-        entry 4 emergency 3 configuration 4 countersigned - kept 2\n\
-        layer 1 a40bf9d678da59a9e050d292356cbcb44ba41a7e2df7a4cc8f77c8f3acf75b0f \
-        f191e625176e7514249870c60bc24622131b04927a418001d1969c9cecd260f1 1 reliable always\n\
-        layer 2 68cd35f6dc5234d9a7e9df889d48ec8302912dee6f7c9fe17efeffa7bf970b63 \
-        ba7816bf8f01cfea414140de5dae2223b00361a396177a9cb410ff61f20015ad 1 reliable countersigned\n\
-        layer 3 b3cee4b09ec5e77e7b1285231704c0e8fcdcd7b721946b5bac2437e157b6bae1 \
-        cb8379ac2098aa165029e3938a51da0bcecfc008fd6795f401178647f96c5b34 1 reliable countersigned\n\
-        entry 5 newkey 1 epoch layer 3\n\
-        entry 6 load 1 configuration 5 countersigned 2,3 kept 2,3\n\
-        layer 1 a40bf9d678da59a9e050d292356cbcb44ba41a7e2df7a4cc8f77c8f3acf75b0f \
-        7692c3ad3540bb803c020b3aee66cd8887123234ea0c6e7143c0add73ff431ed 2 reliable always\n\
-        layer 2 68cd35f6dc5234d9a7e9df889d48ec8302912dee6f7c9fe17efeffa7bf970b63 \
-        ba7816bf8f01cfea414140de5dae2223b00361a396177a9cb410ff61f20015ad 1 reliable countersigned\n\
-        layer 3 b3cee4b09ec5e77e7b1285231704c0e8fcdcd7b721946b5bac2437e157b6bae1 \
-        cb8379ac2098aa165029e3938a51da0bcecfc008fd6795f401178647f96c5b34 1 reliable countersigned\n\
-        entry 7 load 3 configuration 6 countersigned - kept 2,3\n\
-        layer 1 a40bf9d678da59a9e050d292356cbcb44ba41a7e2df7a4cc8f77c8f3acf75b0f \
-        7692c3ad3540bb803c020b3aee66cd8887123234ea0c6e7143c0add73ff431ed 2 reliable always\n\
-        layer 2 68cd35f6dc5234d9a7e9df889d48ec8302912dee6f7c9fe17efeffa7bf970b63 \
-        ba7816bf8f01cfea414140de5dae2223b00361a396177a9cb410ff61f20015ad 1 reliable countersigned\n\
-        layer 3 b3cee4b09ec5e77e7b1285231704c0e8fcdcd7b721946b5bac2437e157b6bae1 \
-        50ae61e841fac4e8f9e40baf2ad36ec868922ea48368c18f9535e47db56dd7fb 2 reliable countersigned\n\
-        key 1 epoch layer 3 alive\n",
-    ),
-    Step::Ends("attach chain statement attached", 0, "entries 6\n"),
-    Step::Ends(
-        "history public0 attached",
-        0,
-        "serial c10b471ceff881272aa5ed819fd9a0e0\n\
-        entry 0 birth\nlayer 1 a40bf9d6*\nlayer 2 - - - unreliable never\nlayer 3 - - - unreliable never\n\
-        entry 1 establish 2 configuration 1 countersigned - kept -\n\
-        layer 1 a40bf9d6*\nlayer 2 68cd35f6*\nlayer 3 - - - unreliable never\n\
-        entry 2 establish 3 configuration 2 countersigned - kept 2\n\
-        layer 1 a40bf9d6*\nlayer 2 68cd35f6*\nlayer 3 b3cee4b0*\n\
-        entry 3 emergency 2 configuration 3 countersigned - kept -\n\
-        layer 1 a40bf9d6*\nlayer 2 68cd35f6*\nlayer 3 b3cee4b0*\n\
-        entry 4 emergency 3 configuration 4 countersigned - kept 2\n\
-        layer 1 a40bf9d6*\nlayer 2 68cd35f6*\nlayer 3 b3cee4b0*\n\
-        entry 5 newkey 1 epoch layer 3\n\
-        key 1 epoch layer 3 alive\n\
-        statement 1 4 68656c6c6f\n",
-    ),
-];
-
-/// Chains that are not told of.
-const OTHER_CHAINS: &[Step] = &[
-    Step::Gives(Given {
-        name: "longer",
-        content: Content::Sevens(4_194_305),
-    }),
-    Step::Ends("history public0", 2, "words\n"),
-    Step::Ends("history public0 ", 2, "words\n"),
-    Step::Ends("history public0 chain 1", 2, "words\n"),
-    Step::Ends("history missing missing", 4, "read failed root\n"),
-    Step::Ends("history longer missing", 3, "input root too long\n"),
-    Step::Ends("history chain missing", 3, "input root at 0\n"),
-    Step::Ends("history public0 missing", 4, "read failed chain\n"),
-    Step::Ends("history public0 longer", 3, "input chain too long\n"),
-    Step::Ends("history public0 public0", 7, "refused 20 0\n"),
-    Step::Ends("history public1 chain", 7, "refused 21 0\n"),
-    // a statement by a key that this chain does not make
-    Step::Ends("attach born statement early", 0, "entries 1\n"),
-    Step::Ends("history public0 early", 7, "refused 25\n"),
-    // a statement that was made before the last entries
-    Step::Writes(
-        "late",
-        &[
-            Part::Slice("chain", 0, 20_649),
-            Part::Slice("attached", 15_299, 17_658),
-        ],
-    ),
-    Step::Ends("history public0 late", 7, "refused 26\n"),
-];
-
-/// Keys end with each load of their layer, and the device's own key is succeeded after 32 signatures.
-const A_LONG_LIFE_IS_TOLD: &[Step] = &[
-    Step::Ends("sign officer2 draft8 load2", 0, "index 3\n"),
-    Step::Ends("sign officer2 draft9 key", 0, "index 4\n"),
-    Step::Writes(
-        "nine",
-        &[
-            Part::File("key"),
-            Part::File("key"),
-            Part::File("key"),
-            Part::File("key"),
-            Part::File("key"),
-            Part::File("key"),
-            Part::File("key"),
-            Part::File("key"),
-            Part::File("load2"),
-        ],
-    ),
-    Step::Writes("image", &[Part::File("keyless")]),
-    Step::Serves(
-        &[
-            Part::Text("boot\n"),
-            Part::File("nine"),
-            Part::File("nine"),
-            Part::File("nine"),
-            Part::File("key"),
-            Part::Text("off\n"),
-        ],
-        "noise",
-        "booted\ndone 4 6\ndone 4 7\ndone 4 8\ndone 4 9\ndone 4 10\ndone 4 11\ndone 4 12\ndone 4 13\ndone 5 14\n\
-        done 5 15\ndone 5 16\ndone 5 17\ndone 5 18\ndone 5 19\ndone 5 20\ndone 5 21\ndone 5 22\ndone 6 23\n\
-        done 6 24\ndone 6 25\ndone 6 26\ndone 6 27\ndone 6 28\ndone 6 29\ndone 6 30\ndone 6 31\ndone 7 32\n\
-        done 7 34\noff\n",
-    ),
-    Step::Ends(
-        "showimage image",
-        0,
-        "serial c10b471ceff881272aa5ed819fd9a0e0\nnumber 7\nlength 34 128\n\
-        pending 0\ndevice 1 31\nlayer 1 a40bf9d6*\nlayer 2 68cd35f6*\nlayer 3 b3cee4b0*\n\
-        key 26 configuration layer 2 0 32\n",
-    ),
-    Step::Ends("chain image chain", 0, "entries 34\n"),
-    Step::Ends(
-        "history public0 chain",
-        0,
-        "serial c10b471ceff881272aa5ed819fd9a0e0\nentry 0 birth\nlayer 1 a40bf9d6*\nlayer 2 - - - unreliable never\n\
-        layer 3 - - - unreliable never\nentry 1 establish 2 configuration 1 countersigned - kept -\n\
-        layer 1 a40bf9d6*\nlayer 2 68cd35f6*\nlayer 3 - - - unreliable never\n\
-        entry 2 establish 3 configuration 2 countersigned - kept 2\nlayer 1 a40bf9d6*\nlayer 2 68cd35f6*\n\
-        layer 3 b3cee4b0*\nentry 3 emergency 2 configuration 3 countersigned - kept -\nlayer 1 a40bf9d6*\n\
-        layer 2 68cd35f6*\nlayer 3 b3cee4b0*\nentry 4 emergency 3 configuration 4 countersigned - kept 2\n\
-        layer 1 a40bf9d6*\nlayer 2 68cd35f6*\nlayer 3 b3cee4b0*\nentry 5 newkey 1 configuration layer 2\n\
-        entry 6 newkey 2 configuration layer 2\nentry 7 newkey 3 configuration layer 2\n\
-        entry 8 newkey 4 configuration layer 2\nentry 9 newkey 5 configuration layer 2\n\
-        entry 10 newkey 6 configuration layer 2\nentry 11 newkey 7 configuration layer 2\n\
-        entry 12 newkey 8 configuration layer 2\nentry 13 load 2 configuration 5 countersigned - kept 2\n\
-        layer 1 a40bf9d6*\nlayer 2 68cd35f6*\nlayer 3 b3cee4b0*\nentry 14 newkey 9 configuration layer 2\n\
-        entry 15 newkey 10 configuration layer 2\nentry 16 newkey 11 configuration layer 2\n\
-        entry 17 newkey 12 configuration layer 2\nentry 18 newkey 13 configuration layer 2\n\
-        entry 19 newkey 14 configuration layer 2\nentry 20 newkey 15 configuration layer 2\n\
-        entry 21 newkey 16 configuration layer 2\nentry 22 load 2 configuration 6 countersigned - kept 2\n\
-        layer 1 a40bf9d6*\nlayer 2 68cd35f6*\nlayer 3 b3cee4b0*\nentry 23 newkey 17 configuration layer 2\n\
-        entry 24 newkey 18 configuration layer 2\nentry 25 newkey 19 configuration layer 2\n\
-        entry 26 newkey 20 configuration layer 2\nentry 27 newkey 21 configuration layer 2\n\
-        entry 28 newkey 22 configuration layer 2\nentry 29 newkey 23 configuration layer 2\n\
-        entry 30 newkey 24 configuration layer 2\nentry 31 load 2 configuration 7 countersigned - kept 2\n\
-        layer 1 a40bf9d6*\nlayer 2 68cd35f6*\nlayer 3 b3cee4b0*\nentry 32 succession\n\
-        entry 33 newkey 26 configuration layer 2\nkey 1 configuration layer 2 ended\n\
-        key 2 configuration layer 2 ended\nkey 3 configuration layer 2 ended\nkey 4 configuration layer 2 ended\n\
-        key 5 configuration layer 2 ended\nkey 6 configuration layer 2 ended\nkey 7 configuration layer 2 ended\n\
-        key 8 configuration layer 2 ended\nkey 9 configuration layer 2 ended\nkey 10 configuration layer 2 ended\n\
-        key 11 configuration layer 2 ended\nkey 12 configuration layer 2 ended\nkey 13 configuration layer 2 ended\n\
-        key 14 configuration layer 2 ended\nkey 15 configuration layer 2 ended\nkey 16 configuration layer 2 ended\n\
-        key 17 configuration layer 2 ended\nkey 18 configuration layer 2 ended\nkey 19 configuration layer 2 ended\n\
-        key 20 configuration layer 2 ended\nkey 21 configuration layer 2 ended\nkey 22 configuration layer 2 ended\n\
-        key 23 configuration layer 2 ended\nkey 24 configuration layer 2 ended\nkey 26 configuration layer 2 alive\n",
-    ),
-];
-
+/// An order of each kind, with signatures that are none; the noise of keys, drafts, and keys that have signed.
 const FILES: &[Given] = &[
     Given {
-        name: "dead",
-        content: Content::Laid(&[("", IMAGE_LENGTH, 0)]),
+        name: "establish",
+        content: Content::Text(
+            "command 1103020301111111111111111111111111111111111111111111111111111111111111111104032222\
+            222222222222222222222222222222222222222222222222222222222222000000090000000133333333333333\
+            333333333333333333444444444444444444444444444444444444444444444444444444444444444400010000\
+            00\n",
+        ),
     },
     Given {
-        name: "off",
-        content: Content::Text("off\n"),
+        name: "surrender",
+        content: Content::Text("command 02020102000000070001ab00\n"),
     },
     Given {
-        name: "boot",
-        content: Content::Text("boot\n"),
+        name: "load",
+        content: Content::Text(
+            "command 03010201000102030405060708090a0b0c0d0e0f02000000050000000202000000000003abcdef0202\
+            000003000401020304\n",
+        ),
     },
     Given {
-        name: "nothing",
-        content: Content::Text(""),
+        name: "own",
+        content: Content::Text(
+            "command 030300000001020100000003616263000a0000000000000000000000\n",
+        ),
+    },
+    Given {
+        name: "emergency",
+        content: Content::Text(
+            "command 14020102ffffffffffffffff02000000000200ff0000010300020506\n",
+        ),
+    },
+    Given {
+        name: "epoch",
+        content: Content::Text("command 05020000000000\n"),
+    },
+    Given {
+        name: "configuration",
+        content: Content::Text("command 05030001000000\n"),
+    },
+    Given {
+        name: "eight",
+        content: Content::Text(
+            "command 0203080200000000020000000102000000020200000003020000000402000000050200000006020000\
+            0007000000\n",
+        ),
+    },
+    Given {
+        name: "twice",
+        content: Content::Text(
+            "command 02020102000000070001ab00\n\
+            \n",
+        ),
+    },
+    Given {
+        name: "noise",
+        content: Content::Hex("000102030405060708090a0b0c0d0e0f101112131415161718191a1b1c1d1e1f"),
+    },
+    Given {
+        name: "noise2",
+        content: Content::Hex("0102030405060708090a0b0c0d0e0f101112131415161718191a1b1c1d1e1f20"),
+    },
+    Given {
+        name: "noise3",
+        content: Content::Hex("02030405060708090a0b0c0d0e0f101112131415161718191a1b1c1d1e1f2021"),
+    },
+    Given {
+        name: "draft",
+        content: Content::Text(
+            "order load 1\n\
+            target length 5\n\
+            version 2\n\
+            trust countersigned\n\
+            code 616263\n",
+        ),
+    },
+    Given {
+        name: "target",
+        content: Content::Text(
+            "order load 1\n\
+            target length 6\n\
+            version 2\n\
+            trust countersigned\n\
+            code 616263\n",
+        ),
+    },
+    Given {
+        name: "trust",
+        content: Content::Text(
+            "order load 1\n\
+            target length 5\n\
+            version 2\n\
+            trust countersigned always\n\
+            code 616263\n",
+        ),
+    },
+    Given {
+        name: "byte",
+        content: Content::Text(
+            "order load 1\n\
+            target length 5\n\
+            version 2\n\
+            trust countersigned\n\
+            code 616262\n",
+        ),
+    },
+    Given {
+        name: "version",
+        content: Content::Text(
+            "order load 1\n\
+            target length 5\n\
+            version 3\n\
+            trust countersigned\n\
+            code 616263\n",
+        ),
+    },
+    Given {
+        name: "layer",
+        content: Content::Text(
+            "order load 2\n\
+            target length 5\n\
+            version 2\n\
+            trust countersigned\n\
+            code 616263\n",
+        ),
+    },
+    Given {
+        name: "more",
+        content: Content::Text(
+            "order load 1\n\
+            target length 5\n\
+            target length 5\n\
+            version 2\n\
+            trust countersigned\n\
+            code 616263\n",
+        ),
+    },
+    Given {
+        name: "kind",
+        content: Content::Text(
+            "order emergency 2\n\
+            target length 5\n\
+            version 2\n\
+            trust countersigned\n\
+            code 616263\n",
+        ),
+    },
+    Given {
+        name: "again",
+        content: Content::Text(
+            "order load 1\n\
+            target length 5\n\
+            version 2\n\
+            trust countersigned countersigned\n\
+            code 616263\n",
+        ),
+    },
+    Given {
+        name: "spent",
+        content: Content::Hex(
+            "4d424b31694fe06163fe29b42b183e4e7e7a218e0b8456b9f8065e1834608d6afcff6f322043496ffbaca002a9559c9943030d2f00000020",
+        ),
+    },
+    Given {
+        name: "used",
+        content: Content::Hex(
+            "4d424b31f5d541e6c1f5736fac8d67703916a7e4b7b94ea512bd312bfcd9eedbebef91090a23420ddbc50323fc7193e510217f8c0000001f",
+        ),
+    },
+    Given {
+        name: "maker",
+        content: Content::Hex(
+            "4d424b3201136b8c60f7349e4e452847a2b564f20a1e0642410e09d0ba9ae7a13915d483190000000000000020",
+        ),
+    },
+    Given {
+        name: "high",
+        content: Content::Hex(
+            "4d424b3208136b8c60f7349e4e452847a2b564f20a1e0642410e09d0ba9ae7a13915d483190000000000000001",
+        ),
+    },
+    Given {
+        name: "long",
+        content: Content::Hex(
+            "4d424b31f5d541e6c1f5736fac8d67703916a7e4b7b94ea512bd312bfcd9eedbebef91090a23420ddbc50323fc7193e510217f8c0000001f00",
+        ),
     },
 ];
 
-/// Neither the lines nor what would report this can be printed. What is refused has its own status all the same.
-const NOT_PRINTED: &[Play] = &[Play {
-    failing: &[3, 4, 8, 10],
-    steps: &[
-        Step::Ends("rehearse dead off nothing", 5, ""),
-        Step::Ends("rehearse dead boot nothing", 7, ""),
-        Step::Ends("showimage dead", 7, ""),
-        Step::WasCalled(7, 0, 4),
-    ],
-}];
-
-#[test]
-fn devices_are_shown(rt: HostRuntime) -> Result<(), Fail> {
-    owned_device_goes_through(
-        &rt,
-        &[
-            NEW_DEVICES_ARE_SHOWN,
-            OTHER_IMAGES,
-            A_NEW_DEVICE,
-            A_WHOLE_LIFE,
-            ITS_LIFE_IS_SHOWN,
+/// Each line of each kind of order is shown, and nothing is written.
+const ORDERS_ARE_SHOWN: &[Play] = &[
+    Play {
+        failing: &[],
+        steps: &[
+            Step::Ends(
+                "showorder establish",
+                0,
+                "order establish 3\n\
+                target owner 1 1111111111111111111111111111111111111111111111111111111111111111\n\
+                target code 3 2222222222222222222222222222222222222222222222222222222222222222\n\
+                owner ce4b54e8057626fb2dc3bbf61f561fa465957dbc0e1bd11e3f73dcd2aaa84696\n\
+                trust always never\n\
+                body 453f3b2228d1d17c8ab0b6bcf65a4cbc7741671006eb571b0e395e2d98be041e\n\
+                signature 0\n",
+            ),
+            Step::Ends(
+                "showorder surrender",
+                0,
+                "order surrender 2\n\
+                target length 7\n\
+                body 38e45bad4c0a5e2a6b9c2d66065d44bd66c20d0f3dd55a75ebff18cf194477ee\n\
+                signature 1\n",
+            ),
+            Step::Ends(
+                "showorder load",
+                0,
+                "order load 1\n\
+                target serial 000102030405060708090a0b0c0d0e0f\n\
+                target length 5\n\
+                version 2\n\
+                trust countersigned\n\
+                code e3b0c44298fc1c149afbf4c8996fb92427ae41e4649b934ca495991b7852b855 0\n\
+                body 9750b79af73adaee19a2277c912a03033d0f068124d0e2c8f1c8863b098d31e8\n\
+                signature 3\n\
+                countersignature 2 0\n\
+                countersignature 3 4\n",
+            ),
+            Step::Ends(
+                "showorder own",
+                0,
+                "order load 3\n\
+                version 258\n\
+                trust never\n\
+                code ba7816bf8f01cfea414140de5dae2223b00361a396177a9cb410ff61f20015ad 3\n\
+                body 8bb6c6feb5203e4cabccb40c007f2666dbb6354efedea46fcc149d12617de64d\n\
+                signature 10\n",
+            ),
         ],
-    )
-}
-
-#[test]
-fn scripts_are_tried(rt: HostRuntime) -> Result<(), Fail> {
-    owned_device_goes_through(&rt, &[TRIALS, UNOBEYED_TRIALS, OTHER_TRIALS])
-}
-
-#[test]
-fn histories_are_told(rt: HostRuntime) -> Result<(), Fail> {
-    owned_device_goes_through(
-        &rt,
-        &[
-            A_NEW_DEVICE_IS_TOLD_OF,
-            A_NEW_DEVICE,
-            A_WHOLE_LIFE,
-            A_LIFE_IS_TOLD,
-            OTHER_CHAINS,
+    },
+    Play {
+        failing: &[],
+        steps: &[
+            Step::Ends(
+                "showorder emergency",
+                0,
+                "order emergency 2\n\
+                target length 4294967295\n\
+                version 4294967295\n\
+                trust countersigned always\n\
+                code 06eb7d6a69ee19e5fbdf749018d3d2abfa04bcbd1365db312eb86dc7169389b8 2\n\
+                body 96a7d4620b3c674e6aca0eb1d7a641d7e3913ec8894caa06d9303eb7bf0edf4b\n\
+                signature 0\n\
+                countersignature 3 2\n",
+            ),
+            Step::Ends(
+                "showorder epoch",
+                0,
+                "order newkey 2 epoch\n\
+                body eb1fcb07517e5ebaf096ce3b4a290e44d97c23671be7b498ac66fa0b173e92db\n\
+                signature 0\n",
+            ),
+            Step::Ends(
+                "showorder configuration",
+                0,
+                "order newkey 3 configuration\n\
+                body 0694e2d1feaf4d93ae6480d721b8778b7143ea71a72de68f600f48c72619353b\n\
+                signature 0\n",
+            ),
+            Step::Ends(
+                "showorder eight",
+                0,
+                "order surrender 3\n\
+                target length 0\n\
+                target length 1\n\
+                target length 2\n\
+                target length 3\n\
+                target length 4\n\
+                target length 5\n\
+                target length 6\n\
+                target length 7\n\
+                body 7030ab64e11afd2ba8530773f76e21e70abd5407d8c562c24cfba01fddf24393\n\
+                signature 0\n",
+            ),
+            Step::WasCalled(4, 0, 4),
         ],
-    )
-}
+    },
+    Play {
+        failing: &[],
+        steps: &[
+            Step::Ends("showorder twice", 3, "input order line 2\n"),
+            Step::Ends("showorder draft", 3, "input order line 1\n"),
+            Step::Ends("showorder noise", 3, "input order line 1\n"),
+            Step::Ends("showorder ", 2, "words\n"),
+            Step::Ends("showorder", 2, "words\n"),
+            Step::Ends("showorder load load", 2, "words\n"),
+            Step::WasCalled(3, 0, 6),
+        ],
+    },
+];
 
 #[test]
-fn a_long_life_is_told(rt: HostRuntime) -> Result<(), Fail> {
-    owned_device_goes_through(&rt, &[A_LONG_LIFE_IS_TOLD])
+fn orders_are_shown(rt: HostRuntime) -> Result<(), Fail> {
+    perform(&rt, FILES, ORDERS_ARE_SHOWN)
 }
 
+/// The signatures of an order that verify under a key are named, in their order.
+const SIGNERS_ARE_NAMED: &[Play] = &[
+    Play {
+        failing: &[],
+        steps: &[
+            Step::Ends("keygen noise one one_public", 0, ONE),
+            Step::Ends("keygen noise2 two two_public", 0, TWO),
+            Step::Ends(
+                "keygen noise3 three three_public",
+                0,
+                "owner 8cabef904822d47a0493b82b70513d6e474a3085141a5013a4ade20a83aab8ee\n",
+            ),
+            Step::Ends("sign one draft order", 0, "index 0\n"),
+            Step::Ends("ordered one_public order", 0, "in charge\n"),
+            Step::Ends("ordered two_public order", 7, "refused 29\n"),
+            Step::Ends("countersign two 3 order order", 0, "index 0\n"),
+            Step::Ends("countersign one 2 order order", 0, "index 1\n"),
+            Step::Ends(
+                "showorder order",
+                0,
+                "order load 1\n\
+                target length 5\n\
+                version 2\n\
+                trust countersigned\n\
+                code ba7816bf8f01cfea414140de5dae2223b00361a396177a9cb410ff61f20015ad 3\n\
+                body 719b8dcc3296c50a7ed84ac37a52fd7f43c9b4155c9b4282a16d7bf3b4bbba95\n\
+                signature 2348\n\
+                countersignature 2 2348\n\
+                countersignature 3 2348\n",
+            ),
+            Step::Ends(
+                "ordered one_public order",
+                0,
+                "in charge\n\
+                layer 2\n",
+            ),
+            Step::Ends("ordered two_public order", 0, "layer 3\n"),
+            Step::Ends("ordered three_public order", 7, "refused 29\n"),
+            Step::IsOrder(
+                "order",
+                "c45365712e47fb14d5d8b5d25e7069afa98e2ae8c03a682d1cc69fe79563b3ff",
+            ),
+        ],
+    },
+    Play {
+        failing: &[],
+        steps: &[
+            Step::Ends("keygen noise one one_public", 0, ONE),
+            Step::Ends("ordered one_public load", 7, "refused 29\n"),
+            Step::Ends("ordered one_public surrender", 7, "refused 29\n"),
+            Step::Ends("ordered one_public draft", 3, "input order line 1\n"),
+            Step::Ends("ordered one load", 3, "input public at 0\n"),
+            Step::Ends("ordered one_public", 2, "words\n"),
+            Step::Ends("ordered  load", 2, "words\n"),
+            Step::WasCalled(8, 2, 7),
+        ],
+    },
+];
+
 #[test]
-fn nothing_is_printed(rt: HostRuntime) -> Result<(), Fail> {
-    perform(&rt, FILES, NOT_PRINTED)
+fn signers_are_named(rt: HostRuntime) -> Result<(), Fail> {
+    perform(&rt, FILES, SIGNERS_ARE_NAMED)
+}
+
+/// An order is countersigned as `countersign` does it, if its body is that of the draft.
+const DRAFTS_ARE_COUNTERSIGNED: &[Play] = &[
+    Play {
+        failing: &[],
+        steps: &[
+            Step::Ends("keygen noise one one_public", 0, ONE),
+            Step::Ends("keygen noise2 two two_public", 0, TWO),
+            Step::Ends("keygen noise2 twin two_public", 0, TWO),
+            Step::Ends("sign one draft order", 0, "index 0\n"),
+            Step::Ends("countersign twin 3 order made", 0, "index 0\n"),
+            Step::Ends("cosign two 3 order draft out", 0, "index 0\n"),
+            Step::Matches("out", "made"),
+            Step::Matches("two", "twin"),
+            Step::IsOrder(
+                "out",
+                "1b0db3669a94e7658c6c264e7d77c29312ba4acdf0eea20f17765b9af37dff9c",
+            ),
+            Step::Ends("cosign two 2 out again out", 0, "index 1\n"),
+            Step::Ends(
+                "ordered two_public out",
+                0,
+                "layer 2\n\
+                layer 3\n",
+            ),
+            Step::Ends(
+                "showkey two",
+                0,
+                "owner 58ef7fca03598093aff0337e08eb4607108c6aa66c14b7565cabf1199a9584e5\n\
+                next 2\n\
+                left 30\n",
+            ),
+        ],
+    },
+    Play {
+        failing: &[],
+        steps: &[
+            Step::Ends("keygen noise one one_public", 0, ONE),
+            Step::Ends("keygen noise2 two two_public", 0, TWO),
+            Step::Ends("keygen noise2 twin two_public", 0, TWO),
+            Step::Ends("sign one draft order", 0, "index 0\n"),
+            Step::Ends("cosign two 3 order target out", 7, "differs\n"),
+            Step::Ends("cosign two 3 order trust out", 7, "differs\n"),
+            Step::Ends("cosign two 3 order byte out", 7, "differs\n"),
+            Step::Ends("cosign two 3 order version out", 7, "differs\n"),
+            Step::Ends("cosign two 3 order layer out", 7, "differs\n"),
+            Step::Ends("cosign two 3 order more out", 7, "differs\n"),
+            Step::Ends("cosign two 3 order kind out", 7, "differs\n"),
+            Step::Matches("two", "twin"),
+            Step::IsMissing("out"),
+        ],
+    },
+    Play {
+        failing: &[],
+        steps: &[
+            Step::Ends("keygen noise one one_public", 0, ONE),
+            Step::Ends("sign one draft order", 0, "index 0\n"),
+            Step::Ends("cosign spent 3 order draft out", 7, "spent\n"),
+            Step::Ends("cosign spent 3 order byte out", 7, "differs\n"),
+            Step::Ends("cosign spent 3 own draft out", 7, "not countersignable\n"),
+            Step::Ends(
+                "cosign spent 3 surrender surrender out",
+                3,
+                "input draft line 1\n",
+            ),
+            Step::Ends("cosign used 3 order draft out", 0, "index 31\n"),
+            Step::Ends("cosign used 2 order draft out", 7, "spent\n"),
+            Step::WasCalled(21, 6, 8),
+        ],
+    },
+    Play {
+        failing: &[],
+        steps: &[
+            Step::Ends("keygen noise2 two two_public", 0, TWO),
+            Step::Ends("sign two layer order", 0, "index 0\n"),
+            Step::Ends("cosign two 2 order layer out", 7, "not countersignable\n"),
+            Step::Ends("cosign two 2 order draft out", 7, "not countersignable\n"),
+            Step::Ends("cosign two 3 order layer order", 0, "index 1\n"),
+            Step::Ends("cosign two 3 order layer order", 7, "not countersignable\n"),
+            Step::Ends("cosign two 1 order layer out", 2, "words\n"),
+            Step::Ends("cosign two 4 order layer out", 2, "words\n"),
+            Step::Ends("cosign two 3 order layer", 2, "words\n"),
+            Step::Ends("cosign two 3 order  out", 2, "words\n"),
+            Step::Ends("cosign long 3 order layer out", 3, "input key at 56\n"),
+            Step::Ends("cosign two 3 layer layer out", 3, "input order line 1\n"),
+            Step::Ends("cosign two 3 order order out", 3, "input draft line 1\n"),
+            Step::IsMissing("out"),
+        ],
+    },
+];
+
+#[test]
+fn drafts_are_countersigned(rt: HostRuntime) -> Result<(), Fail> {
+    perform(&rt, FILES, DRAFTS_ARE_COUNTERSIGNED)
+}
+
+/// A key shows how many of its indices are left, and a maker how many of its numbers.
+const KEYS_ARE_SHOWN: &[Play] = &[
+    Play {
+        failing: &[],
+        steps: &[
+            Step::Ends("keygen noise one one_public", 0, ONE),
+            Step::Ends(
+                "showkey one",
+                0,
+                "owner 4f6e9ff38c1bc427d7e117d76edf284a97cc41938a0dc9375856a06c06f87f9b\n\
+                next 0\n\
+                left 32\n",
+            ),
+            Step::Ends("sign one draft order", 0, "index 0\n"),
+            Step::Ends(
+                "showkey one",
+                0,
+                "owner 4f6e9ff38c1bc427d7e117d76edf284a97cc41938a0dc9375856a06c06f87f9b\n\
+                next 1\n\
+                left 31\n",
+            ),
+            Step::Ends(
+                "showkey used",
+                0,
+                "owner 4f6e9ff38c1bc427d7e117d76edf284a97cc41938a0dc9375856a06c06f87f9b\n\
+                next 31\n\
+                left 1\n",
+            ),
+            Step::Ends("sign used draft order", 0, "index 31\n"),
+            Step::Ends(
+                "showkey used",
+                0,
+                "owner 4f6e9ff38c1bc427d7e117d76edf284a97cc41938a0dc9375856a06c06f87f9b\n\
+                next 32\n\
+                left 0\n",
+            ),
+            Step::Ends(
+                "showkey spent",
+                0,
+                "owner 58ef7fca03598093aff0337e08eb4607108c6aa66c14b7565cabf1199a9584e5\n\
+                next 32\n\
+                left 0\n",
+            ),
+            Step::Ends("showkey long", 3, "input key at 56\n"),
+            Step::Ends("showkey order", 3, "input key at 0\n"),
+            Step::Ends("showkey ", 2, "words\n"),
+        ],
+    },
+    Play {
+        failing: &[],
+        steps: &[
+            Step::Ends(
+                "hsskeygen noise 2 hss hss_public",
+                0,
+                "maker d54325968cb96cfed2b10a72297e5019230de2aa9d135a4dba2f28506296c652\n",
+            ),
+            Step::Ends(
+                "showmaker hss",
+                0,
+                "maker d54325968cb96cfed2b10a72297e5019230de2aa9d135a4dba2f28506296c652\n\
+                levels 2\n\
+                next 0\n\
+                left 1024\n",
+            ),
+            Step::Ends("keygen noise2 two two_public", 0, TWO),
+            Step::Ends("endorse hss two_public endorsement", 0, "index 0\n"),
+            Step::Ends(
+                "showmaker hss",
+                0,
+                "maker d54325968cb96cfed2b10a72297e5019230de2aa9d135a4dba2f28506296c652\n\
+                levels 2\n\
+                next 1\n\
+                left 1023\n",
+            ),
+            Step::Ends(
+                "showmaker maker",
+                0,
+                "maker 947bc68a614ab9812cd14fcd397022ed1807b239b66c1b1558e9ab150cc603a7\n\
+                levels 1\n\
+                next 32\n\
+                left 0\n",
+            ),
+            Step::Ends(
+                "showmaker high",
+                0,
+                "maker 9bc2395e07b7070829fd29ee6bb935937c242c5e7d6d220c270ce175ffc684da\n\
+                levels 8\n\
+                next 1\n\
+                left 1099511627775\n",
+            ),
+            Step::Ends("showmaker used", 3, "input key at 0\n"),
+            Step::Ends("showmaker", 2, "words\n"),
+        ],
+    },
+];
+
+#[test]
+fn keys_are_shown(rt: HostRuntime) -> Result<(), Fail> {
+    perform(&rt, FILES, KEYS_ARE_SHOWN)
 }
