@@ -1,9 +1,10 @@
 -- The key that signed a statement is found among the entries of a log, one after another.
-use Rattle.std.proofs.Common.{◌≡◌, ◌<◌, ◌≤◌, ◌+◌, ℕ, List, [], ◌∷◌, ◌++◌, length, take, drop, get_or, Option, None, Some, Bool, true, false, refl, sym, ap, subst, ◌∙◌, arith, append_assoc, eq-eqb, eqb-true}
+use Rattle.std.proofs.Common.{◌≡◌, ◌<◌, ◌≤◌, ◌+◌, ℕ, List, [], ◌∷◌, ◌++◌, length, take, drop, get_or, None, Some, Bool, true, false, refl, sym, ap, subst, ◌∙◌, arith, append_assoc, eq-eqb, eqb-true}
 use Rattle.std.specs.Prelude.{All, ◌==◌, if◌then◌else◌}
 use Rattle.std.proofs.Math.Seq.{append_snoc}
 use Rattle.std.proofs.lemmas.List.{take_more, take_all, take-append-drop, map-append}
-use Rattle.std.proofs.lemmas.List.Elements.{All-nil, All-cons, All-head, All-push, All-weaker}
+use Rattle.std.proofs.lemmas.List.Elements.{All-nil, All-head, All-push, All-weaker}
+use Rattle.std.proofs.lemmas.Option.{same_Some}
 use Rattle.mb_model.specs.declared.key.PublicKey.{PublicKey}
 use Rattle.mb_model.specs.declared.order.KeyKind.{KeyKind}
 use Rattle.mb_model.specs.declared.entry.Entry.{Entry}
@@ -97,6 +98,25 @@ pub makes_signer : (log : List Entry) (statement : Statement) (entry : Entry) (p
 makes_signer log statement entry position number n layer kind key is stated =
     let own : KeyEntry = record { layer = layer; kind = kind; key = key } in
     record { made = own; named = ap (key_in n) is ∙ ap (λ b. if b then Some own else None) (eq-eqb n n refl); signed = stated }
+
+-- an entry that makes no key makes none that signed
+pub makes_no_signer : (log : List Entry) (statement : Statement) (entry : Entry) (n : ℕ) → key_in n entry ≡ None → MakesSigner log statement entry n → ⊥
+makes_no_signer log statement entry n none makes = let no : None ≡ Some makes.made = sym none ∙ makes.named in cc
+
+-- nor does one whose key did not sign
+pub makes_unsigned : (log : List Entry) (statement : Statement) (entry : Entry) (position number own layer : ℕ) (kind : KeyKind) (key : PublicKey) (n : ℕ) → entry ≡ NewKey position number own layer kind key
+    → (IsStated log own key statement → ⊥) → MakesSigner log statement entry n → ⊥
+makes_unsigned log statement entry position number own layer kind key n is unsigned makes = by (own == n) refl (ap (key_in n) (sym is) ∙ makes.named)
+  where
+    made : KeyEntry
+    made = record { layer = layer; kind = kind; key = key }
+
+    by : (b : Bool) → (own == n) ≡ b → (if b then Some made else None) ≡ Some makes.made → ⊥
+    by false at e = cc
+    by true at e =
+        let same : n ≡ own = sym (eqb-true own n at) in
+        let one : makes.made.key ≡ key = ap (λ (k : KeyEntry). k.key) (sym (same_Some made makes.made e)) in
+        unsigned (subst (λ (k : PublicKey). IsStated log own k statement) one (subst (λ (m : ℕ). IsStated log m makes.made.key statement) same makes.signed))
 
 -- ---- the first that did
 
