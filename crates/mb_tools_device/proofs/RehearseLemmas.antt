@@ -5,19 +5,16 @@ use Rattle.std.proofs.Math.Seq.{drop-cons}
 use Rattle.std.proofs.lemmas.List.{take_at, take_more, take_all, take-append-drop}
 use Rattle.std.proofs.lemmas.List.Elements.{All-nil, All-head, All-push}
 use Rattle.mb_model.specs.declared.event.Answered.{Answered}
-use Rattle.mb_model.specs.declared.event.Event.{Event}
-use Rattle.mb_model.specs.outside.Board.{Held, Used, not_used, loaded_once_more, having_answered}
+use Rattle.mb_model.specs.outside.Board.{Held, Used}
 use Rattle.mb_model_commands.specs.Outside.{Outside}
-use Rattle.mb_model_commands.specs.Commands.{print, refuse, serve, find, at_first}
-use Rattle.mb_model_commands.specs.Inputs.{Image}
-use Rattle.mb_model_commands.specs.RunCommand.{IsServed}
+use Rattle.mb_model_commands.specs.Commands.{print, refuse}
 use Rattle.mb_model_lemmas.proofs.ListLemmas.{All-back}
 use Rattle.mb_console.specs.declared.end.End.{End}
 use Rattle.mb_console.specs.declared.end.End.TheVariants as end
 use Rattle.mb_console.specs.Ending.{CarriesOutAfter, CarriesOutRest}
-use Rattle.mb_console.proofs.CommandLemmas.{load_goes, serve_goes, goes_first, goes_second, finds, refuse_here, memory_chosen}
+use Rattle.mb_console.proofs.CommandLemmas.{goes_first, goes_second, finds, refuse_here, memory_chosen}
 use Rattle.mb_script.specs.Reading.{IsLineOf}
-use Rattle.mb_tools_device.specs.RehearseCommand.{is_unobeyed, AllObeyed, Unobeyed, IsFirstUnobeyed, first_line, veiled_text, tell_rehearsal, serve_rehearsal}
+use Rattle.mb_tools_device.specs.RehearseCommand.{is_unobeyed, AllObeyed, Unobeyed, IsFirstUnobeyed, first_line, veiled_text, tell_rehearsal}
 use Rattle.mb_tools_device.specs.Rehearsing.{IsUnobeyedAt, TellsUnobeyed}
 
 -- ---- the first event that was not obeyed
@@ -122,13 +119,3 @@ last_taken text words whole lines reply is taken =
   where
     all_but_last : (xs : List ℕ) (x : ℕ) → take (length (xs ++ x ∷ []) - 1) (xs ++ x ∷ []) ≡ xs
     all_but_last xs x = take_at xs (x ∷ []) (length (xs ++ x ∷ []) - 1) (omega (arith, length-append xs (x ∷ [])))
-
--- ---- the board
-
-pub events_rehearsed : (image : Image) (text : List ℕ) (events : List Event) (used : Used) (final : Held) (before now : Outside) (result : Result (Unit {0}) End)
-    → used ≡ having_answered used.answered (loaded_once_more image.bytes not_used) → IsServed image events used.answered final
-    → CarriesOutRest (tell_rehearsal text used.answered) (record { used = used; wrote = false }) used final before result now
-    → CarriesOutRest (serve_rehearsal image text events) at_first used final before result now
-events_rehearsed image text events used final before now result same served carried =
-    load_goes image.bytes (serve (IsServed image events) (λ answered held. tell_rehearsal text answered)) at_first used final before now result
-    (serve_goes (IsServed image events) (λ answered held. tell_rehearsal text answered) (record at_first { used = loaded_once_more image.bytes not_used }) used final before now result same served carried)
