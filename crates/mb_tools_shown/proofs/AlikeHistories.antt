@@ -5,11 +5,10 @@ use Rattle.std.specs.Fmt.{decimal}
 use Rattle.std.specs.List.{AllZip}
 use Rattle.std.specs.Option.{option_or}
 use Rattle.std.proofs.Math.Seq.{append_snoc}
+use Rattle.std.proofs.lemmas.Fmt.{decimal_digit}
 use Rattle.std.proofs.lemmas.List.{append_cancel_left}
-use Rattle.sha2.specs.Sha256.{sha256}
 use Rattle.mb_format.specs.Format.{IsBytes}
 use Rattle.mb_format.proofs.Exact.{IsBytes-none}
-use Rattle.mb_model.specs.declared.key.PublicKey.{PublicKey}
 use Rattle.mb_model.specs.declared.layer.Layers.{Layers}
 use Rattle.mb_model.specs.declared.layer.Pair.{Pair}
 use Rattle.mb_model.specs.declared.order.ChangeKind.{ChangeKind}
@@ -20,11 +19,9 @@ use Rattle.mb_model.specs.declared.entry.Chain.{Chain}
 use Rattle.mb_model.specs.declared.entry.Entry.{Entry}
 use Rattle.mb_model.specs.declared.entry.Entry.TheVariants.{Birth, Change, NewKey, Succession}
 use Rattle.mb_model.specs.declared.entry.Statement.{Statement}
-use Rattle.mb_model.specs.signatures.Key.{key_bytes}
-use Rattle.mb_model.specs.owners.Layers.{layer_of}
 use Rattle.mb_model.specs.owners.Log.{entries_of, figures_of, is_change, layers_in, last_of, number_of, Ruled, RuledLog, serial_in, serial_of}
 use Rattle.mb_model.specs.chains.Drafts.{kind_word}
-use Rattle.mb_model.specs.chains.Lines.{hex_word, spaced_words, text_of}
+use Rattle.mb_model.specs.chains.Lines.{hex_word, text_of}
 use Rattle.mb_model_lemmas.proofs.ChainLemmas.{good_is_ruled}
 use Rattle.mb_model_lemmas.proofs.LineLemmas.{cons_same}
 use Rattle.mb_model_lemmas.proofs.LogLemmas.{number_of-push}
@@ -32,8 +29,9 @@ use Rattle.mb_verifier.proofs.Listed.{text_of-append}
 use Rattle.mb_tools_shown.specs.HistoryLaws.{TellTheSame, NamesOwner, OwnersCollide, HistoriesTellEntries}
 use Rattle.mb_tools_shown.specs.HistoryShown.{change_word, pair_word, entry_lines, life_lines, signed_lines, history_shown}
 use Rattle.mb_tools_shown.specs.LayersShown.{layers_shown}
+use Rattle.mb_tools_shown.specs.StateShown.{serial_shown}
 use Rattle.mb_tools_shown.proofs.AlikeLayers.{space, lf, letters, number_read, bytes_read, LayersCollide, layers_read}
-use Rattle.mb_tools_shown.proofs.FittingEntries.{LayersFit, EntryFits, EachFits, chain_fits}
+use Rattle.mb_tools_shown.proofs.FittingEntries.{EntryFits, EachFits, chain_fits}
 
 -- ---- words
 
@@ -100,7 +98,8 @@ after_place (NewKey position number key_number layer kind key) more = codes "new
 after_place (Succession position key) more = codes "succession" ++ 10 ∷ more
 
 entry_written : (entry : Entry) (more : List ℕ) → text_of (entry_lines entry) ++ more ≡ codes "entry " ++ (decimal (place entry) ++ 32 ∷ after_place entry more)
-entry_written (Birth version serial key layers) more = refl
+entry_written (Birth version serial key layers) more =
+    ap (λ (zero_word : List ℕ). codes "entry " ++ (zero_word ++ 32 ∷ (codes "birth" ++ 10 ∷ (text_of (layers_shown layers) ++ more)))) (sym (decimal_digit 0 (omega arith)))
 entry_written (Change version position number kind layer cosigned layers kept next) more = simp append_assoc
 entry_written (NewKey position number key_number layer kind key) more = simp append_assoc
 entry_written (Succession position key) more = simp append_assoc
@@ -234,19 +233,19 @@ rest_read named count (Birth version serial key layers) (Birth version' serial' 
     ]
 rest_read named count (Change version position number kind layer cosigned layers kept next) (Change version' position' number' kind' layer' cosigned' layers' kept' next') xs ys fits also born also_born numbered also_numbered at sorts e =
     let changed = change_read kind kind' _ _ e in
-    let layered = number_read 32 layer layer' _ _ space fits.1.1.0 also.1.1.0 changed.1 in
-    let counted = number_read 32 number number' _ _ space fits.1.0 also.1.0 (append_cancel_left (codes "configuration ") _ _ layered.1) in
+    let layered = number_read 32 layer layer' _ _ space fits.2 also.2 changed.1 in
+    let counted = number_read 32 number number' _ _ space fits.1 also.1 (append_cancel_left (codes "configuration ") _ _ layered.1) in
     let by = pair_read 32 cosigned cosigned' _ _ refl (append_cancel_left (codes "countersigned ") _ _ counted.1) in
     let regions = pair_read 10 kept kept' _ _ refl (append_cancel_left (codes "kept ") _ _ by.1) in
-    elim (layers_read layers layers' xs ys fits.1.1.1 also.1.1.1 regions.1) [
-      | inl same ↦ inl ((at, (counted.0, (changed.0, (layered.0, (by.0, (same.0, regions.0)))))), (refl, same.1))
+    elim (layers_read layers layers' xs ys fits.3 also.3 regions.1) [
+      | inl same ↦ inl ((at, counted.0, changed.0, layered.0, by.0, same.0, regions.0), (refl, same.1))
       | inr collide ↦ inr (record { layers = layers; others = layers'; named = refl; also = refl; collide = collide })
     ]
 rest_read named count (NewKey position number key_number layer kind key) (NewKey position' number' key_number' layer' kind' key') xs ys fits also born also_born numbered also_numbered at sorts e =
-    let keyed = number_read 32 key_number key_number' _ _ space fits.1.0 also.1.0 (append_cancel_left (codes "newkey ") _ _ e) in
+    let keyed = number_read 32 key_number key_number' _ _ space fits.1 also.1 (append_cancel_left (codes "newkey ") _ _ e) in
     let sorted = kind_read kind kind' _ _ keyed.1 in
-    let layered = number_read 10 layer layer' xs ys lf fits.1.1 also.1.1 (append_cancel_left (codes "layer ") _ _ sorted.1) in
-    inl ((at, (numbered ∙ sym also_numbered, (keyed.0, (layered.0, sorted.0)))), (refl, layered.1))
+    let layered = number_read 10 layer layer' xs ys lf fits.2 also.2 (append_cancel_left (codes "layer ") _ _ sorted.1) in
+    inl ((at, numbered ∙ sym also_numbered, keyed.0, layered.0, sorted.0), (refl, layered.1))
 rest_read named count (Succession position key) (Succession position' key') xs ys fits also born also_born numbered also_numbered at sorts e =
     inl (at, (refl, append_cancel_left (codes "succession\n") xs ys e))
 rest_read named count one other xs ys fits also born also_born numbered also_numbered at sorts e = absurd (omega (arith, sorts))
@@ -302,15 +301,15 @@ entries_read : (named : List ℕ) (count : ℕ) (log others : List Entry) (xs ys
     → EachNumbered count log → EachNumbered count others → NoEntry xs → NoEntry ys
     → text_of (flat_map entry_lines log) ++ xs ≡ text_of (flat_map entry_lines others) ++ ys → AllZip TellTheSame log others ⊎ OwnersCollide log others
 unfolding AreAlike
-entries_read named count [] [] xs ys fits also born also_born numbered also_numbered none no e = inl tt
-entries_read named count [] (other ∷ others) xs ys fits also born also_born numbered also_numbered none no e = absurd (none (ap (λ (t : List ℕ). get_or t 0 0) e ∙ begins_entry other others ys))
-entries_read named count (one ∷ log) [] xs ys fits also born also_born numbered also_numbered none no e = absurd (no (ap (λ (t : List ℕ). get_or t 0 0) (sym e) ∙ begins_entry one log xs))
-entries_read named count (one ∷ log) (other ∷ others) xs ys fits also born also_born numbered also_numbered none no e =
+entries_read named count [] [] xs ys fits also born also_born numbered also_numbered none also_none e = inl tt
+entries_read named count [] (other ∷ others) xs ys fits also born also_born numbered also_numbered none also_none e = absurd (none (ap (λ (t : List ℕ). get_or t 0 0) e ∙ begins_entry other others ys))
+entries_read named count (one ∷ log) [] xs ys fits also born also_born numbered also_numbered none also_none e = absurd (also_none (ap (λ (t : List ℕ). get_or t 0 0) (sym e) ∙ begins_entry one log xs))
+entries_read named count (one ∷ log) (other ∷ others) xs ys fits also born also_born numbered also_numbered none also_none e =
     elim (entry_read named count one other (text_of (flat_map entry_lines log) ++ xs) (text_of (flat_map entry_lines others) ++ ys) fits.0 also.0 born.0 also_born.0 numbered.0 also_numbered.0
     (sym (text_split one log xs) ∙ e ∙ text_split other others ys)) [
       | inr both ↦ inr (collide_here one other log others both)
       | inl same ↦ elim (entries_read named (count + changes_in one) log others xs ys fits.1 also.1 born.1 also_born.1 numbered.1
-      (subst (λ (n : ℕ). EachNumbered (count + n) others) (sym same.1.0) also_numbered.1) none no same.1.1) [
+      (subst (λ (n : ℕ). EachNumbered (count + n) others) (sym same.1.0) also_numbered.1) none also_none same.1.1) [
         | inl all ↦ inl (same.0, all)
         | inr both ↦ inr (collide_later one other log others both)
       ]
@@ -343,7 +342,9 @@ history_written chain signer =
     let a = flat_map entry_lines log in
     let b = flat_map (life_lines log) log in
     let c = signed_lines chain.statement signer in
-    ap (λ (t : List ℕ). codes "serial " ++ ((word ++ 10 ∷ []) ++ t)) (text_of-append a (b ++ c) ∙ ap (λ (t : List ℕ). text_of a ++ t) (text_of-append b c))
+    let first = serial_shown (serial_told log) in
+    ap text_of (append_assoc (first ∷ a) b c)
+    ∙ ap (λ (t : List ℕ). codes "serial " ++ ((word ++ 10 ∷ []) ++ t)) (text_of-append a (b ++ c) ∙ ap (λ (t : List ℕ). text_of a ++ t) (text_of-append b c))
     ∙ ap (λ (t : List ℕ). codes "serial " ++ t) (append_assoc word (10 ∷ []) (text_of a ++ (text_of b ++ text_of c)))
 
 pub histories_tell : HistoriesTellEntries
@@ -358,7 +359,7 @@ histories_tell maker bytes changed one other signer another are also found told 
     let also_born = each_born others also_ruled also_fits in
     let text = append_cancel_left (codes "serial ") _ _ (sym (history_written one signer) ∙ same ∙ history_written other another) in
     let serial = bytes_read 10 (serial_told log) (serial_told others) _ _ lf born.1 also_born.1 text in
-    entries_read (serial_told log) 0 log others (last_text one signer) (last_text other another) fits also_fits born.0
+    entries_read (serial_told log) (number_of []) log others (last_text one signer) (last_text other another) fits also_fits born.0
     (subst (λ (s : List ℕ). EachBorn s others) (sym serial.0) also_born.0)
     (each_numbered [] log ruled) (each_numbered [] others also_ruled)
     (lives_begin log log (text_of (signed_lines one.statement signer)) (signed_begins one.statement signer))

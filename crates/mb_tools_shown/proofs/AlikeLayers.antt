@@ -1,6 +1,6 @@
 -- Lines that tell the same layer: a layer is read back, or two owners' keys have one hash.
-use Rattle.std.proofs.Common.{◌≡◌, ◌≢◌, ◌⊎◌, ℕ, zero, suc, ◌+◌, ◌*◌, ◌/◌, ◌%◌, ◌<◌, ◌≤◌, ◌^◌, List, [], ◌∷◌, ◌++◌, length, get_or, drop, Bool, true, false, Option, None, Some, inl, inr, refl, sym, ap, subst, ◌∙◌, arith, rules, append_assoc}
-use Rattle.std.specs.Prelude.{◌==◌, codes, map, slice_index, if◌then◌else◌}
+use Rattle.std.proofs.Common.{◌≡◌, ◌≢◌, ◌⊎◌, ℕ, zero, suc, ◌+◌, ◌*◌, ◌/◌, ◌%◌, ◌<◌, ◌≤◌, ◌^◌, List, [], ◌∷◌, ◌++◌, length, get_or, drop, Bool, true, false, Option, None, Some, inl, inr, refl, sym, ap, ◌∙◌, arith, rules, append_assoc}
+use Rattle.std.specs.Prelude.{◌==◌, All, codes, map, slice_index, if◌then◌else◌}
 use Rattle.std.specs.Fmt.{decimal}
 use Rattle.std.specs.Int.{w32, to_be_bytes}
 use Rattle.std.proofs.lemmas.Fmt.{decimal_by_steps, decimal_injective}
@@ -44,12 +44,12 @@ abbrev pub letters : List ℕ → ℕ
 letters text = 65536 * get_or text 0 0 + 256 * get_or text 1 0 + get_or text 2 0
 
 end_small : (s : ℕ) → EndsWord s → s < 45
-end_small 32 space = omega arith
-end_small 10 lf = omega arith
+end_small _ space = omega arith
+end_small _ lf = omega arith
 
 end_no_digit : (s : ℕ) → EndsWord s → is_hex_digit s ≡ false
-end_no_digit 32 space = refl
-end_no_digit 10 lf = refl
+end_no_digit _ space = refl
+end_no_digit _ lf = refl
 
 abbrev is_digit : ℕ → Type 0
 is_digit byte = 48 ≤ byte
@@ -173,10 +173,10 @@ same_code one other parts = search (rules, parts)
 
 code_read : (one other : Option CodeName) (xs ys : List ℕ) → CodeFits one → CodeFits other → code_hash one ≡ code_hash other → code_rest one xs ≡ code_rest other ys → (one ≡ other) × (xs ≡ ys)
 code_read None None xs ys fits also same e = (refl, append_cancel_left (codes "- ") xs ys e)
-code_read None (Some other) xs ys fits also same e = absurd (omega (arith, ap length same, also.1.0))
-code_read (Some one) None xs ys fits also same e = absurd (omega (arith, ap length same, fits.1.0))
+code_read None (Some other) xs ys fits also same e = absurd (omega (arith, ap length same, also.1))
+code_read (Some one) None xs ys fits also same e = absurd (omega (arith, ap length same, fits.1))
 code_read (Some one) (Some other) xs ys fits also same e =
-    let parts = number_read 32 one.version other.version xs ys space fits.1.1 also.1.1 e in
+    let parts = number_read 32 one.version other.version xs ys space fits.2 also.2 e in
     (ap Some (same_code one other (same, parts.0)), parts.1)
 
 -- ---- whether a layer is reliable, and its trusts

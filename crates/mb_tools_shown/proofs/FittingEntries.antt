@@ -1,5 +1,5 @@
 -- What the bytes of a chain say of its entries: numbers are in their ranges, and hashes and serials are bytes.
-use Rattle.std.proofs.Common.{◌≡◌, ℕ, ◌<◌, ◌^◌, List, [], ◌∷◌, ◌++◌, length, Option, None, Some, refl, sym, subst, arith}
+use Rattle.std.proofs.Common.{◌≡◌, ℕ, suc, ◌<◌, ◌^◌, List, [], ◌∷◌, ◌++◌, length, Option, None, Some, refl, sym, subst, arith}
 use Rattle.std.specs.Prelude.{flat_map}
 use Rattle.std.specs.Int.{w8, w16, w32}
 use Rattle.std.specs.List.{AllByRecursion}
@@ -32,7 +32,7 @@ bytes_front front back are = IsBytes-spelled (front ++ back) front back are refl
 
 bytes_back : (front back : List ℕ) → IsBytes (front ++ back) → IsBytes back
 bytes_back [] back are = are
-bytes_back (byte ∷ front) back are = bytes_back front back (λ i. are (i + 1))
+bytes_back (byte ∷ front) back are = bytes_back front back (λ i. are (suc i))
 
 both_fit : {A B : Type 0} (f : Format A) (g : A → Format B) (a : A) (b : B) → Fits (both f g) (a, b) → Fits f a × Fits (g a) b
 both_fit f g a b fits = (
