@@ -55,12 +55,7 @@ pub fn rehearse<H: Host, B: Board, L: Ledger>(
 }
 
 /// Prints the replies, veiled. Refuses with them and one line more if an event was not obeyed.
-fn tell<H: Host, B: Board>(
-    alloc: Global,
-    script: &[u8],
-    host: &mut H,
-    board: &B,
-) -> Result<(), End>
+fn tell<H: Host, B: Board>(alloc: Global, script: &[u8], host: &mut H, board: &B) -> Result<(), End>
     requires { length script.now ≤ FILE_LIMIT }
     ensures { CarriesOutRest (tell_rehearsal script.now (B.seen board.now).ledger.answered)
         (record { used = use_of (B.seen board.now).ledger; wrote = false }) (use_of (B.seen board.now).ledger) (B.seen board.now).ledger.standing

@@ -309,10 +309,10 @@ entries_read named count (one ∷ log) (other ∷ others) xs ys fits also born a
     (sym (text_split one log xs) ∙ e ∙ text_split other others ys)) [
       | inr both ↦ inr (collide_here one other log others both)
       | inl same ↦ elim (entries_read named (count + changes_in one) log others xs ys fits.1 also.1 born.1 also_born.1 numbered.1
-      (subst (λ (n : ℕ). EachNumbered (count + n) others) (sym same.1.0) also_numbered.1) none also_none same.1.1) [
-        | inl all ↦ inl (same.0, all)
-        | inr both ↦ inr (collide_later one other log others both)
-      ]
+          (subst (λ (n : ℕ). EachNumbered (count + n) others) (sym same.1.0) also_numbered.1) none also_none same.1.1) [
+            | inl all ↦ inl (same.0, all)
+            | inr both ↦ inr (collide_later one other log others both)
+          ]
     ]
 
 -- ---- the whole
