@@ -10,9 +10,10 @@ import re
 import types
 
 import chains
+import devices_shown  # noqa: F401, among the commands of chains.py from here on
 import fleet
 import images
-import policies  # noqa: F401, among the commands of chains.py from here on
+import policies  # noqa: F401, likewise
 from life import Living
 from lms import sha256, u8, u16
 from officer import body, order, order_line, unhex

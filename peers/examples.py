@@ -1,8 +1,9 @@
 #!/usr/bin/env python3
-"""What examples/device-life, examples/outbound, examples/policy, examples/fleet, examples/orders and
-examples/endorsement show: their scripts are followed line by line, over files that are all made here.
+"""What examples/device-life, examples/rehearsal, examples/outbound, examples/policy, examples/fleet, examples/orders
+and examples/endorsement show: their scripts are followed line by line, over files that are all made here.
 
     examples.py device-life >examples/device-life/expected.txt
+    examples.py rehearsal >examples/rehearsal/expected.txt
     examples.py outbound >examples/outbound/expected.txt
     examples.py fleet >examples/fleet/expected.txt
     examples.py policy >examples/policy/expected.txt
@@ -178,6 +179,15 @@ class Steps(World):
         rows = zip(events, self.printed.splitlines(), strict=True)
         self.show("    ", "".join(f"{event:21}  {reply}\n" for event, reply in rows))
 
+    def rehearse(self, text):
+        image, *events = self.words(text)
+        self.files["script"] = self.script_of(events).encode()
+        self.show("  ", f"$ miniboot rehearse {image} script noise")
+        status = self.miniboot(f"rehearse {image} script noise")
+        lines = self.printed.splitlines()
+        self.show("    ", "".join(f"{event:21}  {reply}\n" for event, reply in zip(events, lines)))
+        self.show("    ", "\n".join(lines[len(events) :] + ([f"status {status}"] if status else [])))
+
     def cut_each_write(self, order):
         """What is found if the order has not happened, and if it has."""
         for before in ([], [order]):
@@ -254,6 +264,7 @@ FORMS = [
     (r"signed (.*)", Steps.signed),
     (r"order_hash (\w+)", Steps.order_hash),
     (r"serve (.*)", Steps.serve),
+    (r"rehearse (.*)", Steps.rehearse),
     (r"cut_each_write (\w+)", Steps.cut_each_write),
     (r"keep_statement (\w+)", Steps.keep_statement),
     (r"hash_of ([\w.]+) ([\w.]+)", Steps.hash_of),
@@ -285,6 +296,10 @@ def compare_shown(source, steps):
             source.compare("line", here, there)
     if found != wanted:
         source.compare("all lines", found, wanted)
+
+
+def rehearsal(source):
+    compare_shown(source, followed(source.root, "rehearsal"))
 
 
 def outbound(source):

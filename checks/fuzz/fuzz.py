@@ -17,6 +17,7 @@ sys.path.insert(0, str(pathlib.Path(__file__).resolve().parents[2] / "peers"))
 
 import cases  # noqa: E402
 import commands  # noqa: E402
+import devices_shown  # noqa: E402
 import pool  # noqa: E402
 from lms import sha256  # noqa: E402
 
@@ -111,6 +112,8 @@ def wrong_in(case, answer, found, after, folders):
         return f"on standard error: {errors}"
     if folders != case.folders:
         return f"there are the folders {sorted(folders)}, and not {sorted(case.folders)}"
+    if isinstance(answer.served, devices_shown.Rehearsed):
+        return wrong_in_rehearsal(case, answer.served, status, printed, after)
     if answer.served is not None:
         return wrong_in_run(case, answer.served, status, printed, after)
     if status != answer.status or not (case.is_full or answer.prints(printed)):
@@ -160,8 +163,23 @@ def wrong_in_run(case, served, status, printed, after):
     return commands.wrong_in_run(served, replies, after.get(served.name))
 
 
+def wrong_in_rehearsal(case, rehearsed, status, printed, after):
+    """What is wrong with a rehearsal, which writes nothing and then prints, or None."""
+    others = wrong_files(case, {}, after)
+    if others:
+        return others
+    if not case.is_full:
+        if printed and not printed.endswith("\n"):
+            return "the last line does not end"
+        return devices_shown.wrong_in_rehearsal(rehearsed, status, printed.splitlines())
+    # the status of a refusal is kept if its lines cannot be printed
+    refused = commands.first_unobeyed(rehearsed.numbers, only_replies(rehearsed))
+    wanted = 7 if refused else 5 if rehearsed.events else 0
+    return None if status == wanted else f"status {status}, and not {wanted}"
+
+
 def only_replies(served):
-    """The replies of a run that were not printed, if no others could have come."""
+    """The replies that were not printed, if no others could have come."""
     replies, worlds = [], served.worlds
     for event in served.events:
         _, possible = commands.machine.follow(worlds, event, None)
@@ -185,6 +203,9 @@ class Counts:
         self.statuses[case.command][status] += 1
         if case.is_full:
             self.lines["write failed output"] += status == 5
+        elif case.command == "rehearse" and status in (0, 7):
+            replies = [line for line in printed.splitlines() if not line.startswith("first ")]
+            self.replies.update(map(kind_of_reply, replies))
         elif status != 0:
             line = printed.rstrip("\n")
             self.lines[kind_of_line(line)] += 1
@@ -250,6 +271,8 @@ def again(case):
 
 def expected(case, answer):
     """What a command should do, in words."""
+    if isinstance(answer.served, devices_shown.Rehearsed):
+        return "replies of the device as peers/machine.py has them, veiled, and all files as they were\n"
     if answer.served is not None:
         return "status 0, replies of the device as peers/machine.py has them, and its image\n"
     lines = [f"status {answer.status}, {texts_of(answer)}"]

@@ -1,4 +1,5 @@
-"""Cases of the commands on makers' keys, policies, the code of applications, and registers."""
+"""Cases of the commands on makers' keys, policies, the code of applications, and registers, and of those that show what
+images and chains say."""
 
 import applications
 import chains
@@ -290,6 +291,21 @@ class Tools:
             return u8(fleet.CODES) + u8(layer)
         known = [each.code for each in some_layers(rng, life) if each.code]
         return u8(fleet.FIND) + u8(layer) + rng.choice([*known, rng.randbytes(32)])
+
+
+    # ---- what images and chains say
+
+    def rehearse(self):
+        return self.run()
+
+    def showimage(self):
+        image, _ = self.image(0.3, is_old=self.rng.random() < 0.03)
+        return ["image"], {"image": image}
+
+    def history(self):
+        life = self.life()
+        chain, _ = self.chain_bytes(life)
+        return ["root", "chain"], {"root": self.public(life.maker), "chain": chain}
 
 
 def runs(state, layer):

@@ -2,6 +2,7 @@
 
 mod applications;
 mod devices;
+mod devices_shown;
 mod endorsements;
 mod failures;
 mod fleet;

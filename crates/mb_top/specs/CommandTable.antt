@@ -51,8 +51,12 @@ commands =
     -- cosign KEY LAYER ORDER DRAFT OUT
     ∷ row command.Cosign (codes "cosign") (a_file ∷ a_number 2 3 ∷ a_file ∷ a_file ∷ a_file ∷ [])
     -- ---- to serve a device
+    -- showimage IMAGE
+    ∷ row command.Showimage (codes "showimage") (a_file ∷ [])
     -- run IMAGE SCRIPT NOISE
     ∷ row command.Run (codes "run") (a_file ∷ a_file ∷ a_file ∷ [])
+    -- rehearse IMAGE SCRIPT NOISE
+    ∷ row command.Rehearse (codes "rehearse") (a_file ∷ a_file ∷ a_file ∷ [])
     -- cutat IMAGE SCRIPT NOISE COUNT FILL
     ∷ row command.Cutat (codes "cutat") (a_file ∷ a_file ∷ a_file ∷ a_number 1 100000 ∷ a_fill ∷ [])
     -- chain IMAGE OUT
@@ -66,6 +70,8 @@ commands =
     -- ---- to verify what a device says of itself
     -- verify ROOT CHAIN KEYNUMBER
     ∷ row command.Verify (codes "verify") (a_file ∷ a_file ∷ a_number 0 4294967295 ∷ [])
+    -- history ROOT CHAIN
+    ∷ row command.History (codes "history") (a_file ∷ a_file ∷ [])
     -- audit IMAGE ROOT CHAIN KEYNUMBER
     ∷ row command.Audit (codes "audit") (a_file ∷ a_file ∷ a_file ∷ a_number 0 4294967295 ∷ [])
     -- trust ROOT CHAIN KEYNUMBER POLICY

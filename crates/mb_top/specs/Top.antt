@@ -36,7 +36,11 @@ use Rattle.mb_tools_app.specs.AssemblyCommands.{asm, disasm}
 use Rattle.mb_tools_app.specs.Names.{app_given, asm_given, disasm_given}
 use Rattle.mb_tools_fleet.specs.FleetCommand.{fleet}
 use Rattle.mb_tools_fleet.specs.FleetWords.{fleet_given}
+use Rattle.mb_tools_shown.specs.HistoryCommand.{history}
+use Rattle.mb_tools_shown.specs.ShowimageCommand.{showimage}
+use Rattle.mb_tools_shown.specs.Names.{history_given, showimage_given}
 use Rattle.mb_tools_device.specs.CutCommand.{cutat}
+use Rattle.mb_tools_device.specs.RehearseCommand.{rehearsal}
 use Rattle.mb_tools_device.specs.Names.{run_given, cut_given, generate_given}
 use Rattle.mb_tools_device.specs.Holding.{EndsHolding, IsDone, IsOutOfMemory}
 use Rattle.mb_top.specs.CommandTable.{commands}
@@ -46,6 +50,9 @@ use Rattle.mb_top.specs.declared.table.Command.TheVariants as command
 -- what a command does with these arguments, which are in the order of its words
 abbrev pub command_of : Command → List Argument → Does
 command_of command.Run given = run (run_given given)
+command_of command.Rehearse given = rehearsal (run_given given)
+command_of command.Showimage given = showimage (showimage_given given)
+command_of command.History given = history (history_given given)
 command_of command.Cutat given = cutat (cut_given given)
 command_of command.Verify given = verify (verify_given given)
 command_of command.Audit given = audit (audit_given given)

@@ -26,6 +26,7 @@ use mb_tools_app::asm::{AsmNames, asm};
 use mb_tools_app::disasm::{DisasmNames, disasm};
 use mb_tools_device::cutat::{CutNames, cutat};
 use mb_tools_device::generate::{GenerateNames, generate};
+use mb_tools_device::rehearse::rehearse;
 use mb_tools_device::run::{RunNames, run};
 use mb_tools_fleet::fleet::{FleetNames, fleet};
 use mb_tools_hss::endorse::{EndorseNames, endorse};
@@ -37,6 +38,8 @@ use mb_tools_orders::ordered::{OrderedNames, ordered};
 use mb_tools_orders::showkey::{ShowKeyNames, showkey};
 use mb_tools_orders::showorder::{ShowOrderNames, showorder};
 use mb_tools_policy::trust::{TrustNames, trust};
+use mb_tools_shown::history::{HistoryNames, history};
+use mb_tools_shown::showimage::{ShowimageNames, showimage};
 use std::alloc::Global;
 use std::marker::Brand;
 use std::sync::ledger::{Blank, Ledger};
@@ -105,6 +108,9 @@ fn carry_out<H: Host, B: Board, L: Ledger>(
     let given = &call.arguments;
     match call.command {
         Command::Run => run(alloc, &RunNames::of(given), host, board, hashes),
+        Command::Rehearse => rehearse(alloc, &RunNames::of(given), host, board, hashes),
+        Command::Showimage => showimage(alloc, &ShowimageNames::of(given), host, hashes),
+        Command::History => history(alloc, &HistoryNames::of(given), host),
         Command::Cutat => cutat(alloc, &CutNames::of(given), host, board, hashes),
         Command::Verify => verify(alloc, &VerifyNames::of(given), host),
         Command::Audit => audit(alloc, &AuditNames::of(given), host, hashes),

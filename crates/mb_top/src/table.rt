@@ -25,13 +25,16 @@ pub enum Command {
     Sign,
     Countersign,
     Cosign,
+    Showimage,
     Run,
+    Rehearse,
     Cutat,
     Chain,
     Attach,
     Migrate,
     Generate,
     Verify,
+    History,
     Audit,
     Trust,
     Endorsed,
@@ -237,12 +240,28 @@ pub const GROUPS: [Group; 5] = [
         "to serve a device",
         &[
             (
+                Command::Showimage,
+                "showimage",
+                &[IMAGE],
+                "
+      prints what IMAGE says of its device: serial, configuration number, length of the log, layers, names
+      of secrets, keys, and how often each key can still sign",
+            ),
+            (
                 Command::Run,
                 "run",
                 &[IMAGE, SCRIPT, NOISE],
                 "
       gives the device of IMAGE the events of SCRIPT, writes the new image over IMAGE, and prints a line
       for each reply",
+            ),
+            (
+                Command::Rehearse,
+                "rehearse",
+                &[IMAGE, SCRIPT, NOISE],
+                "
+      serves SCRIPT on the device of IMAGE and writes no file; prints a line for each reply, without the
+      values of secrets and without statements, and which event was the first that was not obeyed",
             ),
             (
                 Command::Cutat,
@@ -295,6 +314,14 @@ pub const GROUPS: [Group; 5] = [
                 "
       verifies the chain under the maker's public key, and lists every configuration of code that could have
       used the key with this number",
+            ),
+            (
+                Command::History,
+                "history",
+                &[ROOT, CHAIN],
+                "
+      verifies the chain under the maker's public key, and tells the device's history entry by entry, with
+      its serial, its keys, and who signed the chain's statement",
             ),
             (
                 Command::Audit,

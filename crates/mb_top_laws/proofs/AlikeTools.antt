@@ -36,6 +36,10 @@ use Rattle.mb_fleet.specs.declared.row.Row.{Row}
 use Rattle.mb_fleet.specs.declared.item.Item.{Item}
 use Rattle.mb_fleet.specs.Rows.{AreOrdered}
 use Rattle.mb_tools_fleet.specs.FleetCommand.{FleetNames, FleetOutcome, all_served, text_too_long, ServingComesTo, keep_register, fleet}
+use Rattle.mb_tools_shown.specs.HistoryCommand.{HistoryNames, Finding, has_history, is_untold, history, tell_history}
+use Rattle.mb_tools_shown.specs.ShowimageCommand.{ShowimageNames, showimage, show_device}
+use Rattle.mb_tools_shown.proofs.StateLemmas.{one_work}
+use Rattle.mb_top_laws.proofs.HistoryOnce.{one_finding}
 use Rattle.mb_top_laws.proofs.AlikeSteps.{IsReadOnce, Alike, alike_read, alike_find, alike_found, alike_either, alike_write, alike_print, alike_refuse, lack_never}
 use Rattle.mb_top_laws.proofs.InputsOnce.{binary_once, leading_once, whole_once, root_once, image_once}
 use Rattle.mb_top_laws.proofs.AlikeCommands.{one_verdict, whole_bytes}
@@ -161,3 +165,22 @@ unfolding fleet
 fleet_alike names = alike_read _ _ (root_once _) (λ bytes maker are is. alike_read _ _ (register_once _) (λ held rows given in_form.
     alike_read _ _ (items_once _) (λ asked listed read spelled.
     alike_find _ _ (λ a b one other. kept_alike names.register maker rows listed a b (register_ordered held rows names.register in_form) (items_bytes asked listed read spelled) one other))))
+
+-- ---- images and chains shown
+
+device_alike : (image : List ℕ) (state : Option State) → IsBytes image → Alike (show_device image state) (show_device image state)
+device_alike image None are = alike_refuse _
+device_alike image (Some state) are = alike_found _ _ (λ a b is also. one_work image a b are is also) (λ pending is. alike_print _)
+
+pub showimage_alike : (names : ShowimageNames) → Alike (showimage names) (showimage names)
+unfolding showimage
+showimage_alike names = alike_read _ _ (image_once _) (λ bytes image are is. device_alike image.bytes image.state (whole_bytes bytes image.bytes are is.0))
+
+finding_alike : (finding : Finding) → Alike (tell_history finding) (tell_history finding)
+finding_alike (has_history chain signer) = alike_print _
+finding_alike (is_untold why) = alike_refuse _
+
+pub history_alike : (names : HistoryNames) → Alike (history names) (history names)
+unfolding history
+history_alike names = alike_read _ _ (root_once _) (λ bytes maker are is. alike_read _ _ (whole_once _ _) (λ text chain given held.
+    alike_found _ _ (λ a b one other. one_finding maker chain a b (whole_bytes text chain given held) one other) (λ finding told. finding_alike finding)))

@@ -7,6 +7,7 @@ use Rattle.mb_tools_hss.specs.Names.{hsskeygen_given, showmaker_given, endorse_g
 use Rattle.mb_tools_policy.specs.Names.{trust_given}
 use Rattle.mb_tools_app.specs.Names.{app_given, asm_given, disasm_given}
 use Rattle.mb_tools_fleet.specs.FleetWords.{fleet_given}
+use Rattle.mb_tools_shown.specs.Names.{history_given, showimage_given}
 use Rattle.mb_top.specs.declared.table.Command.{Command}
 use Rattle.mb_top.specs.declared.table.Command.TheVariants as command
 use Rattle.mb_top.specs.Top.{command_of}
@@ -14,11 +15,14 @@ use Rattle.mb_top_laws.specs.LoadLaws.{serves}
 use Rattle.mb_top_laws.specs.EndLaws.{CommandsAreDetermined}
 use Rattle.mb_top_laws.proofs.AlikeSteps.{Alike, whole_alike}
 use Rattle.mb_top_laws.proofs.AlikeCommands.{keygen_alike, sign_alike, countersign_alike, factory_alike, verify_alike, audit_alike, chain_alike, attach_alike}
-use Rattle.mb_top_laws.proofs.AlikeTools.{migrate_alike, hsskeygen_alike, endorse_alike, endorsed_alike, trust_alike, app_alike, asm_alike, disasm_alike, fleet_alike}
+use Rattle.mb_top_laws.proofs.AlikeTools.{migrate_alike, hsskeygen_alike, endorse_alike, endorsed_alike, trust_alike, app_alike, asm_alike, disasm_alike, fleet_alike, showimage_alike, history_alike}
 use Rattle.mb_top_laws.proofs.AlikeOrders.{cosign_alike, showorder_alike, ordered_alike, showkey_alike, showmaker_alike}
 
 each_alike : (called : Command) (given : List Argument) → serves called ≡ false → Alike (command_of called given) (command_of called given)
 each_alike command.Run given is = absurd (grind (arith, is))
+each_alike command.Rehearse given is = absurd (grind (arith, is))
+each_alike command.Showimage given is = showimage_alike (showimage_given given)
+each_alike command.History given is = history_alike (history_given given)
 each_alike command.Cutat given is = absurd (grind (arith, is))
 each_alike command.Generate given is = absurd (grind (arith, is))
 each_alike command.Verify given is = verify_alike (verify_given given)

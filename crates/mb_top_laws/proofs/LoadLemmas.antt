@@ -42,6 +42,10 @@ use Rattle.mb_tools_app.specs.AssemblyCommands.{AsmNames, DisasmNames, asm, disa
 use Rattle.mb_tools_app.specs.Names.{app_given, asm_given, disasm_given}
 use Rattle.mb_tools_fleet.specs.FleetCommand.{FleetNames, FleetOutcome, all_served, text_too_long, keep_register, fleet}
 use Rattle.mb_tools_fleet.specs.FleetWords.{fleet_given}
+use Rattle.mb_tools_shown.specs.HistoryCommand.{HistoryNames, Finding, has_history, is_untold, history, tell_history}
+use Rattle.mb_tools_shown.specs.ShowimageCommand.{ShowimageNames, showimage, show_device}
+use Rattle.mb_tools_shown.specs.Names.{history_given, showimage_given}
+use Rattle.mb_tools_device.specs.RehearseCommand.{rehearsal}
 use Rattle.mb_tools_device.specs.CutCommand.{CutNames, CutRun, AnyLacksMemory, IsCutRun, IsRehearsed, IsCutServed, cutat, tell_cut}
 use Rattle.mb_tools_device.specs.Names.{run_given, cut_given, generate_given}
 use Rattle.mb_top.specs.declared.table.Command.TheVariants as command
@@ -231,8 +235,29 @@ never_fleet : (names : FleetNames) → NeverLoads (fleet names)
 unfolding fleet NeverLoads
 never_fleet names = λ maker rows listed outcome. never_kept names.register outcome
 
+never_shown : (image : List ℕ) (state : Option State) → NeverLoads (show_device image state)
+unfolding NeverLoads
+never_shown image None = tt
+never_shown image (Some state) = λ pending. tt
+
+never_showimage : (names : ShowimageNames) → NeverLoads (showimage names)
+unfolding showimage NeverLoads
+never_showimage names = λ image. never_shown image.bytes image.state
+
+never_history_told : (finding : Finding) → NeverLoads (tell_history finding)
+unfolding NeverLoads
+never_history_told (has_history chain signer) = tt
+never_history_told (is_untold why) = tt
+
+never_history : (names : HistoryNames) → NeverLoads (history names)
+unfolding history NeverLoads
+never_history names = λ maker bytes finding. never_history_told finding
+
 pub all_load_nothing : (e : Ended) → NothingIsLoaded e
 all_load_nothing e command.Run given is ends = absurd (grind (arith, is))
+all_load_nothing e command.Rehearse given is ends = absurd (grind (arith, is))
+all_load_nothing e command.Showimage given is ends = nothing_is_loaded (showimage (showimage_given given)) at_first e (never_showimage (showimage_given given)) ends
+all_load_nothing e command.History given is ends = nothing_is_loaded (history (history_given given)) at_first e (never_history (history_given given)) ends
 all_load_nothing e command.Cutat given is ends = absurd (grind (arith, is))
 all_load_nothing e command.Generate given is ends = absurd (grind (arith, is))
 all_load_nothing e command.Verify given is ends = nothing_is_loaded (verify (verify_given given)) at_first e (never_verify (verify_given given)) ends
@@ -260,7 +285,7 @@ all_load_nothing e command.Disasm given is ends = nothing_is_loaded (disasm (dis
 
 -- ---- after the last load
 
--- a command that reads no input, loads no board and is not refused
+-- a command that reads no input and loads no board
 unfoldable GoesOn : Command → Type 0
 GoesOn (read input rest) = ⊥
 GoesOn (find {A = A} Is rest) = (value : A) → GoesOn (rest value)
@@ -270,10 +295,11 @@ GoesOn (serve IsServed rest) = (answered : List Answered) (held : Held) → Goes
 GoesOn (rehearse IsRehearsed rest) = ⊥
 GoesOn (write output rest) = GoesOn rest
 GoesOn (print text) = Unit {0}
-GoesOn (refuse line) = ⊥
+GoesOn (refuse line) = Unit {0}
 GoesOn lack = Unit {0}
 
--- such a command has loaded as often as before, and is done, or an output failed, or memory was lacking
+-- such a command has loaded as often as before, and is done, or an output failed, or memory was lacking, or it was
+-- refused
 GoneOn : Past → Ended → Type 0
 GoneOn past e = (e.used.loads ≡ past.used.loads) × ((e.status ≡ 0) ⊎ (5 ≤ e.status))
 
@@ -303,7 +329,8 @@ gone_on (write output rest) past e goes (inr (inr wants)) = wanted past e wants
 gone_on (print text) past e goes (inl (text_is_printed prints same is)) = (loads_as past e same, inl is)
 gone_on (print text) past e goes (inl (text_is_not_printed mid fails stops)) = (loads_as past e stops.used, inr (omega (arith, stops.status_is)))
 gone_on (print text) past e goes (inr wants) = wanted past e wants
-gone_on (refuse line) past e goes ends = absurd goes
+gone_on (refuse line) past e goes (inl stops) = (loads_as past e stops.used, inr (omega (arith, stops.status_is)))
+gone_on (refuse line) past e goes (inr wants) = wanted past e wants
 gone_on lack past e goes stops = (loads_as past e stops.used, inr (omega (arith, stops.status_is)))
 
 input_status : {A : Type 0} (input : Input A) (past : Past) (e : Ended) → InputEnds input past e → 3 ≤ e.status
@@ -342,6 +369,13 @@ unfolding run GoesOn
 run_loads names e ends =
     read_ended OnceLoaded _ _ e (λ image e. read_ended OnceLoaded _ _ e (λ undrawn e. read_ended OnceLoaded _ _ e (λ events e. loaded_ended image.bytes _ e (λ answered held. tt)))) ends
 
+-- ---- `rehearse`
+
+rehearse_loads : (names : RunNames) (e : Ended) → CommandEnds (rehearsal names) at_first e → EndsAfterLoads (e.used.loads ≡ 1) e
+unfolding rehearsal GoesOn
+rehearse_loads names e ends =
+    read_ended OnceLoaded _ _ e (λ image e. read_ended OnceLoaded _ _ e (λ script e. read_ended OnceLoaded _ _ e (λ events e. loaded_ended image.bytes _ e (λ answered held. (tt, λ first. tt))))) ends
+
 -- ---- `generate`
 
 -- what comes after the load
@@ -362,7 +396,11 @@ generate_loads names e (inl it) = loaded_ended it.0.files.image (write_workload 
 generate_loads names e (inr wants) = lacked e wants
 
 pub all_load_once : (e : Ended) → LoadsOnce e
-all_load_once e = record { run = λ given ends. run_loads (run_given given) e ends; generate = λ given ends. generate_loads (generate_given given) e ends }
+all_load_once e = record {
+  run = λ given ends. run_loads (run_given given) e ends;
+  rehearse = λ given ends. rehearse_loads (run_given given) e ends;
+  generate = λ given ends. generate_loads (generate_given given) e ends;
+}
 
 -- ---- `cutat`
 

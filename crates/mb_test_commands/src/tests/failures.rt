@@ -13,6 +13,7 @@ pub const FILES_ARE_MADE: &[Step] = &[
         "events",
         &[Part::Text("boot\nput 2 pin 35363738\ncommand 00\noff\n")],
     ),
+    Step::Writes("obeyed", &[Part::Text("boot\nput 2 pin 35363738\noff\n")]),
     Step::Writes(
         "every",
         &[Part::Text(
@@ -90,6 +91,21 @@ const COMMANDS: &[Access] = &[
         words: "run image events draw",
         reads: &[("image", "image"), ("script", "events"), ("noise", "draw")],
         writes: &[("image", "image")],
+    },
+    Access {
+        words: "rehearse image obeyed draw",
+        reads: &[("image", "image"), ("script", "obeyed"), ("noise", "draw")],
+        writes: &[],
+    },
+    Access {
+        words: "showimage image",
+        reads: &[("image", "image")],
+        writes: &[],
+    },
+    Access {
+        words: "history public0 chain",
+        reads: &[("root", "public0"), ("chain", "chain")],
+        writes: &[],
     },
     Access {
         words: "cutat image events draw 1 00",

@@ -40,9 +40,15 @@ to give orders:
       countersigns as countersign does, if the order line says what the draft says, and else refuses
 
 to serve a device:
+  miniboot showimage IMAGE
+      prints what IMAGE says of its device: serial, configuration number, length of the log, layers, names
+      of secrets, keys, and how often each key can still sign
   miniboot run IMAGE SCRIPT NOISE
       gives the device of IMAGE the events of SCRIPT, writes the new image over IMAGE, and prints a line
       for each reply
+  miniboot rehearse IMAGE SCRIPT NOISE
+      serves SCRIPT on the device of IMAGE and writes no file; prints a line for each reply, without the
+      values of secrets and without statements, and which event was the first that was not obeyed
   miniboot cutat IMAGE SCRIPT NOISE COUNT FILL
       serves SCRIPT on the device of IMAGE, and cuts power in the write with the number COUNT, 1 to 100,000,
       of its last event; prints which state that leaves, and writes no file; FILL is what the write leaves,
@@ -62,6 +68,9 @@ to verify what a device says of itself:
   miniboot verify ROOT CHAIN KEYNUMBER
       verifies the chain under the maker's public key, and lists every configuration of code that could have
       used the key with this number
+  miniboot history ROOT CHAIN
+      verifies the chain under the maker's public key, and tells the device's history entry by entry, with
+      its serial, its keys, and who signed the chain's statement
   miniboot audit IMAGE ROOT CHAIN KEYNUMBER
       verifies the chain, and compares what it lists for the key with the log of the device of IMAGE
   miniboot trust ROOT CHAIN KEYNUMBER POLICY

@@ -1,7 +1,6 @@
-use Rattle.std.proofs.Common.{subst, sym, List}
+use Rattle.std.proofs.Common.{subst, List}
 use Rattle.std.proofs.lemmas.Result.{err_from_is_err_and}
 use Rattle.mb_model.specs.declared.entry.SignedEntry.{SignedEntry}
-use Rattle.mb_model.specs.chains.Acceptance.{AreGood}
 use Rattle.mb_verifier.specs.Checked.{HasBadEntry}
 use Rattle.mb_verifier.specs.Ends.{chain_refusal_of}
 use Rattle.mb_verifier.specs.Entries.{IsEntriesRefused}
