@@ -50,7 +50,9 @@ READERS = {
     chain_readers.CHAINS: chain_readers.chains_tests,
     "crates/mb_test_commands/src/tests/policies.rt": chain_readers.policies_tests,
     "crates/mb_test_lives/src/tests/trusts.rt": chain_readers.chains_tests,
-    "crates/mb_test_commands/src/tests/fleet.rt": chain_readers.fleet_tests,
+    chain_readers.FLEET: chain_readers.fleet_tests,
+    "crates/mb_test_commands/src/tests/enrolments.rt": chain_readers.enrolments_tests,
+    "crates/mb_test_commands/src/tests/trials.rt": app_readers.app_trials,
     "crates/mb_test_commands/src/tests/short_files.rt": chain_readers.short_inputs,
     "crates/mb_test_commands/src/tests/limits.rt": chain_readers.last_entries,
     "crates/mb_test_commands/src/tests/devices.rt": top_readers.plays,
@@ -61,6 +63,7 @@ READERS = {
     "examples/device-life/expected.txt": examples.device_life,
     "examples/outbound/expected.txt": examples.outbound,
     "examples/fleet/expected.txt": examples.fleet_of_devices,
+    "examples/operator/expected.txt": examples.operator,
     "examples/policy/expected.txt": examples.policy,
 }
 

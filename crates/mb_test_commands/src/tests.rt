@@ -3,6 +3,7 @@
 mod applications;
 mod devices;
 mod endorsements;
+mod enrolments;
 mod failures;
 mod fleet;
 mod help;
@@ -13,6 +14,7 @@ mod runs;
 mod short_files;
 mod sign;
 mod statuses;
+mod trials;
 
 use mb_test_plays::{
     A_NEW_DEVICE, A_WHOLE_LIFE, Access, Content, Given, IMAGE, ITS_CHAIN, MAKER, OWNER, Part, Play,

@@ -16,5 +16,5 @@ pub mod sign;
 pub mod verify;
 
 pub use input::chains::AnyBytes;
-pub use input::devices::{Image, read_image};
+pub use input::devices::{CodeForm, Image, read_image};
 pub use input::keys::{Leading, PublicKeyForm};

@@ -42,6 +42,12 @@ commands =
     ∷ row command.Attach (codes "attach") (a_file ∷ a_file ∷ a_file ∷ [])
     -- fleet ROOT REGISTER ITEMS
     ∷ row command.Fleet (codes "fleet") (a_file ∷ a_file ∷ a_file ∷ [])
+    -- register OUT
+    ∷ row command.Register (codes "register") (a_file ∷ [])
+    -- enrol ROOT REGISTER CHAIN
+    ∷ row command.Enrol (codes "enrol") (a_file ∷ a_file ∷ a_file ∷ [])
+    -- devices REGISTER
+    ∷ row command.Devices (codes "devices") (a_file ∷ [])
     -- factory NOISE KEY OWNER CODE IMAGE
     ∷ row command.Factory (codes "factory") (a_file ∷ a_file ∷ a_file ∷ a_file ∷ a_file ∷ [])
     -- keygen NOISE KEY PUBLIC
@@ -60,6 +66,8 @@ commands =
     ∷ row command.Migrate (codes "migrate") (a_file ∷ a_file ∷ [])
     -- app IMAGE LAYER INPUT STEPS
     ∷ row command.App (codes "app") (a_file ∷ a_number 2 3 ∷ a_file ∷ a_number 1 10000000 ∷ [])
+    -- appcode CODE INPUT STEPS
+    ∷ row command.Appcode (codes "appcode") (a_file ∷ a_file ∷ a_number 1 10000000 ∷ [])
     -- asm TEXT OUT
     ∷ row command.Asm (codes "asm") (a_file ∷ a_file ∷ [])
     -- disasm CODE OUT

@@ -4,9 +4,9 @@ use Rattle.mb_model.specs.outside.Board.{not_used}
 use Rattle.mb_model_commands.specs.Commands.{Ended}
 use Rattle.mb_top.specs.Top.{Ends}
 
--- Two words or fewer are no command.
+-- One word, and none, is no command.
 pub record EndCounterExamples (words : List (List ℕ)) (e : Ended) : Type 0 where
   -- the program ends with another status than 2
-  pub status : length words ≤ 2 → e.status ≢ 2 → Ends words e → ⊥
+  pub status : length words ≤ 1 → e.status ≢ 2 → Ends words e → ⊥
   -- the program has loaded the board, or answered an event
-  pub used : length words ≤ 2 → e.used ≢ not_used → Ends words e → ⊥
+  pub used : length words ≤ 1 → e.used ≢ not_used → Ends words e → ⊥

@@ -22,6 +22,9 @@ pub enum Command {
     Chain,
     Attach,
     Fleet,
+    Register,
+    Enrol,
+    Devices,
     Factory,
     Keygen,
     Sign,
@@ -31,6 +34,7 @@ pub enum Command {
     Endorsed,
     Migrate,
     App,
+    Appcode,
     Asm,
     Disasm,
     Generate,
@@ -130,7 +134,7 @@ const TEXT: Word = ("TEXT", Kind::File);
 pub type Row = (Command, &'static str, &'static [Word], &'static str);
 
 /// The commands in the order in which `--help` lists them.
-pub const COMMANDS: [Row; 20] = [
+pub const COMMANDS: [Row; 24] = [
     (
         Command::Run,
         "run",
@@ -191,6 +195,28 @@ pub const COMMANDS: [Row; 20] = [
         "
       serves the items, chains and questions, over a register of the maker's devices, writes the register,
       and prints the answers",
+    ),
+    (
+        Command::Register,
+        "register",
+        &[OUT],
+        "
+      writes a register of no devices, and prints how many that has",
+    ),
+    (
+        Command::Enrol,
+        "enrol",
+        &[ROOT, REGISTER, CHAIN],
+        "
+      shows a register of the maker's devices one chain, writes the register if it changes, and prints the
+      answer",
+    ),
+    (
+        Command::Devices,
+        "devices",
+        &[REGISTER],
+        "
+      lists the devices of a register, with what each has shown last",
     ),
     (
         Command::Factory,
@@ -262,6 +288,14 @@ pub const COMMANDS: [Row; 20] = [
         "
       runs the code of layer 2 or 3 of the device of IMAGE on the bytes of INPUT for at most STEPS steps,
       1 to 10,000,000, and prints how it ends",
+    ),
+    (
+        Command::Appcode,
+        "appcode",
+        &[CODE, INPUT, STEPS],
+        "
+      runs the code on the bytes of INPUT for at most STEPS steps, 1 to 10,000,000, as layer 3 of a device
+      without secrets, and prints how it ends",
     ),
     (
         Command::Asm,

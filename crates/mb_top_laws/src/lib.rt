@@ -1,4 +1,4 @@
-//! Laws of the twenty commands together.
+//! Laws of all commands together.
 //!
 //! This crate owns what holds of each row of the table of `mb_top`, by its definition alone. No command calls it.
 #![tactic(auto)]

@@ -28,6 +28,13 @@ usage:
   miniboot fleet ROOT REGISTER ITEMS
       serves the items, chains and questions, over a register of the maker's devices, writes the register,
       and prints the answers
+  miniboot register OUT
+      writes a register of no devices, and prints how many that has
+  miniboot enrol ROOT REGISTER CHAIN
+      shows a register of the maker's devices one chain, writes the register if it changes, and prints the
+      answer
+  miniboot devices REGISTER
+      lists the devices of a register, with what each has shown last
   miniboot factory NOISE KEY OWNER CODE IMAGE
       makes a device of this owner and code from the noise, signs its birth by the maker's key, writes
       that key with one more index used and the device's image, and prints the device's serial
@@ -54,6 +61,9 @@ usage:
   miniboot app IMAGE LAYER INPUT STEPS
       runs the code of layer 2 or 3 of the device of IMAGE on the bytes of INPUT for at most STEPS steps,
       1 to 10,000,000, and prints how it ends
+  miniboot appcode CODE INPUT STEPS
+      runs the code on the bytes of INPUT for at most STEPS steps, 1 to 10,000,000, as layer 3 of a device
+      without secrets, and prints how it ends
   miniboot asm TEXT OUT
       assembles the text, writes its code, and prints how many bytes that has
   miniboot disasm CODE OUT
