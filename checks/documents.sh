@@ -1,38 +1,45 @@
 #!/usr/bin/env bash
-# What the documents say of the tree. Each link in the pages at the top, of docs/, of peers/ and of crates leads to a
-# file that is there, and to a heading if it names one; the name in backquotes that a link to definitions or code shows
-# is defined in that file, or is the file's own; each path in backquotes that begins in a folder of the repository is
-# there, and so is each file of code that is named by its end; no line but that of a table has over 120 columns; each
-# row of a crate's page, its README.md, names public calls of the crate, and clauses that these calls have, and so does
-# what the page has that they do not say; each clause of each public call has a row there, but for those that the table
-# of common clauses in docs/believe/crates.md has; the table of crates in docs/change/architecture.md has a row for each
-# crate and for nothing else, and names those on which each stands as crates.txt does; the first block of
-# docs/use/commands.md is the text that a test expects of --help, and the version that CHANGELOG.md names is the one that
-# it expects of --version; each block of a tutorial in docs/start/ stands in an example, and each line in its tables is
-# listed, with its status, in docs/use/commands.md or docs/use/formats.md; the figure of the layers of crates is that of
-# crates.txt; each file of definitions that a clause of `top` reaches is named in a section of
-# docs/believe/definitions.md, and the counts of such files and their lines there and in docs/believe/theorem.md are
-# right within a tenth. A method of a trait is a call of the type that implements it if it has clauses of its own there.
-# Prints a line for each that is wrong, and nothing if none is.
+# What the documents say of the tree, and what is made of it: documents.sh [--write].
+#
+# Of crates.txt are made the tables of crates in docs/change/architecture.md and docs/believe/crates.md, and the figure
+# of their layers; of the text that a test expects of --help the first block of docs/use/commands.md, and the man page
+# and the completions in packaging/. With --write these are written; without it each has to be as it would be written.
+#
+# Besides, each link in the pages at the top, of docs/, of packaging/, of peers/ and of crates leads to a file that is
+# there, and to a heading if it names one; the name in backquotes that a link to definitions or code shows is defined in
+# that file, or is the file's own; each path in backquotes that begins in a folder of the repository is there, and so is
+# each file of code that is named by its end; no line but that of a table has over 120 columns; each row of a crate's
+# page, its README.md, names public calls of the crate, and clauses that these calls have, and so does what the page has
+# that they do not say; each clause of each public call has a row there, but for those that the table of common clauses
+# in docs/believe/crates.md has; each crate has a line in crates.txt, with what it owns above it; the tables of commands
+# in docs/use/commands.md and docs/believe/statuses.md, and the lists of commands in peers/commands.py, checks/fuzz,
+# checks/hostile and mb_test_commands have the commands of --help, with as many words and the same files; the version
+# that CHANGELOG.md names is the one that a test expects of --version, and that of the library's header and of its crate
+# for Rust; each block of a tutorial in docs/start/ stands in an example, and each line in its tables is listed, with its
+# status, in docs/use/commands.md or docs/use/formats.md; each file of definitions that a clause of `top` reaches is
+# named in a section of docs/believe/definitions.md, and the counts of such files and their lines there and in
+# docs/believe/theorem.md are right within a tenth. A method of a trait is a call of the type that implements it if it
+# has clauses of its own there. Prints a line for each that is wrong, and nothing if none is.
 set -u
 cd "$(dirname "$0")/.." || exit 2
 
-python3 -B - <<'PYTHON'
+python3 -B - "$@" <<'PYTHON'
 import itertools
 import pathlib
 import re
-import subprocess
 import sys
 
 sys.path.insert(0, "checks")
 import believed
+import crates
 import tutorials
+import usage
 from definitions import names_of
 
 LINK = re.compile(r"\[[^\]]*\]\(([^)\s]+)\)")
 NAMED = re.compile(r"\[`([^`\]]+)`\]\(([^)\s#]+\.(?:antt|rt))\)")
 ITEM = re.compile(r"^\s*(?:pub )?(?:const )?(?:fn|struct|enum|trait|const|type) (\w+)", re.M)
-PATH = re.compile(r"`((?:crates|docs|checks|examples|bench|library|peers|\.ci)/[A-Za-z0-9_./-]+)`")
+PATH = re.compile(r"`((?:crates|docs|checks|examples|bench|library|packaging|peers|\.ci)/[A-Za-z0-9_./-]+)`")
 CODE = re.compile(r"`([a-z_/]+\.rt)`")
 WIDEST = 120
 HEADER = re.compile(r"^(?:pub )?(?:unsafe )?(impl|trait)\b(.*)")
@@ -40,6 +47,10 @@ CALL = re.compile(r'^\s*(pub )?(?:const )?(?:extern "C" )?fn ([a-z_0-9]+)')
 CLAUSE = re.compile(r"^\s*ensures (?:([a-z_0-9]+) )?\{")
 UNNAMED = "its one clause"
 COMMON = "common clause"
+LIBRARY_VERSIONS = {
+    "library/include/mb_library.h": r'^#define MB_LIBRARY_VERSION "([\d.]+)"$',
+    "library/rust/Cargo.toml": r'^version = "([\d.]+)"$',
+}
 
 CODES = [path.as_posix() for path in pathlib.Path("crates").glob("*/src/**/*.rt")]
 
@@ -224,91 +235,62 @@ def check_unsaid(path, crate):
 def check_proved(shared):
     """Whether each clause of each public call has a row, in the page of its crate."""
     told, common = {}, set()
-    crates = sorted(p for p in pathlib.Path("crates").iterdir() if (p / "src").is_dir())
+    folders = sorted(p for p in pathlib.Path("crates").iterdir() if (p / "src").is_dir())
     check_rows(shared, None, told, common)
-    for crate in crates:
+    for crate in folders:
         page = crate / "README.md"
         if page.exists():
             check_rows(page, crate.name, told, common)
             check_unsaid(page, crate.name)
         else:
             report(page, 0, "the crate has no page")
-    for crate in crates:
+    for crate in folders:
         for name, clauses in sorted(calls_of(crate).items()):
             for clause in sorted(clauses - told.get((crate.name, name), set()) - common):
                 report(crate / "README.md", 0, f"{name} has no row for {clause}")
 
 
-# ---- the table of crates
+# ---- what is made, and the version
 
-def crates_listed(path):
-    """The crates of a list of crates, with those on which each stands."""
-    rows = (line.split("#")[0].partition(":") for line in path.read_text().splitlines())
-    return {name.split()[0]: set(others.split()) for name, colon, others in rows if colon}
-
-
-def check_crates(path):
-    crates = {p.name for p in pathlib.Path("crates").iterdir() if (p / "src").is_dir()}
-    listed = crates_listed(pathlib.Path("crates.txt"))
-    inside, rows = False, {}
-    for number, line in enumerate(path.read_text().splitlines(), 1):
-        if line.startswith("## "):
-            inside = line == "## The crates"
-        elif inside and line.startswith("|") and "---" not in line:
-            name = cells_of(line)[0].strip("`")
-            if name == "crate":
-                continue
-            rows[name] = number
-            if set(re.findall(r"`(\w+)`", cells_of(line)[-1])) != listed.get(name, set()):
-                report(path, number, f"{name} stands on others by crates.txt")
-    for name, number in rows.items():
-        if name not in crates:
-            report(path, number, f"no crate {name}")
-    for name in sorted(crates - set(rows)):
-        report(path, 1, f"no row for the crate {name}")
+def check_made():
+    """Whether each file that is made of crates.txt or of the text of --help is as it would be made now. With --write it
+    is made."""
+    for path, text in [*crates.made(), *usage.made()]:
+        standing = path.read_text() if path.exists() else ""
+        if standing == text:
+            continue
+        if WRITE:
+            path.parent.mkdir(exist_ok=True)
+            path.write_text(text)
+            continue
+        pairs = itertools.zip_longest(standing.splitlines(), text.splitlines())
+        number, line = next((number, line) for number, (old, line) in enumerate(pairs, 1) if old != line)
+        report(path, number, f"checks/documents.sh --write makes this line {line or 'nothing'!r}")
 
 
-def check_layers(script, figure):
-    """Whether the figure of the layers is what its script draws of crates.txt."""
-    drawn = subprocess.run([sys.executable, "-B", script], capture_output=True, text=True)
-    for line in drawn.stderr.splitlines():
-        report(script, 1, line)
-    if drawn.returncode == 0 and drawn.stdout != figure.read_text():
-        report(figure, 1, f"{script} draws another figure")
-
-
-# ---- what --help and --version print
-
-def block_of(text):
-    """The lines of the first indented block of a page."""
-    block = re.search(r"^    .*\n(?:(?:    .*)?\n)*", text, re.M)[0]
-    return [line[4:] for line in block.rstrip().splitlines()]
-
-
-def check_help(page, changes, test):
-    """Whether a page shows the text, and the changes name the version, that the test expects the program to print."""
-    expected = dict(re.findall(r'^const ([A-Z]+): &str = "([^"]*)";', test.read_text(), re.M))
-    for shown, printed in itertools.zip_longest(block_of(page.read_text()), expected["HELP"].splitlines()):
-        if shown != printed:
-            report(page, 1, f"--help prints the line {printed!r}, and the page shows {shown!r}")
-            break
+def check_version(changes):
+    """Whether the changes name the version that the test expects the program to print."""
     version = re.search(r"The current version is ([\d.]+),", changes.read_text())
-    if not version or f"miniboot {version[1]}\\n" != expected["VERSION"]:
-        report(changes, 1, f"--version prints {expected['VERSION']}, and the current version is another")
+    if not version or f"miniboot {version[1]}" != usage.printed()[1]:
+        report(changes, 1, f"--version prints {usage.printed()[1]}, and the current version is another")
+    for path, pattern in LIBRARY_VERSIONS.items():
+        shown = re.search(pattern, pathlib.Path(path).read_text(), re.M)
+        if not version or not shown or shown[1] != version[1]:
+            report(path, 1, "the version is another than the current one of CHANGELOG.md")
 
 
-documents = [page for folder in (".", "peers") for page in sorted(pathlib.Path(folder).glob("*.md"))]
+WRITE = sys.argv[1:] == ["--write"]
+if sys.argv[1:] and not WRITE:
+    sys.exit("usage: checks/documents.sh [--write]")
+check_made()
+documents = [page for folder in (".", "packaging", "peers") for page in sorted(pathlib.Path(folder).glob("*.md"))]
 documents += [*sorted(pathlib.Path("docs").rglob("*.md")), *sorted(pathlib.Path("crates").glob("*/README.md"))]
 for document in documents:
     check_links(document)
 check_proved(pathlib.Path("docs/believe/crates.md"))
-check_crates(pathlib.Path("docs/change/architecture.md"))
-check_layers(pathlib.Path("docs/figures/layers.py"), pathlib.Path("docs/figures/layers.svg"))
-check_help(
-    pathlib.Path("docs/use/commands.md"),
-    pathlib.Path("CHANGELOG.md"),
-    pathlib.Path("crates/mb_test_commands/src/tests/help.rt"),
-)
+for path, number, what in [*crates.faults(), *usage.faults()]:
+    report(path, number, what)
+check_version(pathlib.Path("CHANGELOG.md"))
 for tutorial in sorted(set(pathlib.Path("docs/start").glob("*.md")) - {pathlib.Path("docs/start/kit.md")}):
     for number, what in tutorials.faults_of(tutorial.read_text()):
         report(tutorial, number, what)

@@ -1,12 +1,12 @@
 #!/usr/bin/env bash
 # Gives the built program spoilt files for some seconds, outside the gate: checks/fuzz.sh SECONDS [SEED [PROGRAM]].
 # Images, scripts with orders and noise, chains, statements, drafts, order lines, key files, public keys, codes, makers'
-# files, endorsements, policies, assembler texts, registers and their items, for each of the commands: mostly near what is
-# valid, with a field, a bit or a word changed, cut, repeated or exchanged, a body or an entry changed and
-# signed anew, numbers at their limits, devices with odd areas, slots, trusts and work left to be done, outputs that
-# cannot be written. Each call has to end with the status, the lines and the files that peers/commands.py predicts. It
-# prints how many cases it tried, by command and status, by line, by reply, by answer of a register and by state that a
-# power loss leaves; it keeps each case that differs in a folder that it names, and then ends with status 1.
+# files, endorsements, policies, assembler texts, registers and their items, for each command: mostly near what is
+# valid, with a field, a bit or a word changed, cut, repeated or exchanged, a body or an entry changed and signed anew,
+# numbers at their limits, devices with odd areas, slots, trusts and work left to be done, outputs that cannot be
+# written. Each call has to end with the status, the lines and the files that peers/commands.py predicts. It prints how
+# many cases it tried, by command and status, by line, by reply, by answer of a register and by state that a power loss
+# leaves; it keeps each case that differs in a folder that it names, and then ends with status 1.
 #
 # The same SEED gives the same cases; without one, the time is the seed. checks/fuzz.sh --case NUMBER SEED [PROGRAM]
 # tries one of them again. Keys and devices are made once, in about half a minute, and kept in ~/.cache/miniboot-fuzz.

@@ -1,12 +1,14 @@
 #!/usr/bin/env bash
 # The library of crates/mb_library as programs get it, which no proof sees: builds the archive over what `rt ci` has left,
-# by both compilers; compares what each defines and needs with checks/library/symbols.txt; links it into programs without
-# a C library; and calls it from C (also with sanitizers on the caller), C++, Python and Rust on values of another program
-# in checks/library/vectors: a signature of each of the twenty pairs of types, HSS, a chain, and policies, with changed
-# bits; and with each allocation failing in turn. checks/library.sh [FOLDER] takes a library that library/build.sh has
-# built there in place of both. The archive by LLVM stays in library/out, for examples/library. Prints a line for each
-# thing that was tried, and tells on standard error what was not, since a tool is not there, and what was wrong; ends with
-# status 1 if anything was.
+# by both compilers; compares what each defines and needs with checks/library/symbols.txt; compiles the header in old and
+# new C; links the archive into programs without a C library; and calls it from C (also with sanitizers on the caller),
+# C++, Python and Rust on values of another program in checks/library/vectors: a signature of each of the twenty pairs of
+# types, HSS, a chain, and policies, with changed bits; and with each allocation failing in turn. The callers that
+# docs/use/library.md shows are run as they stand there. The archive by Rattle's own compiler, of which that page says
+# so, has to answer also if interrupts are served on its stack. checks/library.sh [FOLDER] takes a library that
+# library/build.sh has built there in place of both. The archive by LLVM stays in library/out, for examples/library. Prints
+# a line for each thing that was tried, and tells on standard error what was not, since a tool is not there, and what was
+# wrong; ends with status 1 if anything was.
 set -u
 export LC_ALL=C
 cd "$(dirname "$0")/.." || exit 2
@@ -44,8 +46,18 @@ symbols() {
         nm -g --defined-only "$archive" | awk 'NF == 3 { print $2, $3 }'
         nm -gu "$archive" | awk '$1 == "U" && $2 !~ /^rattle_/ { print $1, $2 }'
     } | sort -u >"$work/symbols"
-    diff <(awk -v by="$name" '!/^#/ && (NF == 2 || by != "rattle") { print $1, $2 }' "$here/symbols.txt") \
+    diff <(awk -v by="$backend" '!/^#/ && (NF == 2 || by != "rattle") { print $1, $2 }' "$here/symbols.txt") \
         "$work/symbols" && echo "as listed"
+}
+
+# Compiles the header by this compiler, in each edition of C.
+compile_header() {
+    local edition
+    echo '#include "mb_library.h"' >"$work/header.c"
+    for edition in c99 c11 c17; do
+        "$1" -std="$edition" -Wall -Wextra -Wpedantic -Werror -I "$folder/include" -fsyntax-only "$work/header.c" || return
+    done
+    echo "C99, C11 and C17"
 }
 
 # Compiles a caller in C with these words, and runs it on the vectors: call_c COMPILER FLAG..
@@ -60,6 +72,11 @@ int main() { return mb_lms_verdict((const uint8_t *)"", 0, (const uint8_t *)"", 
         >"$work/caller.cpp" &&
         "$1" -std=c++17 -Wall -Wextra -pedantic -Werror -I "$folder/include" "$work/caller.cpp" "$archive" -o "$work/caller" &&
         "$work/caller" && echo "the header and a call"
+}
+
+serve_interrupts() {
+    "$1" -std=c11 -O1 -mno-red-zone -fno-builtin -fno-stack-protector -Wall -Wextra -Werror -I "$folder/include" \
+        "$here/interrupts.c" "$archive" -Wl,-z,now -o "$work/interrupts" && "$work/interrupts" "$vectors/lms.txt"
 }
 
 fail_allocations() {
@@ -98,13 +115,59 @@ call_rust() {
             cargo test --offline --quiet) && echo "each function, and eight threads"
 }
 
-# Tries the library in `folder`, by this compiler's name.
+# The first block in this language of the page on the library.
+block() {
+    awk -v begin="\`\`\`$1" '$0 == "```" { if (on) exit } on { print } $0 == begin { on = 1 }' docs/use/library.md
+}
+
+# Leaves the key, text and signature of the first line of these vectors as files in the folder `page`.
+leave_files() {
+    local words names=(verdict key text signature) i
+    read -ra words < <(grep -m 1 '^1 ' "$vectors/$1")
+    for i in 1 2 3; do
+        # shellcheck disable=SC2001,SC2059
+        printf "$(sed 's/../\\x&/g' <<<"${words[i]}")" >"$work/page/${names[i]}" || return
+    done
+}
+
+# The page's caller in C, with the flags that pkg-config tells.
+page_c() {
+    local flags
+    block c >"$work/page/update.c" && leave_files lms.txt &&
+        read -ra flags < <(PKG_CONFIG_PATH=$folder/lib/pkgconfig pkg-config --cflags --libs mb_library) &&
+        (cd "$work/page" && "$1" update.c "${flags[@]}" && ./a.out key text signature && ! ./a.out key key signature) &&
+        echo "as the page has it"
+}
+
+page_rust() {
+    mkdir -p "$work/page/src" && block rust >"$work/page/src/main.rs" && (
+        printf '[package]\nname = "page"\nedition = "2021"\n\n[dependencies]\nmb_library = { path = "%s" }\n' \
+            "$PWD/library/rust" >"$work/page/Cargo.toml"
+        cd "$work/page" && MB_LIBRARY=$folder CARGO_TARGET_DIR=$work/target cargo run --offline --quiet -- \
+            "$vectors/maker" "$vectors/chain" | diff - "$vectors/listing"
+    ) && echo "as the page has it"
+}
+
+page_python() {
+    block python >"$work/page/page.py" && leave_files hss.txt && (
+        cd "$work/page" && "$1" -shared -o libmb_library.so \
+            -Wl,--whole-archive "$folder/lib/libmb_library.a" -Wl,--no-whole-archive &&
+            [ "$(python3 -B page.py key text signature)" = verifies ] &&
+            [ "$(python3 -B page.py key key signature)" = 'does not verify' ]
+    ) && echo "as the page has it"
+}
+
+# Tries the library in `folder`, under this name.
 try_library() {
     local name=$1 compiler='' tool
     archive=$folder/lib/libmb_library.a
+    backend=llvm
+    if grep -q '^flags .*--backend rattle' "$folder/lib/libmb_library.txt"; then backend=rattle; fi
+    rm -rf "$work/page" && mkdir "$work/page"
     for tool in gcc clang; do
         if has "$tool"; then
             [ -n "$compiler" ] || compiler=$tool
+            try "$name, the header by $tool" compile_header "$tool"
             try "$name, C by $tool" call_c "$tool" -O2
         fi
     done
@@ -117,27 +180,38 @@ try_library() {
     try "$name, failing allocations" fail_allocations "$compiler"
     if [ "$(uname -sm)" = 'Linux x86_64' ]; then
         try "$name, without a C library" run_alone "$compiler"
-        # the other compiler puts all code into one section
-        [ "$name" = rattle ] || try "$name, without a C library and a heap" run_signatures_alone "$compiler"
+        # the other compiler puts all code into one section, and keeps nothing below the stack pointer
+        if [ "$backend" = rattle ]; then
+            try "$name, interrupts on its stack" serve_interrupts "$compiler"
+        else
+            try "$name, without a C library and a heap" run_signatures_alone "$compiler"
+        fi
     else
-        echo "this is not Linux on x86-64: skipped programs without a C library" >&2
+        echo "this is not Linux on x86-64: skipped programs without a C library, and interrupts" >&2
     fi
-    if has python3; then try "$name, Python" call_python "$compiler"; fi
-    if has cargo; then try "$name, Rust" call_rust; fi
+    if has pkg-config; then try "$name, the page's caller in C" page_c "$compiler"; fi
+    if has python3; then
+        try "$name, Python" call_python "$compiler"
+        try "$name, the page's caller in Python" page_python "$compiler"
+    fi
+    if has cargo; then
+        try "$name, Rust" call_rust
+        try "$name, the page's caller in Rust" page_rust
+    fi
 }
 
 if [ $# -gt 0 ]; then
     folder=$(realpath -m -- "$1")
     try_library "${1##*/}"
 elif has rt; then
-    for backend in llvm rattle; do
-        folder=$work/$backend
-        [ "$backend" = rattle ] || folder=$PWD/library/out
-        if library/build.sh --over-gate "$folder" --backend "$backend"; then
-            try_library "$backend"
+    for name in llvm rattle; do
+        folder=$work/$name
+        [ "$name" = rattle ] || folder=$PWD/library/out
+        if library/build.sh --over-gate "$folder" --backend "$name"; then
+            try_library "$name"
         else
             failed=$((failed + 1))
-            echo "$backend: the library was not built" >&2
+            echo "$name: the library was not built" >&2
         fi
     done
 fi

@@ -16,7 +16,7 @@ need() {
 find_program() {
     program=$(realpath -m -- "${1:-$(dirname "${BASH_SOURCE[0]}")/../crates/miniboot/out/miniboot}")
     if [ ! -x "$program" ]; then
-        echo "$program is not there: examples/device-life/run.sh builds the program" >&2
+        echo "$program is not there: examples/first-run/run.sh builds the program" >&2
         exit 1
     fi
 }

@@ -40,6 +40,14 @@ ask() {
     [ "$status" -eq 0 ] || echo "    status $status"
 }
 
+# Writes the draft of an order, and shows its lines: draft NAME LINE..
+draft() {
+    local name=$1
+    shift
+    printf '%s\n' "$@" >"$name.draft"
+    echo "  $name.draft: $(paste -s -d ';' "$name.draft" | sed 's/;/; /g')"
+}
+
 # Gives a device these events, and shows each beside its reply. An order is given by the name of its file.
 serve() {
     local image=$1 event

@@ -1,9 +1,10 @@
 #!/usr/bin/env bash
 # Builds the library of crates/mb_library: library/build.sh [--over-gate] FOLDER [FLAG..]. It proves the crate and those
-# below it where that is not done yet, and puts into FOLDER lib/libmb_library.a, include/mb_library.h and
-# lib/pkgconfig/mb_library.pc. The flags are those of `rt lib`, as `--cpu x86-64` for code that runs on any x86-64, or
-# `--backend rattle` for the compiler that is written in Rattle. With --over-gate it takes the crates below as `rt ci` has
-# left them, which `rt lib` would prove again, and proves this crate alone, once for all calls.
+# below it where that is not done yet, and puts into FOLDER lib/libmb_library.a, include/mb_library.h,
+# lib/pkgconfig/mb_library.pc, and lib/libmb_library.txt: of which version, commit and kit the archive is, with which
+# flags it was built, and its checksum. The flags are those of `rt lib`, as `--cpu x86-64` for code that runs on any
+# x86-64, or `--backend rattle` for the compiler that is written in Rattle. With --over-gate it takes the crates below as
+# `rt ci` has left them, which `rt lib` would prove again, and proves this crate alone, once for all calls.
 set -euo pipefail
 export LC_ALL=C
 
@@ -57,6 +58,8 @@ build_over_gate() {
     done
     of_build+=(--crate-checked out/checked --toolchain "$kit/toolchain" -o out/libmb_library.a)
     of_check+=(--logic-built "$kit/logic_built" --jobs "${JOBS:-$(nproc)}" -o out/checked)
+    # where `rt ci` took what it had kept, it leaves no such folder
+    mkdir -p "$crate/out"
     # what was checked before serves if nothing has changed since
     [ -d "$crate/out/checked" ] && run "$kit/bin/rattle" build "${words[@]}" "${of_build[@]}" 2>/dev/null && return
     rm -rf "$crate/out/checked"
@@ -71,12 +74,30 @@ else
     run rt lib "$@"
 fi
 
+# the three calls of the heap, over malloc, for a program that does not define them; the kit has them for x86-64 alone
+cp "$crate/out/libmb_library.a" "$work/libmb_library.a"
+if [[ "$*" != *--target* || "$*" == *x86_64-unknown-linux-gnu* ]]; then
+    (cd "$work" && "$kit/toolchain/bin/llvm-ar" x "$kit/c/liblibc_c.a" heap.pic.o &&
+        "$kit/toolchain/bin/llvm-ar" rs libmb_library.a heap.pic.o)
+fi
+
+# Of what the archive is, a line for each thing.
+describe() {
+    local commit
+    commit=$(git -C "$top" rev-parse HEAD 2>/dev/null || echo unknown)
+    if [ -n "$(git -C "$top" status --porcelain -- crates crates.txt library 2>/dev/null)" ]; then
+        commit="$commit, with changes"
+    fi
+    echo "version $version"
+    echo "commit $commit"
+    echo "kit $(rt version)"
+    echo "flags ${*:-none}"
+    echo "sha256 $(sha256sum <"$folder/lib/libmb_library.a" | cut -d ' ' -f 1)"
+}
+
 version=$(sed -n 's/.*The current version is \([0-9.]*\),.*/\1/p' "$top/CHANGELOG.md")
 mkdir -p "$folder/lib/pkgconfig" "$folder/include"
-# the three calls of the heap, over malloc, for a program that does not define them
-(cd "$work" && cp "$crate/out/libmb_library.a" . && "$kit/toolchain/bin/llvm-ar" x "$kit/c/liblibc_c.a" heap.pic.o &&
-    "$kit/toolchain/bin/llvm-ar" rs libmb_library.a heap.pic.o)
 cp "$work/libmb_library.a" "$folder/lib/libmb_library.a"
 cp "$top/library/include/mb_library.h" "$folder/include/mb_library.h"
-sed -e "s|@PREFIX@|$folder|" -e "s|@VERSION@|$version|" "$top/library/mb_library.pc.in" \
-    >"$folder/lib/pkgconfig/mb_library.pc"
+sed "s|@VERSION@|$version|" "$top/library/mb_library.pc.in" >"$folder/lib/pkgconfig/mb_library.pc"
+describe "$@" >"$folder/lib/libmb_library.txt"

@@ -19,6 +19,7 @@ import hss
 import images
 import machine
 import policies
+import shown
 import texts
 import workload
 from chains import LONGEST_FILE, Ended, Reader, Unformed
@@ -192,9 +193,42 @@ def countersign(call, key, layer, order, out):
     given = call.text("order", order, texts.read_order_line)
     if not can_take(given, m):
         raise Ended(7, "not countersignable")
-    signature = take_index(call, key, file).sign(file[2], u8(2) + u8(m) + given.body)
-    call.write("out", out, order_line(countersigned(given, m, signature).spelled()))
+    return add_countersignature(call, key, file, given, m, out)
+
+
+def add_countersignature(call, key, file, given, layer, out):
+    signature = take_index(call, key, file).sign(file[2], u8(2) + u8(layer) + given.body)
+    call.write("out", out, order_line(countersigned(given, layer, signature).spelled()))
     return [f"index {file[2]}"]
+
+
+def cosign(call, key, layer, order, draft, out):
+    m = number(layer, 2, 3)
+    file = call.record("key", key, read_key_file)
+    given = call.text("order", order, texts.read_order_line)
+    drafted = call.text("draft", draft, texts.read_draft)
+    if not can_take(given, m):
+        raise Ended(7, "not countersignable")
+    if drafted != given.body:
+        raise Ended(7, "differs")
+    return add_countersignature(call, key, file, given, m, out)
+
+
+def showorder(call, order):
+    return shown.lines_of(call.text("order", order, texts.read_order_line))
+
+
+def ordered(call, public, order):
+    key = call.record("public", public, Reader.key)
+    names = shown.names_of(key, call.text("order", order, texts.read_order_line))
+    if not names:
+        raise Ended(7, "refused 29")
+    return names
+
+
+def showkey(call, key):
+    identifier, seed, used = call.record("key", key, read_key_file)
+    return [f"owner {sha256(key_of(identifier, seed).public()).hex()}", f"next {used}", f"left {SPENT - used}"]
 
 
 def factory(call, noise, key, owner, code, image):
@@ -353,6 +387,12 @@ def hsskeygen(call, noise, levels, key, public):
     return [f"maker {sha256(spelled).hex()}"]
 
 
+def showmaker(call, key):
+    maker, used = call.record("key", key, read_maker)
+    left = 32**maker.levels - used
+    return [f"maker {sha256(maker.public()).hex()}", f"levels {maker.levels}", f"next {used}", f"left {left}"]
+
+
 def endorse(call, key, root, out):
     maker, used = call.record("key", key, read_maker)
     spelled = call.record("root", root, Reader.key)
@@ -430,9 +470,14 @@ COMMANDS = {
     "keygen": (keygen, 3),
     "sign": (sign, 3),
     "countersign": (countersign, 4),
+    "cosign": (cosign, 5),
+    "showorder": (showorder, 1),
+    "ordered": (ordered, 2),
+    "showkey": (showkey, 1),
     "migrate": (migrate, 2),
     "generate": (generate, 5),
     "hsskeygen": (hsskeygen, 4),
+    "showmaker": (showmaker, 1),
     "endorse": (endorse, 3),
     "endorsed": (endorsed, 3),
     "trust": (policies.trust, 4),

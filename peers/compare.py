@@ -16,6 +16,7 @@ import sys
 import app_readers
 import chain_readers
 import examples
+import order_readers
 import party_readers
 import pieces
 import readers
@@ -58,6 +59,7 @@ READERS = {
     "crates/mb_test_commands/src/tests/devices.rt": top_readers.plays,
     "crates/mb_test_commands/src/tests/keys.rt": top_readers.plays,
     "crates/mb_test_commands/src/tests/sign.rt": top_readers.signed_orders,
+    "crates/mb_test_commands/src/tests/shown.rt": order_readers.answered,
     "crates/mb_test_lives/src/tests/workloads.rt": readers.workloads,
     "crates/miniboot/stdout": readers.stored_run,
     "examples/device-life/expected.txt": examples.device_life,
@@ -65,6 +67,8 @@ READERS = {
     "examples/fleet/expected.txt": examples.fleet_of_devices,
     "examples/operator/expected.txt": examples.operator,
     "examples/policy/expected.txt": examples.policy,
+    "examples/orders/expected.txt": examples.orders,
+    "examples/endorsement/expected.txt": examples.endorsement,
 }
 
 

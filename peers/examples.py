@@ -1,12 +1,14 @@
 #!/usr/bin/env python3
-"""What examples/device-life, examples/outbound, examples/policy, examples/fleet and examples/operator show: their
-scripts are followed line by line, over files that are all made here.
+"""What examples/device-life, examples/outbound, examples/policy, examples/fleet, examples/operator, examples/orders and
+examples/endorsement show: their scripts are followed line by line, over files that are all made here.
 
     examples.py device-life >examples/device-life/expected.txt
     examples.py outbound >examples/outbound/expected.txt
     examples.py fleet >examples/fleet/expected.txt
     examples.py operator >examples/operator/expected.txt
     examples.py policy >examples/policy/expected.txt
+    examples.py orders >examples/orders/expected.txt
+    examples.py endorsement >examples/endorsement/expected.txt
 
 Each line of a script's steps has one of a few forms.
 """
@@ -17,6 +19,7 @@ import re
 import shlex
 import sys
 
+import commands
 import fleet
 from chain_readers import Served, World
 from lms import sha256, verify
@@ -227,11 +230,30 @@ class Steps(World):
             return b"\7" * int(words[0])
         if command == "shows":
             return b"".join(fleet.shows(self.devices[name].chain()) for name in words[0].split())
+        if command == "head":
+            count, name = re.fullmatch(r"-c (\d+) (\S+)", words[0]).groups()
+            return self.files[name][: int(count)]
+        if command == "tail":
+            first, name = re.fullmatch(r"-c \+(\d+) (\S+)", words[0]).groups()
+            return self.files[name][int(first) - 1 :]
         name, first, end = words[0].split()
         return self.content(name)[int(first) : int(end)]
 
     def zeros(self, count, name):
         self.files[name] = bytes(int(count))
+
+    def factory_key(self, name, octal):
+        self.files["noise"] = bytes([int(octal, 8)]) * 32
+        self.ask(f"keygen noise {name}.key {name}.public")
+
+
+class Predicted(Steps):
+    """The files of an example of commands that serve no device, which `commands.py` predicts."""
+
+    def answer(self, words):
+        answer = commands.answer(words, commands.Folder(self.files))
+        self.files |= answer.written
+        return answer.status, answer.text
 
 
 FORMS = [
@@ -249,18 +271,22 @@ FORMS = [
     (r"keep_statement (\w+)", Steps.keep_statement),
     (r"enrolled ([\w ]+)", Steps.enrolled),
     (r"table_of_codes", Steps.table_of_codes),
-    (r"hash_of (\w+) (\w+)", Steps.hash_of),
+    (r"hash_of ([\w.]+) ([\w.]+)", Steps.hash_of),
     (r"ask (.*)", Steps.ask),
     (r"miniboot (.*)", Steps.miniboot),
     (r"cp (\w+) (\w+)", Steps.copy),
     (r"head -c (\d+) /dev/zero >(\w+)", Steps.zeros),
+    (r"factory_key (\w+) (\d)", Steps.factory_key),
     (r"\{ (.*) \} >(\w+)", Steps.write),
-    (r"((?:bytes|printf|sevens|part) .*) >([\w.]+)", Steps.write),
+    (r"((?:bytes|printf|sevens|part|head) .*) >([\w.]+)", Steps.write),
 ]
+
+# how the steps of an example are followed that makes no device
+WITHOUT_DEVICE = {"orders": Predicted, "endorsement": Predicted}
 
 
 def followed(root, example):
-    steps = Steps()
+    steps = WITHOUT_DEVICE.get(example, Steps)()
     for statement in statements((root / "examples" / example / "run.sh").read_text()):
         steps.follow(statement)
     return steps
@@ -286,6 +312,14 @@ def fleet_of_devices(source):
 
 def operator(source):
     compare_shown(source, followed(source.root, "operator"))
+
+
+def orders(source):
+    compare_shown(source, followed(source.root, "orders"))
+
+
+def endorsement(source):
+    compare_shown(source, followed(source.root, "endorsement"))
 
 
 def policy(source):

@@ -1,23 +1,40 @@
 /*
- * Verification by the library beside the plain verifier, in processor time: measure FILE, of lines VERDICT KEY TEXT
- * SIGNATURE. For each line, and for all, the least of seven rounds of twenty calls.
+ * Verifies signatures on request, and tells how long that took: measure FILE, of lines VERDICT KEY TEXT SIGNATURE in
+ * hexadecimal, all of which verify. A key of 56 bytes is one of LMS, and one of 60 of HSS. To a line ROW CALLS of standard
+ * input, with rows from 0, it verifies that row so many times, and prints the nanoseconds of processor time that the calls
+ * took and how many hashes, which the plain verifier alone counts. With -DPLAIN it has that one, and else the library.
  */
 #define _POSIX_C_SOURCE 200809L
-#include "mb_library.h"
-#include "plain.h"
-
 #include <stdio.h>
 #include <stdlib.h>
 #include <string.h>
 #include <time.h>
 
-enum { ROUNDS = 7, CALLS = 20 };
+#ifdef PLAIN
+#include "plain.h"
+#define LMS_VERIFY plain_lms_verify
+#define HSS_VERIFY plain_hss_verify
+#else
+#include "mb_library.h"
+#define LMS_VERIFY mb_lms_verify
+#define HSS_VERIFY mb_hss_verify
+static long plain_hashes;
+#endif
 
-static double seconds(void)
+enum { ROWS = 64, LMS_KEY = 56, HSS_KEY = 60 };
+
+struct signed_text {
+    uint8_t *key, *text, *signature;
+    size_t key_length, text_length, signature_length;
+};
+
+static struct signed_text rows[ROWS];
+
+static long long nanoseconds(void)
 {
     struct timespec time;
     clock_gettime(CLOCK_PROCESS_CPUTIME_ID, &time);
-    return (double)time.tv_sec + (double)time.tv_nsec * 1e-9;
+    return time.tv_sec * 1000000000LL + time.tv_nsec;
 }
 
 static uint8_t *bytes_of(const char *word, size_t *length)
@@ -32,62 +49,47 @@ static uint8_t *bytes_of(const char *word, size_t *length)
     return bytes;
 }
 
-typedef bool verifier(const uint8_t *, const uint8_t *, size_t, const uint8_t *, size_t);
-
-static uint8_t *key, *text, *signature;
-static size_t key_length, text_length, signature_length;
-
-/* The time of a call, in seconds. */
-static double time_of(verifier *verify)
+static int read_rows(FILE *file)
 {
-    double begun = seconds();
-    for (int i = 0; i < CALLS; i++) {
-        if (!verify(key, text, text_length, signature, signature_length)) {
-            puts("a signature does not verify");
-            exit(1);
+    char *line = NULL;
+    size_t room = 0;
+    int count = 0;
+    while (count < ROWS && getline(&line, &room, file) > 0) {
+        struct signed_text *row = &rows[count++];
+        strtok(line, " ");
+        row->key = bytes_of(strtok(NULL, " \n"), &row->key_length);
+        row->text = bytes_of(strtok(NULL, " \n"), &row->text_length);
+        row->signature = bytes_of(strtok(NULL, " \n"), &row->signature_length);
+        if (row->key_length != LMS_KEY && row->key_length != HSS_KEY) {
+            return 0;
         }
     }
-    return (seconds() - begun) / CALLS;
+    free(line);
+    return count;
+}
+
+static bool verify(const struct signed_text *row)
+{
+    return (row->key_length == LMS_KEY ? LMS_VERIFY : HSS_VERIFY)(row->key, row->text, row->text_length, row->signature,
+                                                                  row->signature_length);
 }
 
 int main(int count, char **words)
 {
     FILE *file = count == 2 ? fopen(words[1], "r") : NULL;
-    if (!file) {
-        return 2;
-    }
-    char *line = NULL;
-    size_t room = 0;
-    double proved = 0, plain = 0;
-    long hashes = 0;
-    puts("tree chains  hashes  library       plain C       times");
-    while (getline(&line, &room, file) > 0) {
-        if (line[0] == '#') {
-            continue;
-        }
-        strtok(line, " ");
-        key = bytes_of(strtok(NULL, " \n"), &key_length);
-        text = bytes_of(strtok(NULL, " \n"), &text_length);
-        signature = bytes_of(strtok(NULL, " \n"), &signature_length);
-        double by_library = 1e9, by_plain = 1e9;
+    int last = file ? read_rows(file) : 0, row;
+    long calls;
+    while (last && scanf("%d %ld", &row, &calls) == 2 && row >= 0 && row < last) {
+        long long began = nanoseconds();
         plain_hashes = 0;
-        time_of(plain_verify);
-        long taken = plain_hashes / CALLS;
-        for (int round = 0; round < ROUNDS; round++) {
-            double time = time_of(mb_lms_verify);
-            by_library = time < by_library ? time : by_library;
-            time = time_of(plain_verify);
-            by_plain = time < by_plain ? time : by_plain;
+        for (long i = 0; i < calls; i++) {
+            if (!verify(&rows[row])) {
+                fprintf(stderr, "row %d does not verify\n", row);
+                return 1;
+            }
         }
-        printf("%d    %d      %7ld  %8.1f us  %8.1f us  %6.2f\n", key[3], key[7], taken, by_library * 1e6, by_plain * 1e6,
-               by_library / by_plain);
-        proved += by_library;
-        plain += by_plain;
-        hashes += taken;
-        free(key);
-        free(text);
-        free(signature);
+        printf("%lld %ld\n", nanoseconds() - began, plain_hashes);
+        fflush(stdout);
     }
-    printf("all          %7ld  %8.1f us  %8.1f us  %6.2f\n", hashes, proved * 1e6, plain * 1e6, proved / plain);
-    return 0;
+    return last ? 0 : 2;
 }

@@ -36,8 +36,12 @@ static int digit(const uint8_t *bytes, int at, int width)
     return bytes[at * width / 8] >> (8 - width - at * width % 8) & ((1 << width) - 1);
 }
 
-bool plain_verify(const uint8_t key[56], const uint8_t *text, size_t text_length, const uint8_t *signature,
-                  size_t signature_length)
+/* What the types of a key give (RFC 8554, sections 4.1 and 5.1). */
+struct types {
+    int height, width, count, shift;
+};
+
+static bool types_of(const uint8_t key[56], struct types *types)
 {
     static const int heights[] = {5, 10, 15, 20, 25}, widths[] = {1, 2, 4, 8}, counts[] = {265, 133, 67, 34};
     static const int shifts[] = {7, 6, 4, 0};
@@ -45,10 +49,26 @@ bool plain_verify(const uint8_t key[56], const uint8_t *text, size_t text_length
     if (tree < 5 || tree > 9 || chains < 1 || chains > 4) {
         return false;
     }
-    int height = heights[tree - 5], width = widths[chains - 1], count = counts[chains - 1], last = (1 << width) - 1;
+    *types = (struct types){heights[tree - 5], widths[chains - 1], counts[chains - 1], shifts[chains - 1]};
+    return true;
+}
+
+static size_t length_of(const struct types *types)
+{
+    return (size_t)(44 + 32 * types->count + 32 * types->height);
+}
+
+bool plain_lms_verify(const uint8_t key[56], const uint8_t *text, size_t text_length, const uint8_t *signature,
+                      size_t signature_length)
+{
+    struct types types;
+    if (!types_of(key, &types) || signature_length != length_of(&types)) {
+        return false;
+    }
+    int height = types.height, width = types.width, count = types.count, last = (1 << width) - 1;
     const uint8_t *path = signature + 44 + 32 * count;
-    if (signature_length != (size_t)(44 + 32 * count + 32 * height) || number_at(signature + 4) != chains
-        || number_at(path - 4) != tree || number_at(signature) >= 1u << height) {
+    if (memcmp(signature + 4, key + 4, 4) != 0 || memcmp(path - 4, key, 4) != 0
+        || number_at(signature) >= 1u << height) {
         return false;
     }
     uint32_t leaf = number_at(signature);
@@ -66,7 +86,7 @@ bool plain_verify(const uint8_t key[56], const uint8_t *text, size_t text_length
     for (int i = 0; i < 256 / width; i++) {
         sum += (uint32_t)(last - digit(digits, i, width));
     }
-    sum <<= shifts[chains - 1];
+    sum <<= types.shift;
     digits[32] = (uint8_t)(sum >> 8);
     digits[33] = (uint8_t)sum;
 
@@ -100,4 +120,29 @@ bool plain_verify(const uint8_t key[56], const uint8_t *text, size_t text_length
         hash(node, pair, 86);
     }
     return memcmp(node, key + 24, 32) == 0;
+}
+
+bool plain_hss_verify(const uint8_t key[60], const uint8_t *text, size_t text_length, const uint8_t *signature,
+                      size_t signature_length)
+{
+    uint32_t levels = number_at(key);
+    const uint8_t *end = signature + signature_length;
+    if (levels < 1 || levels > 8 || signature_length < 4 || number_at(signature) != levels - 1) {
+        return false;
+    }
+    key += 4;
+    signature += 4;
+    for (uint32_t level = 1; level < levels; level++) {
+        struct types types;
+        if (!types_of(key, &types) || (size_t)(end - signature) < length_of(&types) + 56) {
+            return false;
+        }
+        const uint8_t *below = signature + length_of(&types);
+        if (!plain_lms_verify(key, below, 56, signature, length_of(&types))) {
+            return false;
+        }
+        key = below;
+        signature = below + 56;
+    }
+    return plain_lms_verify(key, text, text_length, signature, (size_t)(end - signature));
 }

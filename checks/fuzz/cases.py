@@ -33,9 +33,14 @@ SHARES = {
     "keygen": 2,
     "sign": 7,
     "countersign": 7,
+    "cosign": 7,
+    "showorder": 5,
+    "ordered": 7,
+    "showkey": 2,
     "migrate": 7,
     "generate": 2,
     "hsskeygen": 2,
+    "showmaker": 2,
     "endorse": 5,
     "endorsed": 8,
     "trust": 9,
@@ -503,19 +508,51 @@ class Maker(Tools):
             draft = spoil.spoilt_text(rng, draft)
         return ["key", "draft", "out"], {"key": self.key_file(), "draft": draft}
 
-    def countersign(self):
-        rng = self.rng
+    def some_load(self):
+        """An order, mostly a load, and mostly without its countersignatures."""
         order = self.some_order()
         for _ in range(3):
             order = order if order.is_load else self.some_order()
-        beside = () if chance(rng, 0.6) else order.countersignatures
-        bytes_ = dataclasses.replace(order, countersignatures=beside).spelled()
+        beside = () if chance(self.rng, 0.6) else order.countersignatures
+        return dataclasses.replace(order, countersignatures=beside)
+
+    def line_of(self, order):
+        """The line of an order, now and then spoilt."""
+        rng, bytes_ = self.rng, order.spelled()
         if chance(rng, 0.2):
             bytes_ = spoil.spoilt_record(rng, bytes_, read_whole_order)
         line = b"command " + hexadecimal(bytes_) + rng.choice((b"\n", b"\n", b""))
-        line = spoil.spoilt_text(rng, line) if chance(rng, 0.12) else line
-        layer = rng.choice((2, 3, 3, 3)) if chance(rng, 0.95) else rng.choice(("1", "4", "0", "02"))
-        return ["key", str(layer), "order", "out"], {"key": self.key_file(), "order": line}
+        return spoil.spoilt_text(rng, line) if chance(rng, 0.12) else line
+
+    def cosigner(self):
+        rng = self.rng
+        return str(rng.choice((2, 3, 3, 3)) if chance(rng, 0.95) else rng.choice(("1", "4", "0", "02")))
+
+    def countersign(self):
+        files = {"key": self.key_file(), "order": self.line_of(self.some_load())}
+        return ["key", self.cosigner(), "order", "out"], files
+
+    def cosign(self):
+        rng, order = self.rng, self.some_load()
+        draft = self.draft_of(order if chance(rng, 0.8) else self.some_load())
+        for _ in range(rng.choice((0, 0, 0, 1, 1, 2))):
+            draft = spoil.spoilt_text(rng, draft)
+        files = {"key": self.key_file(), "order": self.line_of(order), "draft": draft}
+        return ["key", self.cosigner(), "order", "draft", "out"], files
+
+    def showorder(self):
+        return ["order"], {"order": self.line_of(self.some_order(*self.rng.choice(((), (11,), (12,), (13,), (14,)))))}
+
+    def ordered(self):
+        """An order for a device, and the key of one of its owners."""
+        rng, life = self.rng, self.life()
+        state = rng.choice(life.states)
+        order = self.pool.order(rng, state, rng.choice(((), (), (12,), (13,), (14,))))
+        owners = [layer.owner for layer in state.judged.layers if layer.owner]
+        return ["public", "order"], {"public": self.public(rng.choice(owners)), "order": self.line_of(order)}
+
+    def showkey(self):
+        return ["key"], {"key": self.key_file()}
 
     # ---- the rest
 

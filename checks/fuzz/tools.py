@@ -65,12 +65,16 @@ class Tools:
         levels = rng.choice(("0", "9", "01", "-1", "x")) if rng.random() < 0.1 else str(rng.randrange(1, 9))
         return ["noise", levels, "key", "public"], {"noise": noise}
 
-    def endorse(self):
-        rng = self.rng
+    def makers_bytes(self):
         maker, number = self.makers_file()
         file = maker.file(number)
-        file = spoil.spoilt_record(rng, file, commands.read_maker) if rng.random() < 0.15 else file
-        return ["key", "root", "out"], {"key": file, "root": self.root()}
+        return spoil.spoilt_record(self.rng, file, commands.read_maker) if self.rng.random() < 0.15 else file
+
+    def showmaker(self):
+        return ["key"], {"key": self.makers_bytes()}
+
+    def endorse(self):
+        return ["key", "root", "out"], {"key": self.makers_bytes(), "root": self.root()}
 
     def endorsed(self):
         rng, root = self.rng, self.root()

@@ -85,6 +85,15 @@ SIGN = Command("sign key draft out", (("key", "key"), ("draft", "draft")), (("ke
 COUNTERSIGN = Command(
     "countersign key 3 order out", (("key", "key"), ("order", "order")), (("key", "key"), ("out", "out"))
 )
+COSIGN = Command(
+    "cosign key 3 order draft out",
+    (("key", "key"), ("order", "order"), ("draft", "draft")),
+    (("key", "key"), ("out", "out")),
+)
+SHOWORDER = Command("showorder order", (("order", "order"),))
+ORDERED = Command("ordered owner order", (("public", "owner"), ("order", "order")))
+SHOWKEY = Command("showkey key", (("key", "key"),))
+SHOWMAKER = Command("showmaker maker", (("key", "maker"),))
 MIGRATE = Command("migrate image out", (("image", "image"),), (("out", "out"),))
 GENERATE = Command("generate 1 1 new events draws", (), (("image", "new"), ("script", "events"), ("noise", "draws")))
 HSSKEYGEN = Command("hsskeygen noise 2 made public", (("noise", "noise"),), (("key", "made"), ("public", "public")))
@@ -111,7 +120,11 @@ DEVICES = Command("devices register", (("register", "register"),))
 APPCODE = Command("appcode halting input 100", (("code", "halting"), ("input", "input")))
 LEAST_NOISE = {RUN: 32, CUTAT: 32, FACTORY: 48, KEYGEN: 32, HSSKEYGEN: 32}
 # those whose short inputs end as peers/commands.py predicts
-PREDICTED = HSSKEYGEN, ENDORSE, ENDORSED, TRUST, APP, ASM, DISASM, FLEET, REGISTER, ENROL, DEVICES, APPCODE
+PREDICTED = (
+    *(HSSKEYGEN, ENDORSE, ENDORSED, TRUST, APP, APPCODE, ASM, DISASM),
+    *(FLEET, REGISTER, ENROL, DEVICES),
+    *(COSIGN, SHOWORDER, ORDERED, SHOWKEY, SHOWMAKER),
+)
 COMMANDS = (
     *(RUN, CUTAT, VERIFY, AUDIT, CHAIN, ATTACH, FACTORY, KEYGEN, SIGN, COUNTERSIGN, MIGRATE, GENERATE),
     *PREDICTED,
@@ -233,7 +246,7 @@ def long_inputs(files):
 
 def ends_of_longest(command, role):
     """The end of a command whose input goes on to the most bytes, or None if peers/commands.py predicts it."""
-    if (command, role) == (ENDORSE, "key"):
+    if command in (ENDORSE, SHOWMAKER) and role == "key":
         return (3, "input key at 45\n")
     if role in ("key", "root", "owner"):
         return (3, f"input {role} at 56\n")

@@ -5,79 +5,32 @@
 #
 #     run.sh               proves and builds the program first, and names each crate that is proved
 #     run.sh PROGRAM       takes a program that is built
-#     run.sh --unproved    compiles the program without proving anything, and has it verify the chain of step 10
 #
 # What expected.txt has of keys, the device, the seven orders, the life and its chain was made by another program, and
-# peers/run.sh makes all of it anew by a third; maker.txt and attached.txt are files of step 10, for --unproved. The
-# life of step 8 is that program's alone. The refusals and the power losses follow from docs/use/commands.md and
-# docs/use/formats.md: of the refusals 11, 12 and 13 the first that applies is given; an event in which power fails is
-# answered `stopped`, and the next boot does what was left to be done; and an order's records count from the write of
-# the root's selector on, so that the first write leaves the state before it.
+# peers/run.sh makes all of it anew by a third; maker.txt and attached.txt are files of step 10, in hexadecimal, for
+# those who verify a chain and make nothing. The life of step 8 is that program's alone. The refusals and the power
+# losses follow from docs/use/commands.md and docs/use/formats.md: of the refusals 11, 12 and 13 the first that applies
+# is given; an event in which power fails is answered `stopped`, and the next boot does what was left to be done; and an
+# order's records count from the write of the root's selector on, so that the first write leaves the state before it.
 #
 # The noise is known here, so that the same keys can be made; people take bytes that nobody can guess, as
 # `head -c 32 /dev/urandom` gives them. Works from any current folder; beside the build in crates/*/out/ it writes in a
 # temporary folder alone, which it removes, or in the new folder that KEEP_IN names.
 set -euo pipefail
 export LC_ALL=C
-usage="usage: examples/device-life/run.sh [--unproved | PROGRAM]"
+usage="usage: examples/device-life/run.sh [PROGRAM]"
 
 here=$(cd "$(dirname "${BASH_SOURCE[0]}")" && pwd)
 # shellcheck source=../begin.sh
 . "$here/../begin.sh"
 
-if [ $# -gt 1 ]; then
+if [ $# -gt 1 ] || [[ "${1-}" == -* ]]; then
     echo "$usage" >&2
     exit 2
 fi
 need cut diff grep head od paste sed sha256sum tr uniq
 
-# Writes the bytes of a file of hexadecimal words, whose SHA-256 hash expected.txt has: unpack NAME FILE
-unpack() {
-    printf '%b' "$(tr -d '\n' <"$here/$1.txt" | sed 's/../\\x&/g')" >"$2"
-    if ! grep -q "$(sha256sum <"$2" | cut -d ' ' -f 1)" "$here/expected.txt"; then
-        echo "$1.txt is not the file whose hash expected.txt has" >&2
-        return 1
-    fi
-}
-
-# Verifies the chain of step 10 by a program that is compiled without a proof.
-verify_unproved() {
-    local words=(verify maker.public attached 1)
-    unpack maker "$work/maker.public"
-    unpack attached "$work/attached"
-    echo "Compiling the program without proving anything, in about a minute. Such a build runs slowly .."
-    (cd "$crate" && rt try --seconds 900 --data maker.public="$work/maker.public" --data attached="$work/attached" \
-        -- "${words[@]}") >"$work/printed" 2>"$work/try.log" || {
-        status=$?
-        cat "$work/printed" "$work/try.log" >&2
-        echo "the program ended with status $status" >&2
-        return 1
-    }
-    echo "Which code said 'hello'? Whoever trusts the maker's key alone asks the chain of a device, at step 10:"
-    echo "  \$ miniboot ${words[*]}"
-    sed -E 's/^/    /; s/([0-9a-f]{8})[0-9a-f]{8,}/\1../g' "$work/printed"
-    if ! sed -n '/verify maker.public attached 1$/,/^$/ s/^    //p' "$here/expected.txt" | diff - "$work/printed" >&2; then
-        echo "this is not what expected.txt says at step 10" >&2
-        return 1
-    fi
-}
-
-if [ "${1-}" = --unproved ]; then
-    echo "This build is NOT PROVED: it shows how the program is used, and nothing about what it guarantees."
-    verify_unproved
-    echo "As expected, by a build that is NOT PROVED. Run it without --unproved for one that is."
-    exit 0
-fi
-
 find_or_build "$@"
-
-# Writes the draft of an order, and shows its lines: draft NAME LINE..
-draft() {
-    local name=$1
-    shift
-    printf '%s\n' "$@" >"$name.draft"
-    echo "  $name.draft: $(paste -s -d ';' "$name.draft" | sed 's/;/; /g')"
-}
 
 # Has the owner in charge sign a draft, and others countersign the order: signed NAME OFFICER [LAYER OFFICER]..
 signed() {
@@ -245,4 +198,10 @@ echo "Making keys, a device and orders, which takes a moment .." >&2
     echo
     the_audit
 } >told
+for file in maker.public attached; do
+    if [ "$(hex <"$file")" != "$(tr -d '\n' <"$here/${file%.public}.txt")" ]; then
+        echo "$file is not what examples/device-life/${file%.public}.txt has" >&2
+        exit 1
+    fi
+done
 compare_told "$here"

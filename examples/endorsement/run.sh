@@ -25,30 +25,32 @@ factory_key() {
 the_maker() {
     echo "The maker makes an HSS key of two levels, which can endorse 1,024 root keys:"
     bytes 000102030405060708090a0b0c0d0e0f101112131415161718191a1b1c1d1e1f >noise
-    ask hsskeygen noise 2 maker.key maker.public
+    ask hsskeygen noise 2 hss.key hss.public
     echo "Its factories in the north and in the south make a root key each, and so does somebody else:"
     factory_key north 1
     factory_key south 2
     factory_key other 3
     echo "It endorses those of its factories:"
-    ask endorse maker.key north.public north.endorsement
-    ask endorse maker.key south.public south.endorsement
+    ask endorse hss.key north.public north.endorsement
+    ask endorse hss.key south.public south.endorsement
     hash_of north.endorsement north.endorsement
     hash_of south.endorsement south.endorsement
+    echo "It sees how many endorsements are left:"
+    ask showmaker maker.key
 }
 
 the_buyer() {
-    echo "A buyer trusts one file, maker.public. With a device from the north comes the root key of its factory:"
-    ask endorsed maker.public north.public north.endorsement
+    echo "A buyer trusts one file, hss.public. With a device from the north comes the root key of its factory:"
+    ask endorsed hss.public north.public north.endorsement
     echo "The endorsement of the other factory is none of this key:"
-    ask endorsed maker.public north.public south.endorsement
+    ask endorsed hss.public north.public south.endorsement
     echo "Somebody else's root key has no endorsement, and borrows one:"
-    ask endorsed maker.public other.public north.endorsement
+    ask endorsed hss.public other.public north.endorsement
     echo "An endorsement that tells of one level, where the key has two, is refused, and so is one that lacks its end:"
     { head -c 3 north.endorsement; printf '\0'; tail -c +5 north.endorsement; } >spoilt
-    ask endorsed maker.public north.public spoilt
+    ask endorsed hss.public north.public spoilt
     head -c 4755 north.endorsement >shorter
-    ask endorsed maker.public north.public shorter
+    ask endorsed hss.public north.public shorter
 }
 
 cd "$work"

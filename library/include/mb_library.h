@@ -5,12 +5,16 @@
  * No proof covers the caller. Of each call it guarantees:
  *
  * - Pointers. A pointer with a length names that many bytes, and one to an array or to a struct the whole of it. They
- *   can be read, and those that are not const written; nobody else writes them during the call. No pointer is null, not
- *   even with length 0, and no length reaches 2^63. What is written overlaps nothing else that the call is given, and a
- *   struct is aligned.
+ *   can be read, and those that are not const written; nobody else writes them during the call, not even a device. No
+ *   pointer is null, not even with length 0, and no length reaches 2^63. What is written overlaps nothing else that the
+ *   call is given. Bytes may stand at any address, and a struct is aligned.
  * - Stack. 8 KiB for signatures, and 64 KiB for mb_chain_verify and mb_trust. Nothing checks that it is there.
+ * - Calling convention. That of the System V ABI for x86-64: so the stack is aligned to 16 bytes, and the code may keep
+ *   values in the 128 bytes below the stack pointer, the red zone. A system that serves interrupts on the stack which
+ *   they interrupt must not serve any during a call. Code that is built with `--backend rattle` keeps nothing there.
  * - Processor. The archive is built for x86-64-v2 (SSE4.2), and does not check for it. Built with `--cpu x86-64` it runs
- *   on any x86-64; it then still uses SSE registers, so what has no operating system enables them first.
+ *   on any x86-64, and with `--cpu x86-64-v3` on one with AVX2, where it is faster. All use SSE registers, and the last
+ *   AVX registers, so what has no operating system enables them first.
  * - Memory. mb_chain_verify and mb_trust take memory by rattle_alloc, rattle_realloc and rattle_dealloc, and have given
  *   all of it back when they return. The archive has these three over malloc, realloc and free, which come from one
  *   allocator and align to 16. A program without malloc defines the three itself: examples/library has them. So these
@@ -38,6 +42,9 @@
 #ifdef __cplusplus
 extern "C" {
 #endif
+
+/* The version of the library of which this header is. */
+#define MB_LIBRARY_VERSION "0.2.0"
 
 /* The length of a public key of LMS and of HSS, and the most bytes of a chain and of a policy. */
 #define MB_LMS_KEY_LENGTH 56

@@ -201,7 +201,8 @@ Does seen it next values machine outcome = ⊥
 -- ---- one step
 
 -- One step, with the traps in their order: no instruction stands at the place, or the one there finds too few values,
--- or it would leave more than `STACK_LIMIT`, or it does what it does with the values that it takes.
+-- or it would leave more than `STACK_LIMIT`, or it does what it does with the values that it takes. A step is a
+-- relation with a case for each row of the machine's table; the code has no second engine.
 pub data AppStep (seen : Surroundings) (machine : AppState) (outcome : StepOutcome) : Type 0 where
   unknown : ((it : Instruction) (next : ℕ) → Stands seen.code machine.place it next → ⊥)
       → outcome ≡ traps trap.NoInstruction → AppStep seen machine outcome

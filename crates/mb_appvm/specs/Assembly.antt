@@ -166,7 +166,8 @@ pub record AreRight (lines front : List (List ℕ)) (said : List Said) : Type 0 
   pub short : sum_by size_of said ≤ CODE_LIMIT
 
 -- The line with this number, from 1, is the first that is wrong: the lines before it are right, and with it they are
--- not.
+-- not. The lines before it are right among all lines of the text: a line may name a label that a later one gives. So
+-- this is no `first wrong line` of a grammar.
 pub record FailsAssembly (lines : List (List ℕ)) (line_number : ℕ) : Type 0 where
   pub before : List (List ℕ)
   pub line : List ℕ

@@ -28,7 +28,8 @@ RunsTo seen machine steps (suc more) ending =
     (outcome : StepOutcome) × AppStep seen machine outcome
     × LeadsOn (λ next. RunsTo seen next (steps + 1) more ending) machine outcome (steps + 1) ending
 
--- the running layer may read this region: it is 2 or 3, not below the layer, and names a layer that may run
+-- The running layer may read this region: it is 2 or 3, not below the layer, and names a layer that may run. The layer
+-- that runs may be any number: one below 2 may read what 2 may, and one above 3 nothing.
 abbrev pub is_readable : Layers → ℕ → ℕ → Bool
 is_readable layers layer region = is_upper region && (nat_le layer region && is_runnable layers region)
 

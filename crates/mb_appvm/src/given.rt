@@ -1,4 +1,5 @@
-//! The lines of a text, and the text after them, each with a table of the labels that it gives.
+//! The lines of a text, and the text after them, each with a table of the labels that it gives. The text after the first
+//! line that says nothing is read on for its labels alone, since a jump of a line before it may name one.
 
 ghost use Rattle.std.specs.Prelude.{◌≡◌, ◌↔◌, ◌<◌, ◌==◌, length, IsTrue, Some, MatchOption, IfOk};
 ghost use Rattle.std.specs.List.{list_any, position_from};

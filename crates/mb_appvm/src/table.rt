@@ -1,4 +1,5 @@
-//! A table of labels, so that no question walks over the lines of a text.
+//! A table of labels, so that no question walks over the lines of a text. It is a map, and no list that is sorted once: a
+//! sort by the label alone would lose which of two lines with one label is the first.
 
 ghost use Rattle.std.specs.Prelude.{◌≡◌, ℕ, List, None, IfOk, OnOk};
 ghost use Rattle.mb_appvm.specs.Labels.{line_at, IsAdded, AreOfLines, AreOfText, HasMore};

@@ -3,7 +3,7 @@
 ghost use Rattle.std.specs.Prelude.{◌≡◌};
 ghost use Rattle.mb_appvm.specs.Application.{trap_number};
 
-/// Why a run stops before its `halt`.
+/// Why a run stops before its `halt`. It is an enum, since no type would say of a number that it is 1 to 8.
 #[derive(Clone, Copy, Debug, PartialEq, Eq)]
 pub enum Trap {
     /// No instruction stands at the place: an unknown code, a bad name, or bytes past the code's end.

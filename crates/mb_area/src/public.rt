@@ -193,6 +193,9 @@ fn write_both<B: Board>(b: &mut B, area: u8, room: &mut Room) -> Result<(), Stop
 /// Writes what the room holds: the code of a load into the slot of its layer that the current header does not name, or
 /// into slot 1 if it names none, and then the header into the other header area. The contents of the memory stay,
 /// wherever power fails. There are at most two write calls for each sector, and none if its bytes stand there already.
+/// `contents` follows from `agree` and `ran`, and is what this call promises; without it, it would be a lemma on a
+/// lower crate at every crate above. So it is with `contents` of `write_log`, and with `besides` and `means` of a
+/// commit.
 pub fn write_public<S: Reaches<One>, B: Board>(s: S, b: &mut B, room: &mut Room) -> Result<S, Off>
     requires up { IsUp S.stage (B.seen b.old) }
     requires header { HasSomeHeader (B.seen b.old).memory }

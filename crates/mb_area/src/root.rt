@@ -124,7 +124,8 @@ fn settled_root(root: &Root) -> Root
 
 /// Commits the root record that says that nothing is pending. Both fates have been applied, and the inactive header
 /// area counts every entry as signed. If power fails, this root record or the one before is current. There are at most
-/// two write calls.
+/// two write calls. Its condition is a premise of its clauses (`Finishes`), and no `requires`: so it stands once, and a
+/// caller shows it where it uses them.
 #[tactic(auto, using(crate::proofs::Rooted::root_finished, crate::proofs::Rooted::finished_or_kept, crate::proofs::Rooted::finished_means, crate::proofs::Rooted::settled_allowed))]
 pub fn finish_root<B: Board>(u: Unsettled, b: &mut B, room: &mut Room) -> Result<Unwiped, Off>
     requires up { IsUp 1 (B.seen b.old) }

@@ -14,7 +14,8 @@ use std::alloc::Global;
 use std::marker::Model;
 
 /// The bytes of a memory of whole sectors, and a copy of them from when they were last kept. Keeping them copies only
-/// the sectors that were written since.
+/// the sectors that were written since. A range in place of a flag for each sector would copy everything after a write
+/// at each end.
 #[derive(Drop)]
 pub struct Bank {
     bytes: Vec<u8>,

@@ -94,7 +94,8 @@ pub trait Board: Register {
         ensures stopped { OnErr result ((seen self.old).meter.armed ≡ true) };
 
     /// Loads an image, the flash followed by the battery-backed memory, and the events to hand out. Takes room for all
-    /// answers. If an allocation fails, the board is as before.
+    /// answers. If an allocation fails, the board is as before. One clause says so of all that the board shows; a
+    /// clause each for memory, events and counts would leave the level out.
     fn load(&mut self, alloc: Global, image: &[u8], events: Events) -> Result<(), NoMemory>
         requires image { length image.now ≡ IMAGE_LENGTH }
         requires count { length events ≤ EVENT_LIMIT }

@@ -41,7 +41,8 @@ unsigned_count header = count_of header.first + count_of header.second
 
 -- Who signs the unsigned entry at a place, 0 or 1? The device key does with the index that it used last. If a key gives
 -- way, this key signs the first entry with the index that it used last, and the device key the second with its first
--- index.
+-- index. `StoredLog` says it of the list of unsigned entries, for those who ask which log a memory means; a boot signs
+-- one at a time, so this says it of a place. `made_one` and `made_two` (`Completed`) show that both say the same.
 abbrev pub signer_by : KeySeed → ℕ → Option Outgoing → ℕ → Signer
 signer_by device uses None place = record { key = device; index = uses - 1 }
 signer_by device uses (Some outgoing) place =

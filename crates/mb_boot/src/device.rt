@@ -201,7 +201,8 @@ fn give_up<B: Board>(up: Up<R1>, b: &mut B) -> Off
 /// There are at most 15 write calls, and 70,946 hashes.
 ///
 /// Errors: `Zeroised` exactly if the device is dead; `Stopped` if power failed; `NoMemory` if an allocation failed,
-/// before anything was written.
+/// before anything was written. It has three clauses in place of `ran`: it ends at three levels, and at two of its
+/// errors power did not fail.
 #[tactic(auto, using(crate::proofs::Booted::live_from, crate::proofs::Booted::dead_from, crate::proofs::Booted::alive_from, crate::proofs::Booted::state_kept_from, crate::proofs::Booted::cleans_from, crate::proofs::Booted::quiet_from, crate::proofs::Booted::state_same, crate::proofs::Booted::same_quiet, crate::proofs::Booted::loaded_as))]
 pub fn boot<B: Board, L: Ledger>(
     alloc: Global,

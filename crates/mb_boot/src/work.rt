@@ -167,7 +167,7 @@ fn write_signed<B: Board, L: Ledger>(
 /// Does the pending work: applies the fates of the regions, and signs each unsigned entry once. The memory has to mean
 /// a state that a device can have. It means the same state wherever power fails, and afterwards nothing is pending. The
 /// sectors of the log that the header before counts keep their bytes. There are at most 12 write calls, and 70,946
-/// hashes.
+/// hashes. Not public: `boot` and `finish_order` alone call it, and their clauses say what is left.
 #[tactic(auto, using(crate::proofs::Settled::some_root, crate::proofs::Settled::only_root, crate::proofs::Settled::live_still, mb_model_memory::proofs::HoldingLemmas::contents_keep, crate::proofs::Settled::finish_keeps, mb_model_memory::proofs::HoldingLemmas::keeps_then, crate::proofs::Settled::settled))]
 pub(crate) fn settle<B: Board, L: Ledger>(
     u: Unsettled,

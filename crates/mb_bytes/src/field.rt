@@ -171,8 +171,8 @@ fn item_at<F: Field, E: ReadMemoryError>(
     }
 }
 
-/// Reads `count` values, one after another. The list has its own error type: it allocates memory, which its items may
-/// not do.
+/// Reads `count` values, one after another. The list has an error type of its own, since its items may be read without
+/// memory and a list never is.
 pub fn items_at<F: Field, E: ReadMemoryError>(
     alloc: Global,
     needs: F::Needs,

@@ -26,7 +26,9 @@ enum Taken {
     Ended(OrderEnd),
 }
 
-/// An order that is read while its bytes come in pieces.
+/// An order that is read while its bytes come in pieces. The bytes are kept, and surveyed anew at each piece: that
+/// takes no memory, skips the bytes of keys, code and signatures, and costs some forty steps for the largest order. A
+/// state for each field would need a relation between each state and the rest of the format.
 #[derive(Drop)]
 pub struct OrderReader {
     taken: Taken,
@@ -105,7 +107,9 @@ impl OrderReader {
     /// Takes the next piece of the order's bytes.
     ///
     /// Errors: `BadText` exactly if the pieces so far fail as an order at this offset whatever bytes follow; and
-    /// `NoMemory`. After an error each later call answers the same error.
+    /// `NoMemory`. After an error each later call answers the same error. A field fails at its beginning as soon as its
+    /// first bytes settle that it fails; if whole fields were waited for, the answer would depend on how the bytes are
+    /// cut.
     pub fn feed(&mut self, piece: &[u8]) -> Result<(), OrderEnd>
         ensures answers { (fed : List ℕ) → WasFed self.old fed → Feeds (fed ++ piece.now) result }
         ensures takes { (fed : List ℕ) → WasFed self.old fed → WasFed self.new (fed ++ piece.now) }

@@ -18,7 +18,9 @@ pub struct Output<'n, 'b> {
     pub bytes: &'b [u8],
 }
 
-/// Writes the outputs in their order, and then prints the text. Takes no memory.
+/// Writes the outputs in their order, and then prints the text. Takes no memory. If one name stands for two outputs,
+/// the later write counts. That is not refused: names can reach one file in ways that a program cannot see, and a check
+/// of the words alone would promise too much.
 pub fn finish<H: Host>(host: &mut H, outputs: &[Output<'_, '_>], text: &[u8]) -> Result<(), End>
     ensures { CarriesOutAfter (writes (map output_of outputs.now) (print text.now)) (H.outside host.old) result (H.outside host.new) }
 {

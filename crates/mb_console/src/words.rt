@@ -32,7 +32,8 @@ pub enum Argument<'a> {
     File(&'a str),
     /// A number.
     Number(u32),
-    /// 1 to 16 bytes in hexadecimal digits, as the word has them.
+    /// 1 to 16 bytes in hexadecimal digits, as the word has them: two words can spell one list of bytes, and an
+    /// argument stands for one word (`word_of`).
     Hex(&'a str),
 }
 

@@ -25,45 +25,45 @@ use Rattle.mb_device.proofs.Taken.{same_parts}
 
 -- what the machine makes of it
 order_machine : (state next : State) (armed : Bool) (text draw : List ℕ) (answer : Reply) → OrderStep state text draw answer next
-    → Machine (live_world 1 state armed) (event.Command text draw) answer (live_world 1 next armed)
+    → Machine (live_world 1 state armed) (event.Order text draw) answer (live_world 1 next armed)
 order_machine state next armed text draw answer step = inl (refl, (next, step, refl))
 
 module _ (before : Device) (running : Running) (text draw : List ℕ) (old : Memory) (power : Bool) (level : ℕ) (meter : Meter) (world : World)
     (sound : IsSoundDevice before (held_by old power level meter) world) (own : IsRunning 1 running world) where
-  order_so : (next : State) (answer : Reply) → OrderStep own.state text draw answer next → Machine world (event.Command text draw) answer (live_world 1 next world.armed)
+  order_so : (next : State) (answer : Reply) → OrderStep own.state text draw answer next → Machine world (event.Order text draw) answer (live_world 1 next world.armed)
   order_so next answer step =
-      subst (λ (w : World). Machine w (event.Command text draw) answer (live_world 1 next world.armed)) (sym (the_world world 1 own.state own.phase own.live))
+      subst (λ (w : World). Machine w (event.Order text draw) answer (live_world 1 next world.armed)) (sym (the_world world 1 own.state own.phase own.live))
       (order_machine own.state next world.armed text draw answer step)
 
   pub order_told : (after : Device) (running_new : Running) (answer : Reply) (new : Memory) (power_new : Bool) (level_new : ℕ) (meter_new : Meter)
       → IsOrderAnswered own.state text draw running_new.known answer old new → power_new ≡ power → level_new ≡ level → meter_new.armed ≡ meter.armed → power ≡ true → level ≡ 1
-      → ((w : World) → IsRunning 1 running_new w → Fits after w) → Steps world (event.Command text draw) answer after (held_by new power_new level_new meter_new)
+      → ((w : World) → IsRunning 1 running_new w → Fits after w) → Steps world (event.Order text draw) answer after (held_by new power_new level_new meter_new)
   order_told after running_new answer new power_new level_new meter_new (answer_lacks wanted same knows) same_power same_level same_armed on at fits =
-      steps.lacks before after (held_by old power level meter) (held_by new power_new level_new meter_new) world (event.Command text draw) answer wanted refl
+      steps.lacks before after (held_by old power level meter) (held_by new power_new level_new meter_new) world (event.Order text draw) answer wanted refl
       (same_parts old new power power_new level level_new meter meter_new same same_power same_level same_armed) sound
       (fits world (record { phase = own.phase; state = own.state; live = own.live; knows = knows }))
   order_told after running_new answer new power_new level_new meter_new (answer_tells next step ready knows) same_power same_level same_armed on at fits =
       let armed : world.armed ≡ meter_new.armed = sound.shown.armed ∙ sym same_armed in
       record {
         next = live_world 1 next meter_new.armed;
-        step = machine_step (subst (λ (b : Bool). Machine world (event.Command text draw) answer (live_world 1 next b)) armed (order_so next answer step));
+        step = machine_step (subst (λ (b : Bool). Machine world (event.Order text draw) answer (live_world 1 next b)) armed (order_so next answer step));
         sound = live_sound after 1 new power_new level_new meter_new next ready (same_power ∙ on) (same_level ∙ at) (omega arith)
             (fits (live_world 1 next meter_new.armed) (record { phase = refl; state = next; live = refl; knows = knows }));
       }
 
   -- power failed
   pub order_cut : (state : Off) (new : Memory) (power_new : Bool) (level_new : ℕ) (meter_new : Meter) → IsOrderCut own.state text draw new → power_new ≡ false → meter_new.armed ≡ false
-      → meter.armed ≡ true → Steps world (event.Command text draw) reply.Stopped (device.Off state) (held_by new power_new level_new meter_new)
+      → meter.armed ≡ true → Steps world (event.Order text draw) reply.Stopped (device.Off state) (held_by new power_new level_new meter_new)
   order_cut state new power_new level_new meter_new cut gone disarmed armed =
       let told : Reply = reply.Done cut.number cut.size in
       let whole : World = live_world 1 cut.next world.armed in
-      let machine : Machine world (event.Command text draw) told whole = order_so cut.next told cut.step in
+      let machine : Machine world (event.Order text draw) told whole = order_so cut.next told cut.step in
       let is_armed : world.armed ≡ true = sound.shown.armed ∙ armed in
       elim (cut.counts) [
-        | inl before_it ↦ cut_short state world (event.Command text draw) told whole (Some own.state) new power_new level_new meter_new machine is_armed refl
+        | inl before_it ↦ cut_short state world (event.Order text draw) told whole (Some own.state) new power_new level_new meter_new machine is_armed refl
             (inl (sym own.live)) before_it (subst Valid own.live sound.valid) gone disarmed
-        | inr after_it ↦ cut_short state world (event.Command text draw) told whole (Some cut.next) new power_new level_new meter_new machine is_armed refl
-            (inr refl) after_it (machine_valid world (event.Command text draw) told whole sound.valid machine) gone disarmed
+        | inr after_it ↦ cut_short state world (event.Order text draw) told whole (Some cut.next) new power_new level_new meter_new machine is_armed refl
+            (inr refl) after_it (machine_valid world (event.Order text draw) told whole sound.valid machine) gone disarmed
       ]
 
 -- an order is never answered by a stop

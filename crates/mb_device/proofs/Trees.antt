@@ -83,7 +83,7 @@ unsigned L event.Tamper answer kept none = tt
 unsigned L event.Status answer kept none = tt
 unsigned L event.Go answer kept none = tt
 unsigned L (event.Cut count tear) answer kept none = tt
-unsigned L (event.Command text draw) answer kept none = tt
+unsigned L (event.Order text draw) answer kept none = tt
 unsigned L (event.Put M name value) answer kept none = tt
 unsigned L (event.Get M name) answer kept none = tt
 unsigned L (event.Drop M name) answer kept none = tt
@@ -150,7 +150,7 @@ no_trees_off self after state e answer is signed = record {
 
 -- one in which an order is answered
 pub trees_ordered : {S E : Type 0} (r : Result (S × Reply) E) (before after : Known) (text draw : List ℕ) → LeavesKnown r before after
-    → IfOk r (λ told. TreesAreKept 0 (event.Command text draw) told.1 (Some before.trees.value) (Some after.trees.value))
+    → IfOk r (λ told. TreesAreKept 0 (event.Order text draw) told.1 (Some before.trees.value) (Some after.trees.value))
 trees_ordered (Ok told) before after text draw leaves = record {
   signed = tt;
   region = λ left place number own. subst (λ (known : Known). IsKeptFor known.trees.value.region place number) (sym (leaves (not_done told.1 left))) own;
@@ -169,10 +169,10 @@ tree_to_sign L e old before named was own =
     subst (λ (n : ℕ). IsKeptToSign before n e) (sym named) (subst (λ (t : Option Trees). IsKeptToSign t (region_named e) e) was own)
 
 -- an order that is refused
-pub refused_undone_order : (after : Device) (text draw : List ℕ) (answer : Reply) (refusal : Refusal) → answer ≡ refusal_reply refusal → KeepsTreeOnceDone (event.Command text draw) answer after
+pub refused_undone_order : (after : Device) (text draw : List ℕ) (answer : Reply) (refusal : Refusal) → answer ≡ refusal_reply refusal → KeepsTreeOnceDone (event.Order text draw) answer after
 refused_undone_order after text draw answer refusal told = λ done. let undone = refused_undone refusal answer told in absurd (cc)
 
 -- the order whose bytes were taken as a slice
-pub makes_with : (world : World) (keys : ℕ) (e : Event) (text slice draw : List ℕ) → e ≡ event.Command text draw → slice ≡ text → MakesKeysOf world e keys → MakesKeysOf world (event.Command slice draw) keys
+pub makes_with : (world : World) (keys : ℕ) (e : Event) (text slice draw : List ℕ) → e ≡ event.Order text draw → slice ≡ text → MakesKeysOf world e keys → MakesKeysOf world (event.Order slice draw) keys
 makes_with world keys e text slice draw is same makes =
-    subst (λ (xs : List ℕ). MakesKeysOf world (event.Command xs draw) keys) (sym same) (subst (λ (x : Event). MakesKeysOf world x keys) is makes)
+    subst (λ (xs : List ℕ). MakesKeysOf world (event.Order xs draw) keys) (sym same) (subst (λ (x : Event). MakesKeysOf world x keys) is makes)

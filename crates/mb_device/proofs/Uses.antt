@@ -100,7 +100,7 @@ wants event.Tamper is = absurd is
 wants event.Status is = absurd is
 wants event.Go is = absurd is
 wants (event.Cut count tear) is = absurd is
-wants (event.Command text draw) is = absurd is
+wants (event.Order text draw) is = absurd is
 
 -- a use of a region leaves serial and log, and the seeds of keys
 pick : (P : State → Type 0) (b : Bool) (x y : Outcome) → P x.1 → P y.1 → P (if b then x else y).1
@@ -157,7 +157,7 @@ keeps_known known L event.Tamper state is knows = absurd is
 keeps_known known L event.Status state is knows = absurd is
 keeps_known known L event.Go state is knows = absurd is
 keeps_known known L (event.Cut count tear) state is knows = absurd is
-keeps_known known L (event.Command text draw) state is knows = absurd is
+keeps_known known L (event.Order text draw) state is knows = absurd is
 
 -- a running device that may use its region
 pub record IsUse (r L : ℕ) (before : Device) (running : Running) (e : Event) (old : Memory) (power : Bool) (level : ℕ) (meter : Meter) (world : World) : Type 0 where
@@ -276,7 +276,7 @@ outcome_goes_on L event.Tamper state is = absurd is
 outcome_goes_on L event.Status state is = absurd is
 outcome_goes_on L event.Go state is = absurd is
 outcome_goes_on L (event.Cut count tear) state is = absurd is
-outcome_goes_on L (event.Command text draw) state is = absurd is
+outcome_goes_on L (event.Order text draw) state is = absurd is
 
 pub answer_goes_on : (L : ℕ) (e : Event) (state : State) (answer : Reply) (old new : Memory) → IsLayerEvent e → IsAnswered (layer_outcome L e state) answer old new → stop_told answer ≡ Ok tt
 answer_goes_on L e state answer old new is (lacks wanted same) = ap stop_told wanted
@@ -330,7 +330,7 @@ named_three event.Tamper region is script same apart = absurd is
 named_three event.Status region is script same apart = absurd is
 named_three event.Go region is script same apart = absurd is
 named_three (event.Cut count tear) region is script same apart = absurd is
-named_three (event.Command text draw) region is script same apart = absurd is
+named_three (event.Order text draw) region is script same apart = absurd is
 named_three (event.Put L name value) region is script same apart = upper_three L script.0 (λ e. apart (same ∙ e))
 named_three (event.Get L name) region is script same apart = upper_three L script.0 (λ e. apart (same ∙ e))
 named_three (event.Drop L name) region is script same apart = upper_three L script.0 (λ e. apart (same ∙ e))

@@ -47,11 +47,11 @@ awake_at world r state is live =
 pub go_refused : (world : World) (refusal : Refusal) → running_state_in world ≡ Err refusal → Machine world event.Go (refusal_reply refusal) world
 go_refused world refusal e = subst (λ (on : Result (ℕ × State) Refusal). ◌≡◌ {A = Told} (refusal_reply refusal, world) (go_event world on)) (sym e) refl
 
-pub command_refused : (world : World) (text draw : List ℕ) (refusal : Refusal) → running_state_in world ≡ Err refusal → Machine world (event.Command text draw) (refusal_reply refusal) world
+pub command_refused : (world : World) (text draw : List ℕ) (refusal : Refusal) → running_state_in world ≡ Err refusal → Machine world (event.Order text draw) (refusal_reply refusal) world
 command_refused world text draw refusal e = subst (λ (on : Result (ℕ × State) Refusal). CommandStep world text draw on (refusal_reply refusal) world) (sym e) (refl, refl)
 
 -- any other layer than layer 1 takes no order
-pub command_past : (world : World) (text draw : List ℕ) (r : ℕ) (state : State) → 1 < r → running_state_in world ≡ Ok (r, state) → Machine world (event.Command text draw) (refusal_reply WrongPhase) world
+pub command_past : (world : World) (text draw : List ℕ) (r : ℕ) (state : State) → 1 < r → running_state_in world ≡ Ok (r, state) → Machine world (event.Order text draw) (refusal_reply WrongPhase) world
 command_past world text draw r state past e = subst (λ (on : Result (ℕ × State) Refusal). CommandStep world text draw on (refusal_reply WrongPhase) world) (sym e) (inr (past, refl, refl))
 
 -- ---- control
@@ -111,4 +111,4 @@ by_region world event.Tamper answer next is told = absurd is
 by_region world event.Status answer next is told = absurd is
 by_region world event.Go answer next is told = absurd is
 by_region world (event.Cut count tear) answer next is told = absurd is
-by_region world (event.Command text draw) answer next is told = absurd is
+by_region world (event.Order text draw) answer next is told = absurd is

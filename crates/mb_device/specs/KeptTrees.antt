@@ -82,12 +82,12 @@ KeepsItsTrees before event answer after =
 
 -- once an order is done, the device keeps the tree of its key, be it a new one or not
 abbrev pub KeepsTreeOnceDone : Event → Reply → Device → Type 0
-KeepsTreeOnceDone (event.Command text draw) answer after = is_done answer ≡ true → HasDeviceTree (trees_of after)
+KeepsTreeOnceDone (event.Order text draw) answer after = is_done answer ≡ true → HasDeviceTree (trees_of after)
 KeepsTreeOnceDone other answer after = Unit {0}
 
 -- the event is an order that makes this many keys in this world
 abbrev pub MakesKeysOf : World → Event → ℕ → Type 0
-MakesKeysOf world (event.Command text draw) keys =
+MakesKeysOf world (event.Order text draw) keys =
     (state : State) → world.state ≡ Some state → MakesKeys state text draw keys
 MakesKeysOf world other keys = ⊥
 

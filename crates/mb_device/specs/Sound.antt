@@ -55,7 +55,7 @@ taken (event.Cut count tear) held = record held { armed = true }
 taken event.Boot held = held
 taken event.Status held = held
 taken event.Go held = held
-taken (event.Command text draw) held = held
+taken (event.Order text draw) held = held
 taken (event.Put L name value) held = held
 taken (event.Get L name) held = held
 taken (event.Drop L name) held = held

@@ -45,7 +45,7 @@ pub record TreeCounterExamples : Type 0 where
   -- an order is done, and the device has no tree of its key
   pub done : (up : Up R1) (after : Running) (text draw : List ℕ) (number size : ℕ)
       → after.known.trees.value.device ≡ None
-      → KeepsTreeOnceDone (event.Command text draw) (reply.Done number size) (device.One up after) → ⊥
+      → KeepsTreeOnceDone (event.Order text draw) (reply.Done number size) (device.One up after) → ⊥
   -- an order makes no key, the tree of the device key is kept, and a tree is built
   pub built : (before : Device) (counted : ℕ) → HasDeviceTree (trees_of before)
       → SignsByDeviceTree before 0 counted (counted + TREE_HASHES) → ⊥

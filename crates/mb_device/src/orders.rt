@@ -33,17 +33,17 @@ fn take_order<B: Board, L: Ledger>(
     requires bytes { AreBytes (B.seen b.old).memory }
     requires sound { HasSound (Device.One up running) (held_in (B.seen b.old)) }
     ensures steps { StepsFrom (Device.One up running) (held_in (B.seen b.old))
-        (event.Command text.now draw.now) result (held_in (B.seen b.new)) }
+        (event.Order text.now draw.now) result (held_in (B.seen b.new)) }
     ensures untold { IfNothingTold result.1 (B.seen b.old).memory (B.seen b.new).memory
         (B.seen b.old).meter (B.seen b.new).meter }
     ensures spared { SparesSectors (B.seen b.old).memory (B.seen b.new).memory }
     ensures events { KeepsEvents 35 (stop_told result.1) (B.seen b.old) (B.seen b.new) }
-    ensures trees { KeepsItsTrees (Device.One up running) (event.Command text.now draw.now) result.1
+    ensures trees { KeepsItsTrees (Device.One up running) (event.Order text.now draw.now) result.1
         result.0 }
-    ensures done { KeepsTreeOnceDone (event.Command text.now draw.now) result.1 result.0 }
+    ensures done { KeepsTreeOnceDone (event.Order text.now draw.now) result.1 result.0 }
     ensures order { (world : World) (keys : ℕ)
         → IsSoundDevice (Device.One up running) (held_in (B.seen b.old)) world
-        → MakesKeysOf world (event.Command text.now draw.now) keys
+        → MakesKeysOf world (event.Order text.now draw.now) keys
         → SignsByDeviceTree (Device.One up running) keys hashes.old hashes.new }
     ensures cost { hashes.new ≤ hashes.old + 2 * TREE_HASHES + 2 * SIGNING_HASHES }
 {
@@ -67,17 +67,17 @@ impl Device {
     ) -> (Device, Reply)
         requires bytes { AreBytes (B.seen b.old).memory }
         requires sound { HasSound self (held_in (B.seen b.old)) }
-        ensures steps { StepsFrom self (held_in (B.seen b.old)) (event.Command text.now draw.now)
+        ensures steps { StepsFrom self (held_in (B.seen b.old)) (event.Order text.now draw.now)
             result (held_in (B.seen b.new)) }
         ensures untold { IfNothingTold result.1 (B.seen b.old).memory (B.seen b.new).memory
             (B.seen b.old).meter (B.seen b.new).meter }
         ensures spared { SparesSectors (B.seen b.old).memory (B.seen b.new).memory }
         ensures events { KeepsEvents 35 (stop_told result.1) (B.seen b.old) (B.seen b.new) }
-        ensures trees { KeepsItsTrees self (event.Command text.now draw.now) result.1 result.0 }
-        ensures done { KeepsTreeOnceDone (event.Command text.now draw.now) result.1 result.0 }
+        ensures trees { KeepsItsTrees self (event.Order text.now draw.now) result.1 result.0 }
+        ensures done { KeepsTreeOnceDone (event.Order text.now draw.now) result.1 result.0 }
         ensures order { (world : World) (keys : ℕ)
             → IsSoundDevice self (held_in (B.seen b.old)) world
-            → MakesKeysOf world (event.Command text.now draw.now) keys
+            → MakesKeysOf world (event.Order text.now draw.now) keys
             → SignsByDeviceTree self keys hashes.old hashes.new }
         ensures cost { hashes.new ≤ hashes.old + 2 * TREE_HASHES + 2 * SIGNING_HASHES }
     {

@@ -56,6 +56,8 @@ fn come_up<B: Board, L: Ledger>(
 
 impl Device {
     /// Answers `boot`: power comes on, and the pending work of an order is completed. A dead device stays on and dead.
+    /// The memory for trees is taken before a boot does anything, so that any boot, also that of a dead device, may be
+    /// answered `no memory`; no later event takes memory for them.
     pub(crate) fn boot<B: Board, L: Ledger>(
         self,
         alloc: Global,

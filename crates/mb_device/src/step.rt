@@ -75,7 +75,7 @@ impl Device {
                 (self, reply)
             }
             Event::Go => self.go(b),
-            Event::Command { text, draw } => self.command(alloc, b, text.as_slice(), draw, hashes),
+            Event::Order { text, draw } => self.command(alloc, b, text.as_slice(), draw, hashes),
             Event::Put { region, .. } => self.use_region(alloc, b, *region, event, hashes),
             Event::Get { region, .. } => self.use_region(alloc, b, *region, event, hashes),
             Event::Drop { region, .. } => self.use_region(alloc, b, *region, event, hashes),

@@ -125,7 +125,8 @@ pub(crate) fn put_header(
 }
 
 /// Puts the code that an order brings into `room.code`, and its layer into `room.code_layer`; no code and 0 if it
-/// brings none. The room has the memory for it.
+/// brings none. The room has the memory for it. The code is copied: a vector that is moved in brings its own capacity,
+/// and the buffer has to keep its own.
 pub(crate) fn put_code(order: &Order, room: &mut Room)
     requires { BringsShortCode order.now.act }
     ensures code { IsToWrite room.new order.now.layer (code_brought order.now.act) }

@@ -34,7 +34,11 @@ use std::sync::ledger::Ledger;
 /// The order's entries are signed with the tree of the device key, if it is kept: then there are at most 34,399 hashes
 /// for each key that the order makes, and 2,148 to sign by. Once an order is done, the tree of the device key that is
 /// then current is kept, and that of a region's key is dropped. If the order is refused or an allocation fails, the
-/// trees stay as they are.
+/// trees stay as they are. How many trees an order builds is said by the entries that it appends (`MakesKeys`). A rule
+/// for each kind of order would say what the model says once more; one bound for all orders lets an order that makes no
+/// key build a tree. The tree of a region's key is dropped, so that nothing has to be known of the numbers of keys, or
+/// of what an order makes of regions. That costs one tree at the next statement; orders are given while layer 1 runs,
+/// and statements mostly after.
 #[tactic(auto, using(crate::proofs::Answered::has_passed))]
 pub fn obey<B: Board, L: Ledger>(
     alloc: Global,

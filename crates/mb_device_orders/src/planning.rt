@@ -74,7 +74,7 @@ fn figures_with(known: &Figures, entries: &[Entry]) -> Figures
 }
 
 /// Plans the commit of the order, and leaves its header and its code in the room. Takes all memory that the order
-/// needs, and writes nothing.
+/// needs, and writes nothing. The decoded header is freed here: what is written stands in the room.
 pub fn plan_commit<B: Board>(
     alloc: Global,
     b: &B,

@@ -1,9 +1,11 @@
 //! What layers do with their regions: they keep, read and drop secrets, and sign messages.
 //!
 //! This crate owns the answers to the events in which a layer uses its region, once the layer may run and is reached.
-//! An answer is made from the stored region. All memory is taken before anything is written; the region is replaced
-//! wholly or not at all, and its old area is wiped before the answer. The outcome of each event is defined in
-//! `mb_model` (`LayerEvents`), and what an answer says of the memory in `mb_model_memory` (`Answering`).
+//! An answer is made from the stored region. All memory is taken before anything is written: so an event that would be
+//! refused `full`, `key` or `spent`, or answered `absent`, may be answered `no memory`. The other way is a pass over
+//! the stored bytes for the answer alone. The region is replaced wholly or not at all, and its old area is wiped before
+//! the answer. The outcome of each event is defined in `mb_model` (`LayerEvents`), and what an answer says of the
+//! memory in `mb_model_memory` (`Answering`).
 #![tactic(auto)]
 
 mod end;

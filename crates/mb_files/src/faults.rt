@@ -60,7 +60,7 @@ impl Faults {
     }
 }
 
-/// A source of bytes.
+/// A source of bytes. A call that a signal interrupts is an error, and is not tried again.
 pub(crate) trait Source {
     // The bytes left in it, if they are known.
     ghost left: { Self → Option (List ℕ) };

@@ -10,6 +10,8 @@ use std::time::Duration;
 use std::{fs, io, thread};
 
 // How often a lock is tried: for about a second. No call waits for a lock, so no two processes wait for each other.
+// With one try alone, eight commands at once nearly always refuse each other. A lock for this process alone from the
+// read on would need a second call of the trait, and ROOT and CHAIN serve many commands.
 const TRIES: u64 = 100;
 
 // A file that was read.
@@ -132,7 +134,9 @@ impl KeptFiles {
         lock_alone(runtime, kept)
     }
 
-    // An error if a file was read by this name, at which nothing stands now: it was moved away, and is not made anew.
+    // An error if a file was read by this name, at which nothing stands now: it was moved away, and is not made anew:
+    // it and the one that was moved would give one index twice. A file that was not read may have two names: the one
+    // that was given leads to the new file.
     pub(crate) fn claim_nothing(&self, name: &str) -> io::Result<()> {
         if self.names.iter().any(|read| read.name.as_str() == name) {
             return Err(Obstacle::Replaced.into());

@@ -14,7 +14,9 @@ pub(crate) fn open_to_write<R: System>(runtime: &R, path: &str) -> io::Result<Fi
     beside_streams(OpenOptions::new().write(true).open(runtime, path)?)
 }
 
-// Makes a file that only its owner may read and write, where none stands.
+// Makes a file that only its owner may read and write, where none stands. Public files too: the host knows names and no
+// roles, and a key that others can read is the worse mistake. A mode for each role would have to be handed down by the
+// trait.
 pub(crate) fn create<R: System>(runtime: &R, path: &str) -> io::Result<File> {
     let made = OpenOptions::new()
         .write(true)

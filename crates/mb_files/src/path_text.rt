@@ -6,11 +6,15 @@ use arrayvec::ArrayString;
 use std::{fs, io};
 
 // The ending of a new file's name until it takes its place, and the length of the longest path of the system with it.
+// The name is fixed, so that two commands that write one file exclude each other by it, and the next one finds what a
+// killed one has left. Under random names new files with secrets would stay behind; a file without a name, linked at
+// the end, is not in the kit.
 const NEW_FILE: &str = ".miniboot-new";
 
 const LONGEST: usize = 4_096 + 13;
 
-/// A path on the stack.
+/// A path on the stack. It takes no memory: so a command that has its inputs ends by its outputs, and no index is lost
+/// for want of memory.
 pub(crate) type PathText = ArrayString<LONGEST>;
 
 // Where the file of this name stands: at the name, or where it leads if it is a link to a regular file. A link that

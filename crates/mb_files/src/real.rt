@@ -17,7 +17,8 @@ use std::io;
 ///
 /// A file that was read stays locked until the host is dropped. A file is replaced whole, and is on the disk once its
 /// write is Ok; a pipe, a terminal and a device are written as they stand. What the system says of each read and write
-/// that fails, and of the first print that fails, is told on standard error, on one line.
+/// that fails, and of the first print that fails, is told on standard error, on one line. It cannot tell a missing file
+/// from a failed read: both count a fault, and nothing counts an absence.
 #[derive(Drop)]
 pub struct RealHost<'a, R> {
     runtime: &'a R,

@@ -21,7 +21,8 @@ impl<'a> Display for OneLine<'a> {
     }
 }
 
-// Tells on one line what the system said of the file of this name. If that fails too, nothing is told.
+// Tells on one line what the system said of the file of this name. The line is made of the very error that was counted.
+// If that fails too, nothing is told, which is no fault.
 pub(crate) fn tell<R: System>(runtime: &R, name: &str, error: io::Error) {
     let name = OneLine(name);
     let _ = match format!(in runtime.alloc(); "{error}") {

@@ -193,7 +193,8 @@ fn write_whole<S: Sink>(sink: &mut S, faults: &mut Faults, bytes: &[u8]) -> Resu
     Ok(())
 }
 
-// Writes all of these bytes, and makes them last.
+// Writes all of these bytes, and makes them last. A fault on closing the file is not seen: the kit closes it when it
+// goes out of scope, and gives no answer. It was synced before, which reports what the system has to say of its bytes.
 fn write_settled<S: Sink>(sink: &mut S, faults: &mut Faults, bytes: &[u8]) -> Result<(), HostFailed>
     ensures whole { OnOk result (Appends (S.held sink.old) (S.held sink.new) bytes.now) }
     ensures part { OnErr result ((n : ℕ)

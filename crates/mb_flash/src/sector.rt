@@ -56,7 +56,7 @@ fn program<B: Board>(b: &mut B, sector: u16, bytes: &[u8]) -> Result<(), Stopped
 }
 
 /// Makes the sector begin with these bytes, 1 to 4,096 of them; what follows them in the sector is arbitrary. Writes
-/// nothing if they stand there already.
+/// nothing if they stand there already. So work that is done again after a power loss wears out no flash.
 pub fn write_sector<B: Board>(b: &mut B, sector: u16, bytes: &[u8]) -> Result<(), Stopped>
     requires powered { IsPowered (B.seen b.old) }
     requires sector { sector < SECTOR_COUNT }

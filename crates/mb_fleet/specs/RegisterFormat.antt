@@ -41,7 +41,8 @@ last_serial last row = Some row.serial
 unfoldable pub rows_format : Format (List Row)
 rows_format = led (between w16 0 DEVICE_LIMIT) length (λ n. items row_format last_serial n None)
 
--- the first four bytes of a register: MBF1
+-- The first four bytes of a register: MBF1. An empty file is no register: else a lost one would pass for one of no
+-- devices, and the next history of each device would be taken as its first.
 abbrev pub register_word : List ℕ
 register_word = 0x4D ∷ 0x42 ∷ 0x46 ∷ 0x31 ∷ []
 

@@ -1,5 +1,6 @@
 //! The lines of answers, each with its LF, appended to a text. Each call appends its line or lines, or a prefix of them
-//! if an allocation fails.
+//! if an allocation fails. Lines are written into the text of all answers: a text for each word and each line would be
+//! two allocations a line, in millions of lines.
 
 ghost use Rattle.std.specs.Prelude.{◌≡◌, ◌<◌, ◌*◌, ◌++◌, ◌∷◌, [], IfSome, OnOk, codes};
 ghost use Rattle.std.specs.Fmt.{decimal};

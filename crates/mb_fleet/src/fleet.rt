@@ -25,7 +25,8 @@ use mb_verifier::{ChainRefusal, verify_entries};
 use std::alloc::Global;
 use std::marker::Model;
 
-/// A register: what up to 512 devices have shown, which contracts see as its rows in ascending serials.
+/// A register: what up to 512 devices have shown, which contracts see as its rows in ascending serials. A map from
+/// codes to serials stands beside the rows for each layer, in the invariant, so that no public clause speaks of it.
 #[derive(Drop)]
 pub struct Fleet {
     rows: Vec<Row>,
@@ -78,7 +79,9 @@ impl Fleet {
     /// Shows the register a chain of at most 4,194,304 bytes, whose entries have to be good under the maker's key
     /// `root`; of a statement only the form counts. After an error the register is as it was.
     ///
-    /// Errors: those of `FleetEnd`.
+    /// Errors: those of `FleetEnd`. First the new lists are made, and their codes become keys, with an empty list if
+    /// they are new, which changes no answer; then the row and the lists are put, which needs no memory. Neither is a
+    /// change undone, nor are all maps made anew.
     pub fn add(&mut self, alloc: Global, root: &PublicKey, chain: &[u8]) -> Result<Added, FleetEnd>
         requires { length chain.now ≤ FILE_LIMIT }
         ensures { AnswersChain root.now self.old chain.now result self.new }

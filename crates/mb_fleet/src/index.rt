@@ -11,7 +11,8 @@ use std::alloc::Global;
 use std::cmp::Ordering;
 use std::collections::BTreeMap;
 
-/// A map from codes to the serials of the devices whose layer has the code, in ascending order. A code may have none.
+/// A map from codes to the serials of the devices whose layer has the code, in ascending order. A code may have none. A
+/// code that no device has any more stays: each has cost a chain that was shown, so a file of items leaves few.
 #[derive(Drop)]
 pub struct CodeIndex {
     serials: BTreeMap<[u8; 32], Serials>,
@@ -24,7 +25,8 @@ pub struct Listing {
     serials: Serials,
 }
 
-/// What an index is to list when the code of a device changes. Putting it into the index takes no memory.
+/// What an index is to list when the code of a device changes. Putting it into the index takes no memory. The two lists
+/// that change are copied, at most 512 serials each, which is little beside one signature.
 #[derive(Drop)]
 pub struct IndexChange {
     /// The listing of the code that the device had, without the device.

@@ -36,7 +36,9 @@ pub(crate) fn register_at(
     rows_at(alloc, cursor)
 }
 
-/// Rows in ascending serials, after their number.
+/// Rows in ascending serials, after their number. Rows are read and written by hand, since which serials a row may have
+/// depends on the row before it, so that a row has no format of its own. Items are read to the end of the bytes, and
+/// not by a count.
 #[tactic(auto, unfolding(crate::specs::RegisterFormat::rows_format))]
 fn rows_at(alloc: Global, cursor: &mut Cursor<'_>) -> Result<Items<Row>, FleetReadEnd>
     ensures { Reads fleet_at rows_format cursor.old result cursor.new }

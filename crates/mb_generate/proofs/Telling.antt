@@ -155,7 +155,7 @@ unfolding commands_in
 tells_order order is =
     let bytes : List ℕ = order_format.spelling order in
     let word = hex_word-read bytes (bytes_at bytes is.each) in
-    tells (order_line order) (event.Command bytes (replicate 32 0)) 131079
+    tells (order_line order) (event.Order bytes (replicate 32 0)) 131079
     (All-append (isnt 10) (codes "command ") (hex_word bytes) (tested (codes "command ") refl) (hex_plain (hex_word bytes) bytes word))
     refl
     ((hex_word bytes, word, refl), refl)

@@ -13,7 +13,9 @@ use mb_model::{Bytes, Calls, FILE_LIMIT, File, Files, NoMemory};
 use std::alloc::Global;
 use std::marker::Model;
 
-/// Files and output in memory, for tests. Contracts see all of its contents.
+/// Files and output in memory, for tests. Contracts see all of its contents. If two files have one name, the first
+/// counts. A write or a print that finds no memory counts a fault. No clause says that no other write or print fails:
+/// both take memory. The list is not in the trait, since no other host has one.
 #[derive(Drop)]
 pub struct MemoryHost {
     alloc: Global,

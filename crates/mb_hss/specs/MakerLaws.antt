@@ -37,7 +37,9 @@ pub record UseOneIndex (levels first second level : ℕ) : Type 0 where
   pub prefix : prefix_at levels first level ≡ prefix_at levels second level
   pub index : index_at levels first level ≡ index_at levels second level
 
--- If two calls use one index of one key at a level, it is not the last level, and both sign the same text there.
+-- If two calls use one index of one key at a level, it is not the last level, and both sign the same text there. It
+-- speaks of a list of calls, split at two of them: with offsets from the first call, the premise that the calls were
+-- made says nothing.
 abbrev pub IndicesServeOneText : Type 0
 IndicesServeOneText =
     (maker after : Maker) (before between later : List SignCall) (first second : SignCall) (level : ℕ)

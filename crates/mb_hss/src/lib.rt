@@ -20,7 +20,7 @@ pub use laws::{
     indices_serve_one_text, keys_are_clear, makers_signatures_verify, numbers_are, numbers_count_up,
 };
 pub use limits::LEVEL_LIMIT;
-pub use maker::{Maker, make_maker};
+pub use maker::{Maker, make_maker, number_count};
 pub use maker_file::{read_maker, write_maker};
 pub use mb_model::BadRecord;
 pub use signing::{HssEnd, public, sign};

@@ -8,6 +8,7 @@ use mb_model::separators::MAKER_SECRET;
 use sha2::{Digest, Sha256};
 
 /// A maker's key, from which the keys of all its levels are derived. It cannot be copied: each number signs only once.
+/// It is not shown by `Debug` either: a text of it would have the seed.
 #[derive(PartialEq, Eq, Drop)]
 pub struct Maker {
     /// The number of levels, 1 to 8.
@@ -38,7 +39,7 @@ pub fn make_maker(noise: &[u8; 32], levels: u8) -> Maker
 
 /// The number of signatures that a maker of 1 to 8 levels can make, 32^levels.
 #[tactic(auto, using(crate::proofs::Digits::digit_powers))]
-pub(crate) fn number_count(levels: u8) -> u64
+pub fn number_count(levels: u8) -> u64
     requires { levels ≤ LEVEL_LIMIT }
     ensures { result ≡ 32 ^ levels }
 {

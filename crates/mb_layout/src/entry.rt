@@ -323,7 +323,8 @@ pub fn read_entry(c: &mut Cursor<'_>) -> Result<Entry, BadRecord>
     read_field::<EntryField>((), c)
 }
 
-/// Appends the spelling of the entry, or leaves `out` as it was. `Ok` if the capacity of `out` holds it.
+/// Appends the spelling of the entry, or leaves `out` as it was. `Ok` if the capacity of `out` holds it. An entry of
+/// version 1 that names a layer whose trusts differ has no spelling.
 pub fn write_entry(entry: &Entry, out: &mut Vec<u8>) -> Result<(), NoMemory>
     requires { entry_format.Allowed entry.now }
     ensures { Writes (entry_format.spelling entry.now) out.old result out.new }

@@ -28,7 +28,9 @@ const NO_KEY: RegionKey = RegionKey {
     uses: 0,
 };
 
-/// At most eight keys, which contracts see as a list.
+/// At most eight keys, which contracts see as a list. The kit's `ArrayVec` wants a default value of its items, and a
+/// key has none that means anything. `MadeWith` for keys is refused: it conflicts with the one for all types with a
+/// default.
 #[derive(Drop)]
 pub struct KeyRow {
     keys: [RegionKey; ROOM],

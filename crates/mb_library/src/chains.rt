@@ -17,7 +17,8 @@ use std::alloc::Global;
 /// is as before.
 ///
 /// The code is `ACCEPTED`, `NO_KEY`, `TOO_LONG`, `NO_MEMORY`, `NO_ROOM` if `listing` is shorter than the listing, or 20
-/// to 27 for the first check that fails.
+/// to 27 for the first check that fails. A `Vec` cannot cross, so the listing goes into memory of the caller, and
+/// nobody gives back what another allocator has taken. A second call verifies the chain once more.
 #[unsafe(no_mangle)]
 pub extern "C" fn mb_chain_verify(
     alloc: Global,

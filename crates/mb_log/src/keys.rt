@@ -25,7 +25,9 @@ pub fn born(draw: &[u8; 32], serial: &[u8; 16], number: u32) -> KeySeed
 /// The key that is derived from the text by two domain separators, which begin the hash of the secret and that of the
 /// identifier. The identifier is the first 16 bytes of its hash.
 ///
-/// These two hashes are not counted: a crate whose hashes have to be on a count derives its keys by `mb_lms::hash`.
+/// These two hashes are not counted: a crate whose hashes have to be on a count derives its keys by `mb_lms::hash`. So
+/// it does not stand beside `sign_kept` of `mb_signer`, where an uncounted hash would be a way around the count that
+/// signing promises.
 pub fn derive_key(secret: u8, identifier: u8, text: &[u8]) -> KeySeed
     ensures identifier { result.identifier ≡ take 16 (sha256 (identifier ∷ text.now)) }
     ensures secret { result.seed ≡ sha256 (secret ∷ text.now) }

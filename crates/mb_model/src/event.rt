@@ -36,7 +36,7 @@ pub enum Event {
         tear: Tear,
     },
     /// An owner's order as bytes, and the noise for the keys that it makes.
-    Command {
+    Order {
         text: Bytes,
         draw: [u8; 32],
     },
@@ -89,7 +89,7 @@ impl Event {
                 count: *count,
                 tear: *tear,
             },
-            Event::Command { text, draw } => Event::Command {
+            Event::Order { text, draw } => Event::Order {
                 text: Bytes::copy(alloc, text.as_slice())?,
                 draw: *draw,
             },

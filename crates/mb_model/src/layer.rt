@@ -5,7 +5,8 @@ ghost use Rattle.mb_model.specs.owners.Layers.{equal_trusts, are_equal, layer_wi
 
 use crate::key::{PublicKey, Trust};
 
-/// The name of a layer's code.
+/// The name of a layer's code. The version is recorded and never compared: whether older code may come back is for the
+/// owner to say, who can name the length of the log as a target.
 #[derive(Clone, Copy, PartialEq, Eq)]
 pub struct CodeName {
     /// SHA-256 of the code's bytes.
@@ -15,7 +16,7 @@ pub struct CodeName {
 }
 
 /// The trusts of a layer in changes of the layers beneath it. A trust in a layer that is not beneath it is stored and
-/// never used.
+/// never used. As many trusts as there are layers beneath would need a type for each layer.
 #[derive(Clone, Copy, PartialEq, Eq)]
 pub struct Trusts {
     /// The trust in changes of layer 1.

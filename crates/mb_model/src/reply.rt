@@ -67,7 +67,7 @@ pub enum Reply {
     NoMemory,
 }
 
-/// Why an event is refused.
+/// Why an event is refused. It carries the target or the layer that fails; a reply has its number alone.
 #[derive(Clone, Copy, PartialEq, Eq)]
 pub enum Refusal {
     /// Power is off.

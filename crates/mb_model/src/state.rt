@@ -54,7 +54,9 @@ pub struct Figures {
     pub version_two: bool,
 }
 
-/// The part of a state by which an order is judged.
+/// The part of a state by which an order is judged. Its layers are those of the state, and those of figures what the
+/// log names, which are the same only if the state is valid. So a view does not hold figures: `OrderStep` would mean
+/// something else in a state that is not valid.
 #[derive(Clone, Copy, PartialEq, Eq)]
 pub struct View {
     /// The device's serial.
@@ -138,7 +140,8 @@ pub struct Configuration {
 /// The configurations in which a key lived, in order.
 pub type Lives = Items<Configuration>;
 
-/// What a verifier learns about a key of a region from a chain that it accepts.
+/// What a verifier learns about a key of a region from a chain that it accepts. It has the number of entries, so that
+/// an audit knows how far to compare without reading the chain again.
 #[derive(Drop)]
 pub struct Report {
     /// The key's layer, 2 or 3.

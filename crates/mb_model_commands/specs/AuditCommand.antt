@@ -16,7 +16,9 @@ pub record AuditNames : Type 0 where
   pub chain : List ℕ
   pub key : ℕ
 
--- compares an accepted chain's list with the device's own; refuses any other chain for the verifier's reason
+-- Compares an accepted chain's list with the device's own; refuses any other chain for the verifier's reason. The lists
+-- of configurations are compared, and not the entries: the list is what a reader acts on. If no entry was forged the
+-- entries are equal too.
 abbrev pub compare : State → ℕ → Verdict → Command
 compare state key_number (chain_acceptance report) =
     either_command (report.lives ≡ own_lives state report.entries key_number)
@@ -24,18 +26,17 @@ compare state key_number (chain_acceptance report) =
     (refuse (codes "differs"))
 compare state key_number (chain_rejection why) = refuse (chain_refusal_line why)
 
--- audits the chain; refuses a dead device, which has no log
+-- Audits the chain; refuses a dead device, which has no log. A dead device has no log to compare with, whatever the
+-- chain is, so `zeroised` comes before each refusal of the chain.
 abbrev pub audit_chain : AuditNames → Option State → PublicKey → List ℕ → Command
 audit_chain names None maker bytes = refuse (codes "zeroised")
 audit_chain names (Some state) maker bytes =
     find (IsAudited state maker bytes names.key) (compare state names.key)
 
-abbrev pub audit_under : AuditNames → Option State → PublicKey → Command
-audit_under names state maker = read (chain_bytes_input names.chain) (audit_chain names state maker)
-
-abbrev pub audit_device : AuditNames → Option State → Command
-audit_device names state = read (root_input names.root) (audit_under names state)
-
--- reads the device's image, the maker's public key and the chain, and audits the chain
+-- the device's image, the maker's public key and the chain are read, and the chain is audited
 unfoldable pub audit : AuditNames → Command
-audit names = read (image_input names.image) (λ image. audit_device names image.state)
+audit names =
+    read (image_input names.image) (λ image.
+    read (root_input names.root) (λ maker.
+    read (chain_bytes_input names.chain) (λ bytes.
+    audit_chain names image.state maker bytes)))

@@ -28,7 +28,8 @@ pub record AttachNames : Type 0 where
 abbrev pub entries_text : ℕ → List ℕ
 entries_text count = line_with_lf (codes "entries " ++ decimal count)
 
--- writes bytes that spell the chain, and prints the number of its entries
+-- Writes bytes that spell the chain, and prints the number of its entries. The bytes spell this chain, and are not the
+-- spelling of some chain: so no reader refuses their form.
 unfoldable pub write_entries : List ℕ → Chain → Command
 write_entries out chain = find (λ bytes. Spells chain_format bytes chain) (λ bytes.
     write (record { role = role.Out; name = out; bytes = bytes })
@@ -46,14 +47,16 @@ chain names = read (image_input names.image) (λ image. chain_of names image.sta
 
 -- ---- attach
 
--- attaches the statement, unless the chain has one already
+-- Attaches the statement, unless the chain has one already. Nothing is verified, so that no key is needed. A statement
+-- of a later configuration than the chain's last leaves the whole chain, and `verify` then says 26.
 unfoldable pub attach_statement : AttachNames → Chain → Statement → Command
 attach_statement names chain statement =
     either_command (chain.statement ≢ None) (refuse (codes "has statement"))
     (write_entries names.out (stated_chain chain.entries statement))
 
-abbrev pub attach_to : AttachNames → Chain → Command
-attach_to names chain = read (statement_input names.statement) (attach_statement names chain)
-
+-- the chain and the statement are read, and the statement is attached
 unfoldable pub attach : AttachNames → Command
-attach names = read (chain_input names.chain) (attach_to names)
+attach names =
+    read (chain_input names.chain) (λ chain.
+    read (statement_input names.statement) (λ statement.
+    attach_statement names chain statement))

@@ -75,7 +75,10 @@ pub data Command : Type 1 where
   load : List ℕ → Command → Command
   -- serves the board's events, so that this holds of what was answered and of what the board held at the last answer
   serve : (List Answered → Held → Type 0) → (List Answered → Held → Command) → Command
-  -- serves events as `serve` does, before the board is loaded anew, so that what the board answered is gone then
+  -- Serves events as `serve` does, before the board is loaded anew, so that what the board answered is gone then. Two
+  -- `serve`s in a row would both speak of the second run. Once the second load has succeeded the definition says of the
+  -- first run only that there is one and which state it leaves, so no clause says that the status is 6 if a reply of it
+  -- was `no memory`.
   rehearse : (List Answered → Held → Type 0) → (List Answered → Held → Command) → Command
   -- writes an output
   write : Output → Command → Command

@@ -36,14 +36,11 @@ make_device names noise key owner code =
     either_command (key.next ≡ 32) (refuse (codes "spent"))
     (find (IsFactoryImage key.seed key.next owner code noise) (write_device names noise key))
 
-abbrev pub factory_with_owner : FactoryNames → List ℕ → Keyfile → PublicKey → Command
-factory_with_owner names noise key owner = read (code_input names.code) (make_device names noise key owner)
-
-abbrev pub factory_with_key : FactoryNames → List ℕ → Keyfile → Command
-factory_with_key names noise key = read (owner_input names.owner) (factory_with_owner names noise key)
-
-abbrev pub factory_with_noise : FactoryNames → List ℕ → Command
-factory_with_noise names noise = read (key_input names.key) (factory_with_key names noise)
-
+-- the noise, the maker's key, the owner's public key and the code are read, and the device is made
 unfoldable pub factory : FactoryNames → Command
-factory names = read (birth_noise_input names.noise) (factory_with_noise names)
+factory names =
+    read (birth_noise_input names.noise) (λ noise.
+    read (key_input names.key) (λ key.
+    read (owner_input names.owner) (λ owner.
+    read (code_input names.code) (λ code.
+    make_device names noise key owner code))))

@@ -60,14 +60,14 @@ summarise answered final =
 abbrev pub prepared_image : Prepared → Image
 prepared_image made = record { bytes = made.files.image; state = made.state }
 
--- loads the image, writes the three files, and then serves the events
-abbrev pub serve_workload : GenerateNames → Prepared → Command
-serve_workload names made =
+-- A workload is found. Its image is loaded, its three files are written, its events are served, and the summary is
+-- printed. The files are written first, so that a workload that goes wrong can be served again. The length of the log
+-- is counted in the final image: that of the last `done` is not enough if a power loss stopped an order.
+unfoldable pub generate : GenerateNames → Command
+generate names =
+    find (IsPrepared names.number names.rounds) (λ made.
     load made.files.image
     (write (record { role = role.Image; name = names.image; bytes = made.files.image })
     (write (record { role = role.Script; name = names.script; bytes = made.files.script })
     (write (record { role = role.Noise; name = names.noise; bytes = made.files.noise })
-    (serve (IsServed (prepared_image made) made.events) summarise))))
-
-unfoldable pub generate : GenerateNames → Command
-generate names = find (IsPrepared names.number names.rounds) (serve_workload names)
+    (serve (IsServed (prepared_image made) made.events) summarise)))))

@@ -135,7 +135,8 @@ root_input name = binary_input role.Root public_key_format name
 abbrev pub chain_input : List ℕ → Input Chain
 chain_input name = binary_input role.Chain chain_format name
 
--- the bytes of a chain to verify; the verifier says whether they spell one
+-- The bytes of a chain to verify; the verifier says whether they spell one. Whoever verifies asks about bytes that
+-- someone hands over: whatever they are, the answer is a verdict. A file that is too long is not read to its end.
 abbrev pub chain_bytes_input : List ℕ → Input (List ℕ)
 chain_bytes_input name = record {
   role = role.Chain;

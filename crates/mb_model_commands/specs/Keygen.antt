@@ -27,12 +27,14 @@ new_key noise = record { seed = officer_key noise; next = 0 }
 abbrev pub owner_text : List ℕ → List ℕ
 owner_text public = line_with_lf (codes "owner " ++ encode_lower (sha256 public))
 
--- writes a new key, then its public key, and prints the public key's hash
-abbrev pub write_key : KeygenNames → Keyfile → List ℕ → Command
-write_key names key public =
-    write (record { role = role.Key; name = names.key; bytes = keyfile_format.spelling key })
-    (write (record { role = role.Public; name = names.public; bytes = public }) (print (owner_text public)))
+-- the public key of a new key, in bytes
+abbrev pub new_public_key : List ℕ → List ℕ
+new_public_key noise = key_bytes (public_of (new_key noise).seed)
 
+-- the noise is read; a new key is written, then its public key, and the public key's hash is printed
 unfoldable pub keygen : KeygenNames → Command
-keygen names = read (key_noise_input names.noise) (λ noise.
-    write_key names (new_key noise) (key_bytes (public_of (new_key noise).seed)))
+keygen names =
+    read (key_noise_input names.noise) (λ noise.
+    write (record { role = role.Key; name = names.key; bytes = keyfile_format.spelling (new_key noise) })
+    (write (record { role = role.Public; name = names.public; bytes = new_public_key noise })
+    (print (owner_text (new_public_key noise)))))

@@ -3,6 +3,7 @@ pub mod Commands
 pub mod Inputs
 pub mod Keygen
 pub mod Sign
+pub mod Cosign
 pub mod FactoryCommand
 pub mod MigrateCommand
 pub mod RunCommand

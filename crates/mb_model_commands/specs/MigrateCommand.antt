@@ -28,10 +28,9 @@ old_image_input name = record {
 abbrev pub migrated_text : List ℕ → List ℕ
 migrated_text image = line_with_lf (codes "migrated " ++ encode_lower (sha256 image))
 
-abbrev pub write_migrated_image : MigrateNames → List ℕ → Command
-write_migrated_image names image =
-    write (record { role = role.Out; name = names.out; bytes = image }) (print (migrated_text image))
-
 -- an image in the current form or the earlier one is read, and the image of the current form is written
 unfoldable pub migrate : MigrateNames → Command
-migrate names = read (old_image_input names.image) (write_migrated_image names)
+migrate names =
+    read (old_image_input names.image) (λ migrated.
+    write (record { role = role.Out; name = names.out; bytes = migrated })
+    (print (migrated_text migrated)))

@@ -29,7 +29,8 @@ pub record IsCleanImage (image : Image) : Type 0 where
   pub clean : Clean memory.bbram (Some state)
 
 -- The events were answered, all and in order, by a run of the machine from the state of the image that was loaded. What
--- the board held at the last answer shows the world in which that run ended.
+-- the board held at the last answer shows the world in which that run ended. `untouched` and `quiet` are said of the
+-- whole list of answers, since a reader of `ends` sees no single answer of the board.
 pub record IsServed
     (image : Image)
     (events : List Event)
@@ -53,22 +54,15 @@ pub record IsServed
   -- the same with boots among the events, if the image is clean
   pub quiet : IsCleanImage image → All LeavesCleanMemory answered → image_of final.memory ≡ image.bytes
 
--- the new image is written over the old one, and then the replies are printed
-abbrev pub write_image : RunNames → List Answered → Held → Command
-write_image names answered final =
-    write (record { role = role.Image; name = names.image; bytes = image_of final.memory })
-    (print (replies_text answered))
-
--- the image is loaded, and the events are served
-abbrev pub serve_events : RunNames → Image → List Event → Command
-serve_events names image events = load image.bytes (serve (IsServed image events) (write_image names))
-
-abbrev pub read_noise : RunNames → Image → List Event → Command
-read_noise names image events = read (draws_input events names.noise) (serve_events names image)
-
-abbrev pub read_script : RunNames → Image → Command
-read_script names image = read (script_input names.script) (read_noise names image)
-
--- image, script and noise are read, the image is loaded, and the events are served
+-- Image, script and noise are read, the image is loaded, and the events of the script are served with their draws. The
+-- new image is written over the old one, and then the replies are printed. The image is checked whole before the script
+-- is read, although a device reads at its boot what it needs: no event is served on an image that means nothing.
 unfoldable pub run : RunNames → Command
-run names = read (image_input names.image) (read_script names)
+run names =
+    read (image_input names.image) (λ image.
+    read (script_input names.script) (λ undrawn.
+    read (draws_input undrawn names.noise) (λ events.
+    load image.bytes
+    (serve (IsServed image events) (λ answered final.
+    write (record { role = role.Image; name = names.image; bytes = image_of final.memory })
+    (print (replies_text answered)))))))

@@ -40,21 +40,19 @@ unfoldable pub sign_by : List ℕ → List ℕ → Keyfile → Order → Command
 sign_by key_name out_name key order =
     either_command (key.next ≡ 32) (refuse (codes "spent")) (use_index key_name out_name key order)
 
-abbrev pub sign_draft : SignNames → Keyfile → Command
-sign_draft names key = read (draft_input names.draft) (λ order.
-    sign_by names.key names.out key (signed_order key order))
-
+-- the key and the draft are read, and the key signs the draft's order
 unfoldable pub sign : SignNames → Command
-sign names = read (key_input names.key) (sign_draft names)
+sign names =
+    read (key_input names.key) (λ key.
+    read (draft_input names.draft) (λ order.
+    sign_by names.key names.out key (signed_order key order)))
 
--- the key countersigns as the owner of a layer, if the order is countersignable for that layer
-abbrev pub countersign_by : CountersignNames → Keyfile → Order → Command
-countersign_by names key order =
-    either_command (IsCountersignable order names.layer → ⊥) (refuse (codes "not countersignable"))
-    (sign_by names.key names.out key (countersigned_order key names.layer order))
-
-abbrev pub countersign_order : CountersignNames → Keyfile → Command
-countersign_order names key = read (order_input names.order) (countersign_by names key)
-
+-- The key countersigns as the owner of a layer, if the order that is read is countersignable for that layer. Whether an
+-- order can take the countersignature is asked before whether the key is spent: it does not depend on the key, and an
+-- officer should learn it without looking for another one.
 unfoldable pub countersign : CountersignNames → Command
-countersign names = read (key_input names.key) (countersign_order names)
+countersign names =
+    read (key_input names.key) (λ key.
+    read (order_input names.order) (λ order.
+    either_command (IsCountersignable order names.layer → ⊥) (refuse (codes "not countersignable"))
+    (sign_by names.key names.out key (countersigned_order key names.layer order))))

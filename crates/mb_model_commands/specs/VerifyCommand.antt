@@ -2,7 +2,6 @@
 -- other?
 use Rattle.std.specs.Prelude.{ℕ, List, [], ◌++◌, codes}
 use Rattle.std.specs.Fmt.{decimal}
-use Rattle.mb_model.specs.declared.key.PublicKey.{PublicKey}
 use Rattle.mb_model.specs.chains.Lines.{text_of}
 use Rattle.mb_model.specs.chains.Listing.{listing}
 use Rattle.mb_model.specs.chains.Acceptance.{ChainRefusal, bad_form, bad_signature, bad_order, breaks_rules}
@@ -34,12 +33,9 @@ abbrev pub tell_verdict : ℕ → Verdict → Command
 tell_verdict key_number (chain_acceptance report) = print (text_of (listing key_number report))
 tell_verdict key_number (chain_rejection why) = refuse (chain_refusal_line why)
 
-abbrev pub verify_chain : VerifyNames → PublicKey → List ℕ → Command
-verify_chain names maker bytes = find (IsVerdict maker bytes names.key) (tell_verdict names.key)
-
-abbrev pub verify_under : VerifyNames → PublicKey → Command
-verify_under names maker = read (chain_bytes_input names.chain) (verify_chain names maker)
-
 -- the maker's public key and the chain are read, and the chain is verified
 unfoldable pub verify : VerifyNames → Command
-verify names = read (root_input names.root) (verify_under names)
+verify names =
+    read (root_input names.root) (λ maker.
+    read (chain_bytes_input names.chain) (λ bytes.
+    find (IsVerdict maker bytes names.key) (tell_verdict names.key)))

@@ -113,7 +113,7 @@ cut_said = record {
   spelled = refl;
 }
 
-command_said : SaysEvent (codes "command -") (event.Command [] (replicate 32 0))
+command_said : SaysEvent (codes "command -") (event.Order [] (replicate 32 0))
 command_said = ((codes "-", inl (refl, refl), refl), refl)
 
 sign_said : SaysEvent (codes "sign 3 1 68656c6c6f") (event.Sign 3 1 (codes "hello"))
@@ -135,7 +135,7 @@ no_jump event.Tamper e = omega (arith, e)
 no_jump event.Status e = omega (arith, e)
 no_jump event.Go e = omega (arith, e)
 no_jump (event.Cut count tear) e = omega (arith, e)
-no_jump (event.Command text draw) e = omega (arith, e)
+no_jump (event.Order text draw) e = omega (arith, e)
 no_jump (event.Put region name value) e = omega (arith, e)
 no_jump (event.Get region name) e = omega (arith, e)
 no_jump (event.Drop region name) e = omega (arith, e)

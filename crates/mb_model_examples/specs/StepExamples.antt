@@ -37,7 +37,7 @@ pub record AlwaysExamples (world : World) : Type 0 where
 -- every other event is refused with this number
 pub record RefusesOthers (world : World) (n : ℕ) : Type 0 where
   pub status : Refuses world event.Status n
-  pub command : (text draw : List ℕ) → Refuses world (event.Command text draw) n
+  pub command : (text draw : List ℕ) → Refuses world (event.Order text draw) n
   pub go : Refuses world event.Go n
   pub put : (L : ℕ) (name value : List ℕ) → Refuses world (event.Put L name value) n
   pub get : (L : ℕ) (name : List ℕ) → Refuses world (event.Get L name) n
@@ -55,9 +55,9 @@ pub record AwakeExamples (state : State) : Type 0 where
       → Machine (world_at (ratchet r) state) event.Status (status_of state) (world_at (ratchet r) state)
   -- orders are judged while layer 1 runs, and refused while a higher layer does
   pub command_at_one : (text draw : List ℕ) (answer : Reply) (next : State) → OrderStep state text draw answer next
-      → Machine (world_at (ratchet 1) state) (event.Command text draw) answer (world_at (ratchet 1) next)
-  pub command_at_two : (text draw : List ℕ) → Refuses (world_at (ratchet 2) state) (event.Command text draw) 2
-  pub command_at_three : (text draw : List ℕ) → Refuses (world_at (ratchet 3) state) (event.Command text draw) 2
+      → Machine (world_at (ratchet 1) state) (event.Order text draw) answer (world_at (ratchet 1) next)
+  pub command_at_two : (text draw : List ℕ) → Refuses (world_at (ratchet 2) state) (event.Order text draw) 2
+  pub command_at_three : (text draw : List ℕ) → Refuses (world_at (ratchet 3) state) (event.Order text draw) 2
   pub go_at_three : Refuses (world_at (ratchet 3) state) event.Go 2
 
 -- control goes up one layer if that may run; and what `status` answers
@@ -110,7 +110,7 @@ NeverWantsMemory world event = (next : World) → Step world event reply.NoMemor
 pub record MemoryExamples (world : World) : Type 0 where
   pub boot : Step world event.Boot reply.NoMemory world
   pub status : Step world event.Status reply.NoMemory world
-  pub command : (text draw : List ℕ) → Step world (event.Command text draw) reply.NoMemory world
+  pub command : (text draw : List ℕ) → Step world (event.Order text draw) reply.NoMemory world
   pub put : (L : ℕ) (name value : List ℕ) → Step world (event.Put L name value) reply.NoMemory world
   pub get : (L : ℕ) (name : List ℕ) → Step world (event.Get L name) reply.NoMemory world
   pub drop : (L : ℕ) (name : List ℕ) → Step world (event.Drop L name) reply.NoMemory world

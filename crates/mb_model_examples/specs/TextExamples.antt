@@ -40,7 +40,7 @@ script_events =
     ∷ event.Put 2 (codes "pin") (codes "1234")
     ∷ event.Cut 3 (record { keep = 5; fill = 255 ∷ replicate 15 0; fill_length = 1 })
     ∷ event.Cut 3 (record { keep = 0; fill = replicate 16 0; fill_length = 1 })
-    ∷ event.Command [] (replicate 32 0)
+    ∷ event.Order [] (replicate 32 0)
     ∷ event.Sign 3 1 (codes "hello")
     ∷ []
 
@@ -54,8 +54,8 @@ pub record ScriptExamples : Type 0 where
 pub record DrawExamples : Type 0 where
   pub drawn : (text draw : List ℕ)
       → drawn_events (replicate 32 1 ++ replicate 32 2)
-      (event.Command text draw ∷ event.Off ∷ event.Command text draw ∷ [])
-      ≡ event.Command text (replicate 32 1) ∷ event.Off ∷ event.Command text (replicate 32 2) ∷ []
+      (event.Order text draw ∷ event.Off ∷ event.Order text draw ∷ [])
+      ≡ event.Order text (replicate 32 1) ∷ event.Off ∷ event.Order text (replicate 32 2) ∷ []
 
 -- ---- replies
 
@@ -109,7 +109,7 @@ pub record ListingExamples : Type 0 where
   pub unowned_layer : layer_line 3 layer_without_owner ≡ codes "layer 3 - - - unreliable never"
   pub summary : summary
       (record { event = event.Boot; reply = reply.Booted }
-      ∷ record { event = event.Command [] []; reply = reply.Done 1 2 }
+      ∷ record { event = event.Order [] []; reply = reply.Done 1 2 }
       ∷ [])
       2
       (0x0F ∷ [])

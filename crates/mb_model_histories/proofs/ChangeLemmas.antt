@@ -50,7 +50,7 @@ module _ (change : ℕ → Region → Region) (value : ℕ → List ℕ → List
   Agrees phase event.Status = Unit {0}
   Agrees phase event.Go = Unit {0}
   Agrees phase (event.Cut count tear) = arm true ≡ true
-  Agrees phase (event.Command text draw) =
+  Agrees phase (event.Order text draw) =
       phase ≡ ratchet 1 → (state next : State) (answer : Reply) → OrderStep state text draw answer next → OrderStep (changed state) text draw answer (changed next)
   Agrees phase (event.Put layer name given) = Commutes phase layer (put_event layer name given) (put_event layer name (value layer name given))
   Agrees phase (event.Get layer name) = Commutes phase layer (get_event layer name) (get_event layer name)
@@ -128,7 +128,7 @@ module _ (change : ℕ → Region → Region) (value : ℕ → List ℕ → List
   of_world next other same = ap seen same
 
   command_seen : (world : World) (text draw : List ℕ) (on : Result (ℕ × State) Refusal) (answer : Reply) (next : World) → running_state_in world ≡ on
-      → Agrees world.phase (event.Command text draw) → CommandStep world text draw on answer next → CommandStep (seen world) text draw (seen_on on) answer (seen next)
+      → Agrees world.phase (event.Order text draw) → CommandStep world text draw on answer next → CommandStep (seen world) text draw (seen_on on) answer (seen next)
   command_seen world text draw (Err refusal) answer next is agrees x = (x.0, ap seen x.1)
   command_seen world text draw (Ok on) answer next is agrees (inl x) =
       let first : world.phase ≡ ratchet 1 = awake_phase world.phase world.state on is ∙ ap ratchet x.0 in
@@ -153,7 +153,7 @@ module _ (change : ℕ → Region → Region) (value : ℕ → List ℕ → List
   machine_seen world event.Status answer next agrees x =
       of_told answer next (status_event world (running_state_in world)) _
       (ap (status_event (seen world)) (running_seen world.phase world.state) ∙ status_seen world (running_state_in world)) x
-  machine_seen world (event.Command text draw) answer next agrees x =
+  machine_seen world (event.Order text draw) answer next agrees x =
       subst (λ (on : Result (ℕ × State) Refusal). CommandStep (seen world) text draw on answer (seen next)) (sym (running_seen world.phase world.state))
       (command_seen world text draw (running_state_in world) answer next refl agrees x)
   machine_seen world event.Go answer next agrees x =

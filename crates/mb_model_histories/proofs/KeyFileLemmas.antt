@@ -1,5 +1,5 @@
--- What a call of `sign` or `countersign` leaves of the files.
-use Rattle.std.proofs.Common.{◌≡◌, ◌≢◌, ◌<◌, ◌≤◌, ◌⊎◌, ℕ, ◌+◌, List, [], ◌∷◌, ◌++◌, Bool, inl, inr, Option, Some, true, false, true≢false, refl, sym, ap, ◌∙◌, subst, arith}
+-- What a call of `sign`, `countersign` or `cosign` leaves of the files.
+use Rattle.std.proofs.Common.{◌≡◌, ◌≢◌, ◌<◌, ◌≤◌, ◌⊎◌, ℕ, ◌+◌, List, [], ◌∷◌, ◌++◌, codes, Bool, inl, inr, Option, Some, true, false, true≢false, refl, sym, ap, ◌∙◌, subst, arith}
 use Rattle.std.specs.Prelude.{◌==◌, if◌then◌else◌, All, AllPairs}
 use Rattle.std.proofs.lemmas.List.Elements.{All-nil, All-cons, All-head}
 use Rattle.std.proofs.lemmas.List.Kept.{AllPairs-cons}
@@ -9,18 +9,26 @@ use Rattle.mb_format.proofs.Whole.{IsClearWhole-from_exact}
 use Rattle.mb_model.specs.declared.order.Order.{Order}
 use Rattle.mb_model.specs.declared.tools.Keyfile.{Keyfile}
 use Rattle.mb_model.specs.records.KeyFormat.{keyfile_format}
+use Rattle.mb_model.specs.records.OrderFormat.{order_body}
+use Rattle.mb_model.specs.signatures.Signing.{signature_of}
+use Rattle.mb_model.specs.chains.Lines.{ReadsLines}
+use Rattle.mb_model.specs.chains.Drafts.{IsDraft}
 use Rattle.mb_model.specs.chains.OrderLines.{order_line}
-use Rattle.mb_model.specs.machine.SignedOrders.{keyfile_after_use, signed_order, countersigned_order}
+use Rattle.mb_model.specs.machine.SignedTexts.{countersigned_text}
+use Rattle.mb_model.specs.machine.SignedOrders.{keyfile_after_use, signed_order, with_countersignature, countersigned_order, IsCountersignable}
 use Rattle.mb_model.specs.outside.Texts.{line_with_lf}
 use Rattle.mb_model.proofs.KeyFormatLaws.{keyfile_exact}
 use Rattle.mb_model_commands.specs.declared.role.Role.{Role}
 use Rattle.mb_model_commands.specs.declared.role.Role.TheVariants as role
-use Rattle.mb_model_commands.specs.Commands.{Input, Command, read, write, print, HasRead, Past, Ended, end_seen_from, SaysLine, Stops, InputEnds, input_is_too_long, input_is_faulty, input_is_not_read, memory_lacks, text_is_printed, text_is_not_printed, CommandEnds, at_first}
+use Rattle.mb_model_commands.specs.Commands.{Input, Command, read, either_command, write, print, refuse, HasRead, Past, Ended, end_seen_from, SaysLine, Stops, InputEnds, input_is_too_long, input_is_faulty, input_is_not_read, memory_lacks, text_is_printed, text_is_not_printed, CommandEnds, at_first}
 use Rattle.mb_model_commands.specs.Inputs.{key_input, draft_input, order_input}
 use Rattle.mb_model_commands.specs.Outside.{Outside, read_once, FailsToRead, by_fault, by_absence}
-use Rattle.mb_model_commands.specs.Sign.{CountersignNames, index_text, use_index, sign_by, sign_draft, sign, countersign_by, countersign_order, countersign}
+use Rattle.mb_model_commands.specs.Sign.{CountersignNames, index_text, use_index, sign_by, sign, countersign}
+use Rattle.mb_model_commands.specs.Cosign.{CosignNames, cosign}
 use Rattle.mb_model_lemmas.proofs.ListLemmas.{pairs_head}
-use Rattle.mb_model_histories.specs.KeyFileLaws.{Files, LeavesKey, nothing_is_written, key_is_not_written, index_is_used, SigningUsesUpItsIndex, CountersigningUsesUpItsIndex, KeyCommand, by_sign, by_countersign, key_name_of, out_name_of, EndsSo, KeyCall, NothingIsSignedWithoutAnIndex, CallsInTurn, indices_used, IndicesInTurnDiffer, OldKeysSignAgain}
+use Rattle.mb_model_lemmas.proofs.LineLemmas.{HasLines-same}
+use Rattle.mb_model_lemmas.proofs.DraftLemmas.{IsDraft-same}
+use Rattle.mb_model_histories.specs.KeyFileLaws.{Files, LeavesKey, nothing_is_written, key_is_not_written, index_is_used, SigningUsesUpItsIndex, CountersigningUsesUpItsIndex, IsCosigned, CosigningSignsTheDraft, KeyCommand, by_sign, by_countersign, by_cosign, key_name_of, out_name_of, EndsSo, KeyCall, NothingIsSignedWithoutAnIndex, CallsInTurn, indices_used, IndicesInTurnDiffer, OldKeysSignAgain}
 
 -- ---- ends without a write
 
@@ -122,15 +130,16 @@ one_key name bytes found key value outside files is holds spelled has other =
     key_clear.one_value found value key has.are_bytes other (subst (λ b. Spells keyfile_format b key) (sym same) spelled)
 
 -- what is read after the key, and then done
-draft_read : {A : Type 0} (input : Input A) (rest : A → Command) (key_name out_name : List ℕ) (key : Keyfile) (Made : Order → Type 0) (before after : Files) (ending : Ended)
+input_read : {A : Type 0} (input : Input A) (rest : A → Command) (key_name out_name : List ℕ) (key : Keyfile) (Made : Order → Type 0) (before after : Files) (ending : Ended)
     → ending.before.files ≡ Some before → ending.after.files ≡ Some after
-    → ((value : A) (mid : Ended) → mid.before.files ≡ Some before → mid.after.files ≡ Some after → CommandEnds (rest value) at_first mid → LeavesKey key_name out_name key Made before after mid.status)
+    → ((bytes : List ℕ) (value : A) → before input.name ≡ Some bytes → input.Is bytes value
+    → (mid : Ended) → mid.before.files ≡ Some before → mid.after.files ≡ Some after → CommandEnds (rest value) at_first mid → LeavesKey key_name out_name key Made before after mid.status)
     → CommandEnds (read input rest) at_first ending → LeavesKey key_name out_name key Made before after ending.status
 unfolding CommandEnds
-draft_read input rest key_name out_name key Made before after ending is_before is_after each (inl ends) =
+input_read input rest key_name out_name key Made before after ending is_before is_after each (inl ends) =
     nothing_is_written (same_files before after ending.before.files ending.after.files is_before is_after (input_files input at_first ending ends))
-draft_read input rest key_name out_name key Made before after ending is_before is_after each (inr (bytes, has, (value, is, ends))) =
-    each value (end_seen_from (read_once ending.before) ending) is_before is_after ends
+input_read input rest key_name out_name key Made before after ending is_before is_after each (inr (bytes, has, (value, is, ends))) =
+    each bytes value (has.held before is_before) is (end_seen_from (read_once ending.before) ending) is_before is_after ends
 
 pub signing_uses_up_its_index : SigningUsesUpItsIndex
 unfolding sign CommandEnds
@@ -139,13 +148,15 @@ signing_uses_up_its_index names ending before after bytes key (inl ends) is_befo
 signing_uses_up_its_index names ending before after bytes key (inr (found, has, (value, is, ends))) is_before is_after holds spelled apart =
     let one : value ≡ key = one_key names.key bytes found key value ending.before before is_before holds spelled has is in
     let Made : Order → Type 0 = λ made. (order : Order) × (made ≡ signed_order key order) in
-    draft_read (draft_input names.draft) (λ order. sign_by names.key names.out key (signed_order key order)) names.key names.out key Made before after
+    let rest = λ (k : Keyfile) (order : Order). sign_by names.key names.out k (signed_order k order) in
+    input_read (draft_input names.draft) (rest key) names.key names.out key Made before after
     (end_seen_from (read_once ending.before) ending) is_before is_after
-    (λ order mid at_before at_after. signed_by names.key names.out key Made spelled.allowed apart before after (signed_order key order) mid (order, refl) at_before at_after)
-    (subst (λ k. CommandEnds (sign_draft names k) at_first (end_seen_from (read_once ending.before) ending)) one ends)
+    (λ text order held means mid at_before at_after. signed_by names.key names.out key Made spelled.allowed apart before after (signed_order key order) mid (order, refl) at_before at_after)
+    (subst (λ k. CommandEnds (read (draft_input names.draft) (rest k)) at_first (end_seen_from (read_once ending.before) ending)) one ends)
 
 countersigned_by : (names : CountersignNames) (key : Keyfile) (Made : Order → Type 0) → keyfile_format.Allowed key → names.out ≢ names.key → (before after : Files) (order : Order) (ending : Ended)
-    → Made (countersigned_order key names.layer order) → ending.before.files ≡ Some before → ending.after.files ≡ Some after → CommandEnds (countersign_by names key order) at_first ending
+    → Made (countersigned_order key names.layer order) → ending.before.files ≡ Some before → ending.after.files ≡ Some after
+    → CommandEnds (either_command (IsCountersignable order names.layer → ⊥) (refuse (codes "not countersignable")) (sign_by names.key names.out key (countersigned_order key names.layer order))) at_first ending
     → LeavesKey names.key names.out key Made before after ending.status
 unfolding CommandEnds
 countersigned_by names key Made allowed apart before after order ending made is_before is_after (inl (not_so, inl stops)) =
@@ -164,10 +175,77 @@ countersigning_uses_up_its_index names ending before after bytes key (inl ends) 
 countersigning_uses_up_its_index names ending before after bytes key (inr (found, has, (value, is, ends))) is_before is_after holds spelled apart =
     let one : value ≡ key = one_key names.key bytes found key value ending.before before is_before holds spelled has is in
     let Made : Order → Type 0 = λ made. (order : Order) × (made ≡ countersigned_order key names.layer order) in
-    draft_read (order_input names.order) (countersign_by names key) names.key names.out key Made before after
+    let rest = λ (k : Keyfile) (order : Order).
+    either_command (IsCountersignable order names.layer → ⊥) (refuse (codes "not countersignable")) (sign_by names.key names.out k (countersigned_order k names.layer order)) in
+    input_read (order_input names.order) (rest key) names.key names.out key Made before after
     (end_seen_from (read_once ending.before) ending) is_before is_after
-    (λ order mid at_before at_after. countersigned_by names key Made spelled.allowed apart before after order mid (order, refl) at_before at_after)
-    (subst (λ k. CommandEnds (countersign_order names k) at_first (end_seen_from (read_once ending.before) ending)) one ends)
+    (λ text order held means mid at_before at_after. countersigned_by names key Made spelled.allowed apart before after order mid (order, refl) at_before at_after)
+    (subst (λ k. CommandEnds (read (order_input names.order) (rest k)) at_first (end_seen_from (read_once ending.before) ending)) one ends)
+
+-- ---- the draft that was read
+
+-- a text drafts one order
+one_draft : (text : List ℕ) (one other : Order) → ReadsLines IsDraft text one → ReadsLines IsDraft text other → one ≡ other
+one_draft text one other reads also =
+    IsDraft-same also.lines one other (subst (λ (lines : List (List ℕ)). IsDraft lines one) (HasLines-same text reads.lines also.lines reads.has also.has) reads.stands) also.stands
+
+-- what is done once the key, the order and the draft are read
+abbrev once_read : CosignNames → Keyfile → Order → Order → Command
+once_read names key order drafted =
+    either_command (IsCountersignable order names.layer → ⊥) (refuse (codes "not countersignable"))
+    (either_command (order_body drafted ≡ order_body order) (sign_by names.key names.out key (countersigned_order key names.layer order)) (refuse (codes "differs")))
+
+cosigned_by : (names : CosignNames) (key : Keyfile) (Made : Order → Type 0) → keyfile_format.Allowed key → names.out ≢ names.key → (before after : Files) (order drafted : Order) (ending : Ended)
+    → (order_body drafted ≡ order_body order → Made (countersigned_order key names.layer order)) → ending.before.files ≡ Some before → ending.after.files ≡ Some after
+    → CommandEnds (once_read names key order drafted) at_first ending → LeavesKey names.key names.out key Made before after ending.status
+unfolding CommandEnds
+cosigned_by names key Made allowed apart before after order drafted ending made is_before is_after (inl (not_so, inl stops)) =
+    nothing_is_written (same_files before after ending.before.files ending.after.files is_before is_after (stopped_files _ 7 at_first ending stops))
+cosigned_by names key Made allowed apart before after order drafted ending made is_before is_after (inl (not_so, inr wants)) =
+    nothing_is_written (same_files before after ending.before.files ending.after.files is_before is_after (stopped_files _ 6 at_first ending wants.stops))
+cosigned_by names key Made allowed apart before after order drafted ending made is_before is_after (inr (inl (so, inl (same, rest)))) =
+    signed_by names.key names.out key Made allowed apart before after (countersigned_order key names.layer order) ending (made same) is_before is_after rest
+cosigned_by names key Made allowed apart before after order drafted ending made is_before is_after (inr (inl (so, inr (inl (differs, inl stops))))) =
+    nothing_is_written (same_files before after ending.before.files ending.after.files is_before is_after (stopped_files _ 7 at_first ending stops))
+cosigned_by names key Made allowed apart before after order drafted ending made is_before is_after (inr (inl (so, inr (inl (differs, inr wants))))) =
+    nothing_is_written (same_files before after ending.before.files ending.after.files is_before is_after (stopped_files _ 6 at_first ending wants.stops))
+cosigned_by names key Made allowed apart before after order drafted ending made is_before is_after (inr (inl (so, inr (inr wants)))) =
+    nothing_is_written (same_files before after ending.before.files ending.after.files is_before is_after (stopped_files _ 6 at_first ending wants.stops))
+cosigned_by names key Made allowed apart before after order drafted ending made is_before is_after (inr (inr wants)) =
+    nothing_is_written (same_files before after ending.before.files ending.after.files is_before is_after (stopped_files _ 6 at_first ending wants.stops))
+
+-- what a call of `cosign` leaves, by what may be made of an order whose body is that of the draft in DRAFT
+cosigning_leaves : (names : CosignNames) (ending : Ended) (before after : Files) (bytes : List ℕ) (key : Keyfile) (Made : Order → Type 0)
+    → ((text : List ℕ) (drafted order : Order) → before names.draft ≡ Some text → ReadsLines IsDraft text drafted → order_body drafted ≡ order_body order → Made (countersigned_order key names.layer order))
+    → CommandEnds (cosign names) at_first ending → ending.before.files ≡ Some before → ending.after.files ≡ Some after → before names.key ≡ Some bytes → Spells keyfile_format bytes key → names.out ≢ names.key
+    → LeavesKey names.key names.out key Made before after ending.status
+unfolding cosign CommandEnds
+cosigning_leaves names ending before after bytes key Made made (inl ends) is_before is_after holds spelled apart =
+    nothing_is_written (same_files before after ending.before.files ending.after.files is_before is_after (input_files (key_input names.key) at_first ending ends))
+cosigning_leaves names ending before after bytes key Made made (inr (found, has, (value, is, ends))) is_before is_after holds spelled apart =
+    let one : value ≡ key = one_key names.key bytes found key value ending.before before is_before holds spelled has is in
+    let rest = λ (k : Keyfile) (order : Order). read (draft_input names.draft) (once_read names k order) in
+    input_read (order_input names.order) (rest key) names.key names.out key Made before after
+    (end_seen_from (read_once ending.before) ending) is_before is_after
+    (λ line order there says mid at_before at_after. input_read (draft_input names.draft) (once_read names key order) names.key names.out key Made before after mid at_before at_after
+    (λ text drafted held means late late_before late_after. cosigned_by names key Made spelled.allowed apart before after order drafted late (made text drafted order held means) late_before late_after))
+    (subst (λ k. CommandEnds (read (order_input names.order) (rest k)) at_first (end_seen_from (read_once ending.before) ending)) one ends)
+
+pub cosigning_signs_the_draft : CosigningSignsTheDraft
+cosigning_signs_the_draft names ending before after bytes text key drafted ends is_before is_after holds spelled there reads apart =
+    cosigning_leaves names ending before after bytes key (IsCosigned key names.layer drafted)
+    (λ found other order held means same.
+    let one_text : found ≡ text = same_Some found text (sym held ∙ there) in
+    let one : other ≡ drafted = one_draft text other drafted (subst (λ (t : List ℕ). ReadsLines IsDraft t other) one_text means) reads in
+    let own : order_body drafted ≡ order_body order = subst (λ (d : Order). order_body d ≡ order_body order) one same in
+    record {
+      order = order;
+      same = own;
+      signed = ap (λ (body : List ℕ). record order {
+        countersignatures = with_countersignature (record { layer = names.layer; signature = signature_of key.seed key.next (countersigned_text names.layer body) }) order.countersignatures;
+      }) (sym own);
+    })
+    ends is_before is_after holds spelled apart
 
 -- ---- calls one after another
 
@@ -189,6 +267,14 @@ call_leaves key_name found left call = by call.command call.is_key call.is_not_o
           _,
           subst (λ n. LeavesKey n names.out found (λ made. (order : Order) × (made ≡ signed_order found order)) call.before call.after call.ending.status) is
               (signing_uses_up_its_index names call.ending call.before call.after call.bytes found ends call.shows_before call.shows_after holds call.spelled (λ same. apart (same ∙ is))),
+        )
+    by (by_cosign names) is apart ends =
+        let holds : call.before names.key ≡ Some call.bytes = ap call.before is ∙ call.holds in
+        let Made : Order → Type 0 = λ made. (order : Order) × (made ≡ countersigned_order found names.layer order) in (
+          _,
+          subst (λ n. LeavesKey n names.out found Made call.before call.after call.ending.status) is
+              (cosigning_leaves names call.ending call.before call.after call.bytes found Made (λ text drafted order held means same. (order, refl)) ends call.shows_before call.shows_after holds call.spelled
+              (λ same. apart (same ∙ is))),
         )
     by (by_countersign names) is apart ends =
         let holds : call.before names.key ≡ Some call.bytes = ap call.before is ∙ call.holds in (

@@ -747,7 +747,7 @@ module _ (phase : Phase) (armed : Bool) where
 
 -- the event with this draw, if it has one
 abbrev drawn : List ℕ → Event → Event
-drawn draw (event.Command text old) = event.Command text draw
+drawn draw (event.Order text old) = event.Order text draw
 drawn draw other = other
 
 -- what the machine answers to a twin
@@ -771,7 +771,7 @@ refused_alike armed phase one other pair r answer next this machine is same =
     record { told = refusal_reply r; end = world_of phase armed other; machine = machine; replies = ap keyless_reply is; worlds = ap keyless_world same ∙ worlds_alike phase armed one other pair }
 
 command_alike : (armed : Bool) (draw text old : List ℕ) (answer : Reply) (next : World) (phase : Phase) (one other : Option State) → TwinStates one other
-    → CommandStep (world_of phase armed one) text old (running_state phase one) answer next → TwinMachine (world_of phase armed other) (event.Command text draw) answer next
+    → CommandStep (world_of phase armed one) text old (running_state phase one) answer next → TwinMachine (world_of phase armed other) (event.Order text draw) answer next
 command_alike armed draw text old answer next off one other pair x = refused_alike armed off one other pair refusal.PoweredOff answer next _ (refl, refl) x.0 x.1
 command_alike armed draw text old answer next dead one other pair x = refused_alike armed dead one other pair refusal.Zeroised answer next _ (refl, refl) x.0 x.1
 command_alike armed draw text old answer next (ratchet level) None None both_dead x = refused_alike armed (ratchet level) None None both_dead refusal.Zeroised answer next _ (refl, refl) x.0 x.1
@@ -785,7 +785,7 @@ command_alike armed draw text old answer next (ratchet level) (Some state) (Some
       worlds = ap keyless_world x.1.2 ∙ worlds_alike (ratchet level) armed (Some x.1.0) (Some t.end) (both_alive t.alike);
     }
 command_alike armed draw text old answer next (ratchet level) (Some state) (Some twin) (both_alive same) (inr x) =
-    refused_alike armed (ratchet level) (Some state) (Some twin) (both_alive same) refusal.WrongPhase answer next (event.Command text draw) (inr (x.0, refl, refl)) x.1 x.2
+    refused_alike armed (ratchet level) (Some state) (Some twin) (both_alive same) refusal.WrongPhase answer next (event.Order text draw) (inr (x.0, refl, refl)) x.1 x.2
 command_alike armed draw text old answer next (ratchet level) None (Some twin) pair x = elim pair [ ]
 command_alike armed draw text old answer next (ratchet level) (Some state) None pair x = elim pair [ ]
 
@@ -813,7 +813,7 @@ module _ (phase : Phase) (armed : Bool) (draw : List ℕ) (one other : Option St
       record { told = reply.Armed; end = record there { armed = true }; machine = (refl, refl); replies = ap keyless_reply x.0; worlds = ap keyless_world x.1 ∙ worlds_alike phase true one other pair }
   machine_alike event.Status answer next x =
       from_told answer next (status_event here (running_state_in here)) (status_event there (running_state_in there)) there event.Status refl (status_told phase armed one other pair) x
-  machine_alike (event.Command text old) answer next x = command_alike armed draw text old answer next phase one other pair x
+  machine_alike (event.Order text old) answer next x = command_alike armed draw text old answer next phase one other pair x
   machine_alike event.Go answer next x =
       from_told answer next (go_event here (running_state_in here)) (go_event there (running_state_in there)) there event.Go refl (go_told phase armed one other pair) x
   machine_alike (event.Put layer name value) answer next x =
@@ -830,7 +830,7 @@ cut_kept (reply.Signed key index statement) = refl
 cut_kept other = refl
 
 wanted_same : (draw : List ℕ) (this : Event) → may_want_memory (drawn draw this) ≡ may_want_memory this
-wanted_same draw (event.Command text old) = refl
+wanted_same draw (event.Order text old) = refl
 wanted_same draw other = refl
 
 -- the step of a twin
@@ -873,16 +873,16 @@ module _ (phase : Phase) (armed : Bool) (draw : List ℕ) (one other : Option St
 -- ---- runs
 
 draw_of : Event → List ℕ
-draw_of (event.Command text draw) = draw
+draw_of (event.Order text draw) = draw
 draw_of other = []
 
 drawn_back : (this : Event) → drawn (draw_of this) (undrawn_event this) ≡ this
 unfolding draw_of
-drawn_back (event.Command text draw) = refl
+drawn_back (event.Order text draw) = refl
 drawn_back other = refl
 
 drawn_over : (draw : List ℕ) (this : Event) → drawn draw (undrawn_event this) ≡ drawn draw this
-drawn_over draw (event.Command text old) = refl
+drawn_over draw (event.Order text old) = refl
 drawn_over draw other = refl
 
 -- an event that differs in its draw alone

@@ -154,7 +154,7 @@ left_same : (here : World) (this : Event) (layer : ℕ) (next other : World) →
 left_same here this layer next other is same = inl (regional_same here this layer next.state (ap (λ (w : World). w.state) is ∙ same))
 
 order_leaves : (here : World) (text draw : List ℕ) (layer : ℕ) (on : ℕ × State) (answer : Reply) (after : State) (next : World) → running_state_in here ≡ Ok on → on.0 ≡ 1
-    → next ≡ record here { state = Some after } → OrderStep on.1 text draw answer after → Leaves here (event.Command text draw) layer next
+    → next ≡ record here { state = Some after } → OrderStep on.1 text draw answer after → Leaves here (event.Order text draw) layer next
 order_leaves here text draw layer on answer after next is first same (spells_none p) =
     left_same here _ layer next (record here { state = Some after }) same (ap Some p.stays ∙ sym (awake_state here.phase here.state on is))
 order_leaves here text draw layer on answer after next is first same (fails_check p) =
@@ -175,7 +175,7 @@ order_leaves here text draw layer on answer after next is first same (is_obeyed 
 )
 
 command_leaves : (here : World) (text draw : List ℕ) (layer : ℕ) (on : Result (ℕ × State) Refusal) (answer : Reply) (next : World) → running_state_in here ≡ on
-    → CommandStep here text draw on answer next → Leaves here (event.Command text draw) layer next
+    → CommandStep here text draw on answer next → Leaves here (event.Order text draw) layer next
 command_leaves here text draw layer (Err refusal) answer next is x = left_same here _ layer next here x.1 refl
 command_leaves here text draw layer (Ok on) answer next is (inl x) = order_leaves here text draw layer on answer x.1.0 next is x.0 x.1.2 x.1.1
 command_leaves here text draw layer (Ok on) answer next is (inr x) = left_same here _ layer next here x.2 refl
@@ -189,7 +189,7 @@ machine_leaves here event.Off answer next layer x = left_same here _ layer next 
 machine_leaves here event.Tamper answer next layer x = inl (subst (Regional here event.Tamper layer) (sym (ap (λ (w : World). w.state) x.1)) (no_state here event.Tamper layer))
 machine_leaves here (event.Cut count tear) answer next layer x = left_same here _ layer next (record here { armed = true }) x.1 refl
 machine_leaves here event.Status answer next layer x = told_same here _ layer answer next (status_event here (running_state_in here)) x (status_state here (running_state_in here))
-machine_leaves here (event.Command text draw) answer next layer x = command_leaves here text draw layer (running_state_in here) answer next refl x
+machine_leaves here (event.Order text draw) answer next layer x = command_leaves here text draw layer (running_state_in here) answer next refl x
 machine_leaves here event.Go answer next layer x = told_same here _ layer answer next (go_event here (running_state_in here)) x (gone_state here (running_state_in here))
 machine_leaves here (event.Put asked name value) answer next layer x =
     told_regional here _ layer answer next (region_event here asked (put_event asked name value) (running_state_in here)) x

@@ -196,7 +196,7 @@ agrees_above phase event.Tamper at = tt
 agrees_above phase event.Status at = tt
 agrees_above phase event.Go at = tt
 agrees_above phase (event.Cut count tear) at = refl
-agrees_above phase (event.Command text draw) at = λ first. absurd (omega (arith, ap level_of (sym at ∙ first)))
+agrees_above phase (event.Order text draw) at = λ first. absurd (omega (arith, ap level_of (sym at ∙ first)))
 agrees_above phase (event.Put layer name value) at =
     above_two phase layer (put_event layer name value) (put_event layer name value) at (λ other state. put_seen emptied empty_blank layer (same_value layer) (emptied_gently layer other) state name value)
 agrees_above phase (event.Get layer name) at =
@@ -310,7 +310,7 @@ module _ (world : World) (at : world.phase ≡ ratchet 3) where
   machine_two event.Tamper answer next x = world_two next (record world { phase = off; state = None }) x.1 (λ before after was is. absurd (grind (arith, is)))
   machine_two (event.Cut count tear) answer next x = world_two next (record world { armed = true }) x.1 (two_same world.state)
   machine_two event.Status answer next x = told_two answer next (status_event world (running_state_in world)) x (status_two (running_state_in world))
-  machine_two (event.Command text draw) answer next x = command_two text draw (running_state_in world) answer next refl x
+  machine_two (event.Order text draw) answer next x = command_two text draw (running_state_in world) answer next refl x
   machine_two event.Go answer next x = told_two answer next (go_event world (running_state_in world)) x (go_two (running_state_in world))
   machine_two (event.Put layer name value) answer next x =
       told_two answer next (region_event world layer (put_event layer name value) (running_state_in world)) x

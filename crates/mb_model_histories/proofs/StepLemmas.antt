@@ -127,14 +127,14 @@ awake_phase (ratchet r) (Some state) on e =
 
 -- the state that an order step leaves unchanged
 order_left : (here : World) (text draw : List ℕ) (on : ℕ × State) (answer : Reply) (after : State) (next : World) (refusal : Refusal) → here.state ≡ Some on.1
-    → next ≡ record here { state = Some after } → after ≡ on.1 → answer ≡ refusal_reply refusal → ComesTo here (event.Command text draw) answer next
+    → next ≡ record here { state = Some after } → after ≡ on.1 → answer ≡ refusal_reply refusal → ComesTo here (event.Order text draw) answer next
 order_left here text draw on answer after next refusal was same stays told =
-    kept_in here (event.Command text draw) answer next (record here { state = Some after }) same
+    kept_in here (event.Order text draw) answer next (record here { state = Some after }) same
     (subst (λ (o : Option State). Keeps o (Some after)) (sym was) (subst (λ (s : State). KeepsAllButRegions on.1 s) (sym stays) refl))
     (ap is_done told)
 
 order_comes : (here : World) (text draw : List ℕ) (on : ℕ × State) (answer : Reply) (after : State) (next : World) → running_state_in here ≡ Ok on → on.0 ≡ 1
-    → next ≡ record here { state = Some after } → OrderStep on.1 text draw answer after → ComesTo here (event.Command text draw) answer next
+    → next ≡ record here { state = Some after } → OrderStep on.1 text draw answer after → ComesTo here (event.Order text draw) answer next
 order_comes here text draw on answer after next is first same (spells_none p) = order_left here text draw on answer after next BadText (awake_state here.phase here.state on is) same p.stays p.answered
 order_comes here text draw on answer after next is first same (fails_check p) = order_left here text draw on answer after next p.refusal (awake_state here.phase here.state on is) same p.stays p.answered
 order_comes here text draw on answer after next is first same (is_obeyed p) = obeys p.order (record {
@@ -150,7 +150,7 @@ order_comes here text draw on answer after next is first same (is_obeyed p) = ob
 })
 
 command_comes : (here : World) (text draw : List ℕ) (on : Result (ℕ × State) Refusal) (answer : Reply) (next : World) → running_state_in here ≡ on
-    → CommandStep here text draw on answer next → ComesTo here (event.Command text draw) answer next
+    → CommandStep here text draw on answer next → ComesTo here (event.Order text draw) answer next
 command_comes here text draw (Err refusal) answer next is x = kept_in here _ answer next here x.1 (keeps_same here.state) (ap is_done x.0)
 command_comes here text draw (Ok on) answer next is (inl x) = order_comes here text draw on answer x.1.0 next is x.0 x.1.2 x.1.1
 command_comes here text draw (Ok on) answer next is (inr x) = kept_in here _ answer next here x.2 (keeps_same here.state) (ap is_done x.1)
@@ -161,7 +161,7 @@ machine_comes here event.Off answer next x = kept_in here _ answer next (record 
 machine_comes here event.Tamper answer next x = kept_in here _ answer next (record here { phase = off; state = None }) x.1 tt (ap is_done x.0)
 machine_comes here (event.Cut count tear) answer next x = kept_in here _ answer next (record here { armed = true }) x.1 (keeps_same here.state) (ap is_done x.0)
 machine_comes here event.Status answer next x = of_told here _ answer next (status_event here (running_state_in here)) x (status_undone here (running_state_in here))
-machine_comes here (event.Command text draw) answer next x = command_comes here text draw (running_state_in here) answer next refl x
+machine_comes here (event.Order text draw) answer next x = command_comes here text draw (running_state_in here) answer next refl x
 machine_comes here event.Go answer next x = of_told here _ answer next (go_event here (running_state_in here)) x (go_undone here (running_state_in here))
 machine_comes here (event.Put L name value) answer next x =
     of_told here _ answer next (region_event here L (put_event L name value) (running_state_in here)) x (region_undone here L (put_event L name value) (running_state_in here) refl (put_undone L name value))

@@ -8,7 +8,7 @@ use Rattle.std.proofs.lemmas.Option.{same_Some}
 use Rattle.mb_format.specs.Format.{Spells}
 use Rattle.mb_model.specs.declared.event.Answered.{Answered}
 use Rattle.mb_model.specs.declared.event.Event.{Event}
-use Rattle.mb_model.specs.declared.event.Event.TheVariants.{Command}
+use Rattle.mb_model.specs.declared.event.Event.TheVariants as event
 use Rattle.mb_model.specs.declared.key.PublicKey.{PublicKey}
 use Rattle.mb_model.specs.declared.layer.Layer.{Layer}
 use Rattle.mb_model.specs.declared.limits.TheConstants.{LAST_INDEX}
@@ -296,16 +296,16 @@ record IsFilling (here : World) (order : Order) (text draw : List ℕ) : Type 0 
   last : World
   full : State
   run : Run here answered last
-  each : All (λ (this : Answered). (this.event ≡ Command text draw) × IsTrue (is_done this.reply)) answered
+  each : All (λ (this : Answered). (this.event ≡ event.Order text draw) × IsTrue (is_done this.reply)) answered
   is : last.state ≡ Some full
   filled : IsFilledFor order full
 
 module _ (order : Order) (text draw : List ℕ) (spelled : Spells order_format text order) where
   given : State → Answered
-  given after = record { event = Command text draw; reply = reply.Done (number_of (entries_of after.log)) (length after.log) }
+  given after = record { event = event.Order text draw; reply = reply.Done (number_of (entries_of after.log)) (length after.log) }
 
   obeyed_step : (here : World) (state : State) → here.phase ≡ ratchet 1 → here.state ≡ Some state → Passes (view_of state) order
-      → Step here (Command text draw) (given (state_after_order state order draw)).reply (record here { state = Some (state_after_order state order draw) })
+      → Step here (event.Order text draw) (given (state_after_order state order draw)).reply (record here { state = Some (state_after_order state order draw) })
   unfolding given
   obeyed_step here state at was passes =
       let after : State = state_after_order state order draw in
@@ -319,7 +319,7 @@ module _ (order : Order) (text draw : List ℕ) (spelled : Spells order_format t
   unfolding given
   fills_more here state at was passes later =
       let after : State = state_after_order state order draw in
-      let Each : Answered → Type 0 = λ this. (this.event ≡ Command text draw) × IsTrue (is_done this.reply) in
+      let Each : Answered → Type 0 = λ this. (this.event ≡ event.Order text draw) × IsTrue (is_done this.reply) in
       record {
         answered = given after ∷ later.answered;
         last = later.last;
@@ -337,7 +337,7 @@ module _ (order : Order) (text draw : List ℕ) (spelled : Spells order_format t
     last = here;
     full = state;
     run = refl;
-    each = All-nil (λ (this : Answered). (this.event ≡ Command text draw) × IsTrue (is_done this.reply));
+    each = All-nil (λ (this : Answered). (this.event ≡ event.Order text draw) × IsTrue (is_done this.reply));
     is = was;
     filled = filled_for state order no_room;
   }

@@ -208,7 +208,7 @@ module _ (hidden : HiddenSecrets) where
   given_same event.Status = refl
   given_same event.Go = refl
   given_same (event.Cut count tear) = refl
-  given_same (event.Command text draw) = refl
+  given_same (event.Order text draw) = refl
   given_same (event.Put layer name value) = refl
   given_same (event.Get layer name) = refl
   given_same (event.Drop layer name) = refl
@@ -221,7 +221,7 @@ module _ (hidden : HiddenSecrets) where
   agrees_veiled phase event.Status free = tt
   agrees_veiled phase event.Go free = tt
   agrees_veiled phase (event.Cut count tear) free = refl
-  agrees_veiled phase (event.Command text draw) free = λ first state next answer step. order_step_veiled text draw state next answer step
+  agrees_veiled phase (event.Order text draw) free = λ first state next answer step. order_step_veiled text draw state next answer step
   agrees_veiled phase (event.Put layer name value) free =
       λ level at. inr (λ state. put_seen veils blank layer (puts_value layer) (veiled_gently (hidden layer)) state name value)
   agrees_veiled phase (event.Get layer name) free =
@@ -296,7 +296,7 @@ brings_veiled hidden event.Tamper are = tt
 brings_veiled hidden event.Status are = tt
 brings_veiled hidden event.Go are = tt
 brings_veiled hidden (event.Cut count tear) are = tt
-brings_veiled hidden (event.Command text draw) are = are
+brings_veiled hidden (event.Order text draw) are = are
 brings_veiled hidden (event.Put layer name value) are = tt
 brings_veiled hidden (event.Get layer name) are = tt
 brings_veiled hidden (event.Drop layer name) are = tt

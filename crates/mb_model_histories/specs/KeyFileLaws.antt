@@ -4,11 +4,18 @@ use Rattle.mb_format.specs.Format.{IsBytes, Spells}
 use Rattle.mb_model.specs.declared.order.Order.{Order}
 use Rattle.mb_model.specs.declared.tools.Keyfile.{Keyfile}
 use Rattle.mb_model.specs.records.KeyFormat.{keyfile_format}
+use Rattle.mb_model.specs.records.OrderFormat.{order_body}
+use Rattle.mb_model.specs.signatures.Signing.{signature_of}
+use Rattle.mb_model.specs.chains.Lines.{ReadsLines}
+use Rattle.mb_model.specs.chains.Drafts.{IsDraft}
 use Rattle.mb_model.specs.chains.OrderLines.{order_line}
+use Rattle.mb_model.specs.machine.SignedTexts.{countersigned_text}
 use Rattle.mb_model.specs.machine.SignedOrders.{keyfile_after_use, signed_order, countersigned_order}
+use Rattle.mb_model.specs.machine.SignedOrders.{with_countersignature}
 use Rattle.mb_model.specs.outside.Texts.{line_with_lf}
 use Rattle.mb_model_commands.specs.Commands.{Ended, CommandEnds, at_first}
 use Rattle.mb_model_commands.specs.Sign.{SignNames, CountersignNames, sign, countersign}
+use Rattle.mb_model_commands.specs.Cosign.{CosignNames, cosign}
 
 -- the files of a host by name, where it shows them
 abbrev pub Files : Type 0
@@ -68,26 +75,53 @@ CountersigningUsesUpItsIndex =
     after
     ending.status
 
+-- What `cosign` makes of some order whose body is that of the draft: the order with the key's countersignature for the
+-- layer, which is the signature of the draft's body at the key's next index.
+pub record IsCosigned (key : Keyfile) (layer : ℕ) (drafted made : Order) : Type 0 where
+  pub order : Order
+  pub same : order_body drafted ≡ order_body order
+  pub signed : made ≡ record order {
+    countersignatures = with_countersignature (record {
+      layer = layer;
+      signature = signature_of key.seed key.next (countersigned_text layer (order_body drafted));
+    }) order.countersignatures;
+  }
+
+-- A call of `cosign` leaves KEY as it was and signs nothing, or uses up one index of it before the signature of DRAFT's
+-- body is written, or KEY could not be written.
+abbrev pub CosigningSignsTheDraft : Type 0
+CosigningSignsTheDraft =
+    (names : CosignNames) (ending : Ended) (before after : Files) (bytes text : List ℕ) (key : Keyfile)
+    (drafted : Order)
+    → CommandEnds (cosign names) at_first ending → ending.before.files ≡ Some before
+    → ending.after.files ≡ Some after → before names.key ≡ Some bytes → Spells keyfile_format bytes key
+    → before names.draft ≡ Some text → ReadsLines IsDraft text drafted → names.out ≢ names.key
+    → LeavesKey names.key names.out key (IsCosigned key names.layer drafted) before after ending.status
+
 -- ---- calls one after another
 
--- a call of one of the two commands that sign with an officer's key
+-- a call of one of the commands that sign orders with an officer's key
 pub data KeyCommand : Type 0 where
   by_sign : SignNames → KeyCommand
   by_countersign : CountersignNames → KeyCommand
+  by_cosign : CosignNames → KeyCommand
 
 -- the names of KEY and OUT
 abbrev pub key_name_of : KeyCommand → List ℕ
 key_name_of (by_sign names) = names.key
 key_name_of (by_countersign names) = names.key
+key_name_of (by_cosign names) = names.key
 
 abbrev pub out_name_of : KeyCommand → List ℕ
 out_name_of (by_sign names) = names.out
 out_name_of (by_countersign names) = names.out
+out_name_of (by_cosign names) = names.out
 
 -- the command ends so
 abbrev pub EndsSo : KeyCommand → Ended → Type 0
 EndsSo (by_sign names) ending = CommandEnds (sign names) at_first ending
 EndsSo (by_countersign names) ending = CommandEnds (countersign names) at_first ending
+EndsSo (by_cosign names) ending = CommandEnds (cosign names) at_first ending
 
 -- A call that finds one key in the file KEY and leaves another there, over a host that shows its files. If a write
 -- failed, KEY holds the key that it held, or the one with an index more used.

@@ -69,6 +69,8 @@ keyless_region region = record region { keys = map keyless_key region.keys }
 
 -- All of a state but its keys and what they sign: the serial, the layers, the codes and the secrets stay, and of each
 -- key its number, kind and uses. Of each entry all stays but the key that it names, and of its signature the index.
+-- Keys of regions are not compared here, and that they stay is a law of its own (`OldKeysStay`): a device key has no
+-- number in a state, and an old key signs other bytes if the entry names another new key.
 abbrev pub keyless_state : State → State
 keyless_state state = record state {
   log = map keyless_signed state.log;
@@ -88,14 +90,16 @@ keyless_reply other = other
 
 -- the event without its draw
 abbrev pub undrawn_event : Event → Event
-undrawn_event (event.Command text draw) = event.Command text []
+undrawn_event (event.Order text draw) = event.Order text []
 undrawn_event other = other
 
 -- ---- what a draw decides
 
 -- To each run from a world, and each list of events that differ from the run's in their draws alone, there is a run of
 -- these events whose replies are the same but for the signatures of statements, and which leads to a world that is the
--- same but for keys and what they sign. The worlds before the two may differ in this way too.
+-- same but for keys and what they sign. The worlds before the two may differ in this way too. It speaks of power losses
+-- and want of memory too, where two runs need not have the same answers; that two runs have such ends is a clause of
+-- its own.
 abbrev pub NoiseMattersToKeysAlone : Type 0
 NoiseMattersToKeysAlone =
     (world other next : World) (answered : List Answered) (events : List Event)

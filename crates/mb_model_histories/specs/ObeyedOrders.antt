@@ -2,7 +2,8 @@
 use Rattle.std.specs.Prelude.{◌≡◌, ◌<◌, ◌≤◌, List, ℕ, false, Option, None, Some}
 use Rattle.mb_format.specs.Format.{Spells}
 use Rattle.mb_model.specs.declared.event.Event.{Event}
-use Rattle.mb_model.specs.declared.event.Event.TheVariants.{Command, Put, Drop, Sign}
+use Rattle.mb_model.specs.declared.event.Event.TheVariants as event
+use Rattle.mb_model.specs.declared.event.Event.TheVariants.{Put, Drop, Sign}
 use Rattle.mb_model.specs.declared.layer.Layer.{Layer}
 use Rattle.mb_model.specs.declared.order.Order.{Order}
 use Rattle.mb_model.specs.declared.state.State.{State}
@@ -19,7 +20,7 @@ pub record ObeysAt (here : World) (this : Event) (next : World) (order : Order) 
   pub text : List ℕ
   pub draw : List ℕ
   pub before : State
-  pub given : this ≡ Command text draw
+  pub given : this ≡ event.Order text draw
   pub running : here.phase ≡ ratchet 1
   pub was : here.state ≡ Some before
   pub spelled : Spells order_format text order

@@ -79,7 +79,7 @@ abbrev pub answered_done : State → Order → List ℕ → Answered
 answered_done state order draw =
     let after : State = state_after_order state order draw in
     record {
-      event = event.Command (order_format.spelling order) draw;
+      event = event.Order (order_format.spelling order) draw;
       reply = reply.Done (number_of (entries_of after.log)) (length after.log);
     }
 

@@ -5,7 +5,7 @@ use Rattle.mb_format.specs.Format.{Spells}
 use Rattle.mb_model.specs.declared.limits.TheConstants.{ENTRY_LIMIT}
 use Rattle.mb_model.specs.declared.event.Answered.{Answered}
 use Rattle.mb_model.specs.declared.event.Event.{Event}
-use Rattle.mb_model.specs.declared.event.Event.TheVariants.{Command}
+use Rattle.mb_model.specs.declared.event.Event.TheVariants as event
 use Rattle.mb_model.specs.declared.order.Act.TheVariants as act
 use Rattle.mb_model.specs.declared.order.Order.{Order}
 use Rattle.mb_model.specs.declared.order.Payload.{Payload}
@@ -106,7 +106,7 @@ OneFreeLoadFillsTheLog =
     (here : World) (state : State) (order : Order) (text draw : List ℕ) → here.phase ≡ ratchet 1
     → here.state ≡ Some state → Spells order_format text order → IsFreeLoad state order
     → (answered : List Answered) × (last : World) × (full : State) × Run here answered last
-    × All (λ this. (this.event ≡ Command text draw) × IsTrue (is_done this.reply)) answered
+    × All (λ this. (this.event ≡ event.Order text draw) × IsTrue (is_done this.reply)) answered
     × (last.state ≡ Some full) × IsFilledFor order full
 
 -- An order that demands a length does not pass again.

@@ -53,7 +53,7 @@ said event.Tamper is are = (codes "tamper", refl)
 said event.Status is are = (codes "status", refl)
 said event.Go is are = (codes "go", refl)
 said (event.Cut count tear) is are = cut_said count tear is.0 is.1 are
-said (event.Command text draw) is are =
+said (event.Order text draw) is are =
     (spaced_words (codes "command" ∷ hex_word text ∷ []), (ends (codes "command" ∷ []) text are, refl))
 said (event.Put region name value) is are =
     (spaced_words (codes "put" ∷ decimal region ∷ name ∷ hex_word value ∷ []), (is.0, is.1, is.2, ends (codes "put" ∷ decimal region ∷ name ∷ []) value are))

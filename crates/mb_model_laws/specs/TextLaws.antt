@@ -56,7 +56,7 @@ HoldsBytes event.Tamper = Unit {0}
 HoldsBytes event.Status = Unit {0}
 HoldsBytes event.Go = Unit {0}
 HoldsBytes (event.Cut count tear) = IsBytes tear.fill
-HoldsBytes (event.Command text draw) = IsBytes text
+HoldsBytes (event.Order text draw) = IsBytes text
 HoldsBytes (event.Put region name value) = IsBytes value
 HoldsBytes (event.Get region name) = Unit {0}
 HoldsBytes (event.Drop region name) = Unit {0}
@@ -64,7 +64,7 @@ HoldsBytes (event.Sign region key message) = IsBytes message
 
 -- the event as a line gives it
 abbrev pub undrawn : Event → Event
-undrawn (event.Command text draw) = event.Command text (replicate 32 0)
+undrawn (event.Order text draw) = event.Order text (replicate 32 0)
 undrawn other = other
 
 -- each event that a line can give, and that holds bytes, is said by some line

@@ -66,11 +66,11 @@ commands_in-append a b = sum_by-append (λ e. cond (is_command e) 1 0) a b
 
 -- what is needed for the first of some events
 room : (noise : List ℕ) (before : List Event) (text draw : List ℕ) (events : List Event)
-    → 32 * commands_in (before ++ event.Command text draw ∷ events) ≤ length noise → 32 * commands_in before + 32 ≤ length noise
+    → 32 * commands_in (before ++ event.Order text draw ∷ events) ≤ length noise → 32 * commands_in before + 32 ≤ length noise
 unfolding commands_in
 room noise before text draw events enough =
-    let all = commands_in-append before (event.Command text draw ∷ events) in
-    let one : commands_in (event.Command text draw ∷ events) ≡ 1 + commands_in events = commands_in-append (event.Command text draw ∷ []) events in
+    let all = commands_in-append before (event.Order text draw ∷ events) in
+    let one : commands_in (event.Order text draw ∷ events) ≡ 1 + commands_in events = commands_in-append (event.Order text draw ∷ []) events in
     omega (arith, enough, all, one)
 
 drawn_one : (noise : List ℕ) (before : List Event) (e : Event) (events : List Event) → 32 * commands_in (before ++ e ∷ events) ≤ length noise
@@ -81,7 +81,7 @@ drawn_one noise before event.Tamper events enough is = is
 drawn_one noise before event.Status events enough is = is
 drawn_one noise before event.Go events enough is = is
 drawn_one noise before (event.Cut count tear) events enough is = is
-drawn_one noise before (event.Command text draw) events enough is = length-part (32 * commands_in before) 32 noise (room noise before text draw events enough)
+drawn_one noise before (event.Order text draw) events enough is = length-part (32 * commands_in before) 32 noise (room noise before text draw events enough)
 drawn_one noise before (event.Put region name value) events enough is = is
 drawn_one noise before (event.Get region name) events enough is = is
 drawn_one noise before (event.Drop region name) events enough is = is

@@ -28,7 +28,7 @@ letters_of event.Tamper = letters (codes "tamper")
 letters_of event.Status = letters (codes "status")
 letters_of event.Go = letters (codes "go")
 letters_of (event.Cut count tear) = letters (codes "cut")
-letters_of (event.Command text draw) = letters (codes "command")
+letters_of (event.Order text draw) = letters (codes "command")
 letters_of (event.Put region name value) = letters (codes "put")
 letters_of (event.Get region name) = letters (codes "get")
 letters_of (event.Drop region name) = letters (codes "drop")
@@ -41,7 +41,7 @@ says_letters line event.Tamper says = ap letters says
 says_letters line event.Status says = ap letters says
 says_letters line event.Go says = ap letters says
 says_letters line (event.Cut count tear) says = ap letters says.spelled
-says_letters line (event.Command text draw) says = ap letters says.0.2
+says_letters line (event.Order text draw) says = ap letters says.0.2
 says_letters line (event.Put region name value) says = ap letters says.3.2
 says_letters line (event.Get region name) says = ap letters says.2
 says_letters line (event.Drop region name) says = ap letters says.2
@@ -96,7 +96,7 @@ cut_same line m n s t hs ht =
 -- ---- the other events with words
 
 command_same : (line a b d f : List ℕ) → EndsInHex line (codes "command" ∷ []) a → EndsInHex line (codes "command" ∷ []) b → d ≡ f
-    → event.Command a d ≡ event.Command b f
+    → event.Order a d ≡ event.Order b f
 command_same line a b d f ha hb draws =
     let words = append_cancel_left (codes "command ") ha.0 hb.0 (sym ha.2 ∙ hb.2) in
     let text = IsHex-same ha.0 hb.0 a b words ha.1 hb.1 in
@@ -143,7 +143,7 @@ SaysEvent-same line event.Tamper event.Tamper ha hb = refl
 SaysEvent-same line event.Status event.Status ha hb = refl
 SaysEvent-same line event.Go event.Go ha hb = refl
 SaysEvent-same line (event.Cut m s) (event.Cut n t) ha hb = cut_same line m n s t ha hb
-SaysEvent-same line (event.Command a d) (event.Command b f) ha hb = command_same line a b d f ha.0 hb.0 (ha.1 ∙ sym hb.1)
+SaysEvent-same line (event.Order a d) (event.Order b f) ha hb = command_same line a b d f ha.0 hb.0 (ha.1 ∙ sym hb.1)
 SaysEvent-same line (event.Put k n a) (event.Put l m b) ha hb = put_same line n m a b k l ha.0 hb.0 ha.1 hb.1 ha.3 hb.3
 SaysEvent-same line (event.Get k n) (event.Get l m) ha hb =
     let parts = get_same n m k l ha.0 hb.0 (append_cancel_left (codes "get ") _ _ (sym ha.2 ∙ hb.2)) in

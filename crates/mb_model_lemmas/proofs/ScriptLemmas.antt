@@ -15,7 +15,7 @@ says_script line event.Tamper says = tt
 says_script line event.Status says = tt
 says_script line event.Go says = tt
 says_script line (event.Cut count tear) says = (says.fill, says.allowed)
-says_script line (event.Command text draw) says = ap length says.1 ∙ length-replicate {A = ℕ} 32 0
+says_script line (event.Order text draw) says = ap length says.1 ∙ length-replicate {A = ℕ} 32 0
 says_script line (event.Put region name value) says = (says.0, says.1, says.2)
 says_script line (event.Get region name) says = (says.0, says.1)
 says_script line (event.Drop region name) says = (says.0, says.1)

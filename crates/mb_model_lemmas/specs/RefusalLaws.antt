@@ -63,7 +63,7 @@ OneOrderStep =
 
 -- if an event brings an order, it brings bytes
 abbrev pub BringsBytes : Event → Type 0
-BringsBytes (event.Command text draw) = IsBytes text
+BringsBytes (event.Order text draw) = IsBytes text
 BringsBytes given = Unit {0}
 
 -- an event has one answer of the machine, and leads to one world

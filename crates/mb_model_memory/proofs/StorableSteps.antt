@@ -254,7 +254,7 @@ machine_storable world event.Off answer next script valid is step = subst (λ (w
 machine_storable world event.Tamper answer next script valid is step = subst (λ (w : World). Storable w.state) (sym step.1) tt
 machine_storable world (event.Cut count tear) answer next script valid is step = subst (λ (w : World). Storable w.state) (sym step.1) is
 machine_storable world event.Status answer next script valid is step = told_same world answer next _ step (status_state world (running_state_in world)) is
-machine_storable world (event.Command text draw) answer next script valid is step = command_storable world text draw (running_state_in world) answer next refl is step
+machine_storable world (event.Order text draw) answer next script valid is step = command_storable world text draw (running_state_in world) answer next refl is step
 machine_storable world event.Go answer next script valid is step = told_same world answer next _ step (gone_state world (running_state_in world)) is
 machine_storable world (event.Put L name value) answer next script valid is step =
     told_storable answer next _ step (region_event_storable world L (put_event L name value) (running_state_in world) refl (put_keeps L name value script.1 script.2) valid is)

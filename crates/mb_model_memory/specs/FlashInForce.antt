@@ -22,7 +22,8 @@ pub record AgreeInSlots (flash other : List ℕ) (header : Header) : Type 0 wher
 
 -- Two flashes have the same bytes wherever these count for a header area: in the area itself, in the slots that its
 -- header names, and in the sectors of the log below its count. They also have the same bytes in the sectors that hold
--- nothing, to which no write goes.
+-- nothing, to which no write goes. That no write goes to the sectors that hold nothing is a part of this, by which each
+-- write is described, and no clause beside it at each call.
 pub record AgreeForArea (flash other : List ℕ) (area : ℕ) : Type 0 where
   pub header : sector other (header_sector area) ≡ sector flash (header_sector area)
   pub slots : (header : Header) → HoldsHeader flash area header → AgreeInSlots flash other header

@@ -126,7 +126,7 @@ module _ (R : Option State → Option State → Type 0) (kept : IsKept R) where
   machine_kept world event.Tamper answer next x = of_same world next (record world { phase = off; state = None }) x.1 (kept.dies world.state)
   machine_kept world (event.Cut count tear) answer next x = of_same world next (record world { armed = true }) x.1 (kept.same world.state)
   machine_kept world event.Status answer next x = told_kept world answer next (status_event world (running_state_in world)) x (status_kept world (running_state_in world))
-  machine_kept world (event.Command text draw) answer next x = command_kept world text draw (running_state_in world) answer next refl x
+  machine_kept world (event.Order text draw) answer next x = command_kept world text draw (running_state_in world) answer next refl x
   machine_kept world event.Go answer next x = told_kept world answer next (go_event world (running_state_in world)) x (go_kept world (running_state_in world))
   machine_kept world (event.Put L name value) answer next x =
       told_kept world answer next (region_event world L (put_event L name value) (running_state_in world)) x (region_kept world L (put_event L name value) (running_state_in world) refl (put_kept L name value))

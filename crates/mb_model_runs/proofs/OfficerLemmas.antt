@@ -72,7 +72,7 @@ pub right_order_obeyed : (world : World) (state : State) (text draw : List ℕ) 
     → IsRightlySigned state order → All (IsRightlyCountersigned state order) order.countersignatures
     → let next : State = state_after_order state order draw in
     let answer : Reply = reply.Done (number_of (entries_of next.log)) (length next.log) in
-    Machine world (event.Command text draw) answer (record world { state = Some next })
+    Machine world (event.Order text draw) answer (record world { state = Some next })
 right_order_obeyed world state text draw order at was spelled stands signed countersigned =
     let next : State = state_after_order state order draw in
     let answer : Reply = reply.Done (number_of (entries_of next.log)) (length next.log) in

@@ -151,7 +151,7 @@ machine_signs world event.Off n index statement next x = absurd (not_signed n in
 machine_signs world event.Tamper n index statement next x = absurd (not_signed n index statement reply.Tampered refl x.0)
 machine_signs world (event.Cut count tear) n index statement next x = absurd (not_signed n index statement reply.Armed refl x.0)
 machine_signs world event.Status n index statement next x = absurd (not_told n index statement next _ (status_has is_signed false no_statements world (running_state_in world)) x)
-machine_signs world (event.Command text draw) n index statement next x =
+machine_signs world (event.Order text draw) n index statement next x =
     absurd (not_signed n index statement (reply.Signed n index statement) (command_has is_signed false no_statements world text draw (running_state_in world) (reply.Signed n index statement) next x) refl)
 machine_signs world event.Go n index statement next x = absurd (not_told n index statement next _ (go_has is_signed false no_statements world (running_state_in world)) x)
 machine_signs world (event.Put L name value) n index statement next x =

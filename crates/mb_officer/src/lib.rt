@@ -19,4 +19,4 @@ pub use keyfile::{read_keyfile, write_keyfile};
 pub use make::make_key;
 pub use mb_model::{BadRecord, Keyfile};
 pub use order_line::{OrderLineEnd, read_order_line, write_order_line};
-pub use signing::{SignEnd, countersign, sign_order};
+pub use signing::{SignEnd, countersign, is_countersignable, sign_order};

@@ -117,7 +117,7 @@ pub fn countersign<L: Ledger>(
 }
 
 /// Whether the owner of the layer may countersign the order.
-fn is_countersignable(order: &Order, layer: u8) -> bool
+pub fn is_countersignable(order: &Order, layer: u8) -> bool
     ensures { IsTrue result ↔ IsCountersignable order.now layer }
 {
     if !is_load(&order.act) || order.layer >= layer {

@@ -11,6 +11,9 @@ use mb_signer::KeptTree;
 use std::sync::ledger::Ledger;
 
 /// The tree of a key of a region, to sign with again. It has public nodes alone: the key's seed stays in the region.
+/// Whether the tree is the key's cannot be tested, since two seeds with one root are not excluded. It is a part of what
+/// a device remembers of its state, and proved at each step. A seed beside it could be compared, and would be a second
+/// copy of a region's secret.
 #[derive(Drop)]
 pub struct RegionTree {
     /// The place of the region, 2 or 3.

@@ -21,7 +21,8 @@ pub record HashSet : Type 0 where
   pub hashes : List (List ℕ)
 
 -- What a rule asks of a configuration in which a key lived, and of the report on that key. A layer is given by its
--- number.
+-- number. A test holds its set, and not the set's name, so that judging needs no names. The code keeps the index of the
+-- set's line.
 pub data Test : Type 0 where
   both_of either_of : Test → Test → Test
   opposite : Test → Test
@@ -51,7 +52,8 @@ pub data PolicyItem : Type 0 where
 unfoldable pub line_words : List ℕ → List (List ℕ)
 line_words line = slice_split (λ byte. byte == 32) line
 
--- the words that say a test
+-- The words that say a test. Two laws say that reading finds what these words say and nothing else, so that the proof
+-- grows with the number of tests, and not with its square.
 abbrev pub test_words : Test → List (List ℕ)
 test_words (both_of a b) = codes "and" ∷ test_words a ++ test_words b
 test_words (either_of a b) = codes "or" ∷ test_words a ++ test_words b

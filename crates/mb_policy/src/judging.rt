@@ -65,7 +65,8 @@ fn deny(alloc: Global, number: u32, rule: &[u8]) -> Result<Judgement, NoMemory>
     Ok(Judgement::Denied { number, rule })
 }
 
-/// The first rule whose test holds, or `default`, which denies.
+/// The first rule whose test holds, or `default`, which denies. Owners and codes are looked up in the sets once a
+/// configuration, in a table, and not searched or hashed at each test.
 fn find_rule<'a>(
     alloc: Global,
     lines: &'a [Line],

@@ -21,7 +21,7 @@ other_kind line e apart says = apart (says_letters line e says)
 -- ---- command
 
 pub command_says : (rest : List ℕ) (e : Event) → SaysEvent (codes "command " ++ rest) e → (bytes : List ℕ) × IsHex rest bytes
-command_says rest (event.Command text draw) says =
+command_says rest (event.Order text draw) says =
     let word = append_cancel_left (codes "command ") rest says.0.0 says.0.2 in
     (text, subst (λ (x : List ℕ). IsHex x text) (sym word) says.0.1)
 command_says rest e says = absurd (other_kind (codes "command " ++ rest) e (λ same. omega (arith, same)) says)
@@ -171,7 +171,7 @@ lone_none word plain boot off tamper status go event.Tamper says = tamper says
 lone_none word plain boot off tamper status go event.Status says = status says
 lone_none word plain boot off tamper status go event.Go says = go says
 lone_none word plain boot off tamper status go (event.Cut count tear) says = first_none 32 word (codes "cut") _ plain says.spelled
-lone_none word plain boot off tamper status go (event.Command text draw) says = first_none 32 word (codes "command") _ plain says.0.2
+lone_none word plain boot off tamper status go (event.Order text draw) says = first_none 32 word (codes "command") _ plain says.0.2
 lone_none word plain boot off tamper status go (event.Put region name value) says = first_none 32 word (codes "put") _ plain says.3.2
 lone_none word plain boot off tamper status go (event.Get region name) says = first_none 32 word (codes "get") _ plain says.2
 lone_none word plain boot off tamper status go (event.Drop region name) says = first_none 32 word (codes "drop") _ plain says.2
@@ -190,7 +190,7 @@ words_none word rest plain cut command put get drop sign event.Status says = fir
 words_none word rest plain cut command put get drop sign event.Go says = first_none 32 (codes "go") word rest (Without-from_test 32 (codes "go") refl) (sym says)
 words_none word rest plain cut command put get drop sign (event.Cut count tear) says =
     kind_word word rest (codes "cut") _ plain (Without-from_test 32 (codes "cut") refl) cut says.spelled
-words_none word rest plain cut command put get drop sign (event.Command text draw) says =
+words_none word rest plain cut command put get drop sign (event.Order text draw) says =
     kind_word word rest (codes "command") _ plain (Without-from_test 32 (codes "command") refl) command says.0.2
 words_none word rest plain cut command put get drop sign (event.Put region name value) says =
     kind_word word rest (codes "put") _ plain (Without-from_test 32 (codes "put") refl) put says.3.2

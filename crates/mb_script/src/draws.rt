@@ -14,7 +14,9 @@ pub struct ShortNoise;
 /// Gives each command its draw: the i-th, from 0, gets bytes 32 i to 32 i + 31 of the noise, and further noise is not
 /// used. Takes no memory. The number of events fits into a `u32`.
 ///
-/// Errors: `ShortNoise` if the noise has fewer than 32 bytes for each command; the events are then as before.
+/// Errors: `ShortNoise` if the noise has fewer than 32 bytes for each command; the events are then as before. A `u32`
+/// has to count the events, since `set` of a list takes one. Taking the list apart and putting it together again would
+/// need an empty list in its place, and so an allocator.
 pub fn place_draws(events: &mut Events, noise: &[u8]) -> Result<(), ShortNoise>
     requires { length events.old < 2 ^ 32 }
     ensures { PlacesDraws events.old noise.now result events.new }
@@ -41,7 +43,7 @@ fn count_commands(events: &[Event]) -> usize
 {
     events
         .iter()
-        .filter(|event| matches!(event, Event::Command { .. }))
+        .filter(|event| matches!(event, Event::Order { .. }))
         .count()
 }
 
@@ -53,11 +55,11 @@ fn draw_event(event: Event, noise: &[u8]) -> (Event, &[u8])
     ensures left { result.1.now ≡ drop (DRAW_LENGTH * commands_in (event ∷ [])) noise.now }
 {
     match event {
-        Event::Command { text, draw: _ } => {
+        Event::Order { text, draw: _ } => {
             let (front, remaining) = noise.split_at(DRAW_LENGTH);
             let mut draw = [0; DRAW_LENGTH];
             draw.copy_from_slice(front);
-            (Event::Command { text, draw }, remaining)
+            (Event::Order { text, draw }, remaining)
         }
         other => (other, noise),
     }

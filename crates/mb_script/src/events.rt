@@ -112,7 +112,7 @@ fn read_command(alloc: Global, word: &[u8]) -> Result<Event, NotSaid>
     ensures { Finds (SaysEvent (codes "command " ++ word.now)) result }
 {
     let text = read_hex(alloc, word)?;
-    Ok(Event::Command {
+    Ok(Event::Order {
         text,
         draw: [0; DRAW_LENGTH],
     })

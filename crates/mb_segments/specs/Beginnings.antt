@@ -3,7 +3,8 @@ use Rattle.std.specs.Prelude.{ℕ, List, Option, Some, None, Result, Ok, Err}
 use Rattle.mb_format.specs.Format.{Format}
 use Rattle.mb_model.specs.memories.Sectors.{BeginsAs}
 
--- the value that the bytes begin with; None exactly if they begin with none
+-- The value that the bytes begin with; None exactly if they begin with none. It says of bytes what `FindsBy` of
+-- `mb_layout` says of any search; neither crate stands on the other.
 abbrev pub FindsBeginning : {A X : Type 0} → (X → A) → Format A → List ℕ → Option X → Type 0
 FindsBeginning view f bytes (Some x) = BeginsAs f bytes (view x)
 FindsBeginning {A} view f bytes None = (a : A) → BeginsAs f bytes a → ⊥

@@ -138,7 +138,8 @@ fn stored_header_at<'a>(cursor: &mut Cursor<'a>) -> Result<StoredHeader<'a>, Bad
 }
 
 /// Finds the header at the beginning of a sector, whatever bytes follow it; `None` exactly if there is none. Takes no
-/// memory: the unsigned entries are borrowed from the sector, which has at most 4,194,304 bytes.
+/// memory: the unsigned entries are borrowed from the sector, which has at most 4,194,304 bytes. There is no offset: a
+/// device can do nothing with one. `read_header` gives it.
 pub fn header_at(sector: &[u8]) -> Option<StoredHeader<'_>>
     requires { length sector.now ≤ FILE_LIMIT }
     ensures { FindsBeginning header_of header_format sector.now result }
@@ -173,7 +174,8 @@ fn copy_header(alloc: Global, stored: StoredHeader<'_>) -> Result<Header, NoMemo
 }
 
 /// Reads the header at the beginning of a sector, whatever bytes follow it. Else `Bad` with the offset of the first
-/// field that lacks bytes or is not allowed, or `NoMemory`. The sector has at most 4,194,304 bytes.
+/// field that lacks bytes or is not allowed, or `NoMemory`. The sector has at most 4,194,304 bytes; nothing here
+/// depends on the length of a sector.
 pub fn read_header(alloc: Global, sector: &[u8]) -> Result<Header, HeaderEnd>
     requires { length sector.now ≤ FILE_LIMIT }
     ensures { ReadsBeginning end_at header_format sector.now result }

@@ -12,7 +12,8 @@ use crate::header::{put_text, text_at};
 use mb_bytes::{Cursor, put_slice};
 use mb_model::{BadRecord, NoMemory, SIGNATURE_LENGTH};
 
-/// The content of a sector of the log. The entry is borrowed from the bytes that were read.
+/// The content of a sector of the log. The entry is borrowed from the bytes that were read. It is one entry with its
+/// signature, and no log.
 #[derive(Clone, Copy)]
 pub struct LogSector<'a> {
     /// The entry as bytes, 1 to 400 of them.

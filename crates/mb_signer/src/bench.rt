@@ -17,6 +17,8 @@ use std::sync::ledger::Ledger;
 
 /// The trees of at most two keys, each beside its key's seed, while one event is served. A tree is found by comparing
 /// seeds; if it is not there, it is built and kept. The bench is dropped with the event, and so are the seeds on it.
+/// There is room for two, since an order signs by at most the device key and the next. No call that takes a bench has a
+/// condition on its contents; trees that are handed down would need one in each call on the way.
 #[derive(Drop)]
 pub struct Bench {
     first: Option<KeyTree>,

@@ -61,7 +61,8 @@ fn private_value<L: Ledger>(
     )
 }
 
-/// C of the signature at leaf `q`.
+/// C of the signature at leaf `q`. The randomizer is derived from the seed, with a number that no chain has. So a
+/// signature is a function of key, index and text, can be compared with another program's, and needs no noise.
 #[tactic(auto, unfolding(mb_model::specs::signatures::Signing::randomizer_of))]
 pub(crate) fn randomizer_at<L: Ledger>(
     seed: &KeySeed,

@@ -18,7 +18,9 @@ use std::sync::ledger::Ledger;
 /// The number of leaves of a tree.
 pub(crate) const LEAVES: u32 = 32;
 
-/// The 63 nodes of a key's tree, from the root to the last leaf. They are public: no seed is among them.
+/// The 63 nodes of a key's tree, from the root to the last leaf. They are public: no seed is among them. The public key
+/// and a kept tree are made by this one builder. A stack of pending nodes for the public key would be a second
+/// algorithm for one value.
 #[derive(Drop)]
 pub struct KeptTree {
     nodes: [[u8; 32]; 63],

@@ -12,6 +12,7 @@ mod limits;
 mod policies;
 mod runs;
 mod short_files;
+mod shown;
 mod sign;
 mod statuses;
 mod trials;

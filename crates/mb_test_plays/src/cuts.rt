@@ -62,7 +62,9 @@ const NEW: &str = "new\n";
 const UNSTOPPED: &str = "unstopped\n";
 
 /// Power is lost at each write of an event in turn. `cutat` answers `old` up to a write, then `new`, if the event
-/// leaves another state, and then `unstopped`. After each loss the device shows the state that `cutat` answered.
+/// leaves another state, and then `unstopped`. After each loss the device shows the state that `cutat` answered. That
+/// no work is left is seen in the run itself, by a loss armed for the first write of one more boot. `cutat` would load
+/// the image twice more for each cut.
 pub(crate) fn is_cut_twice(
     program: &impl Program,
     host: &mut MemoryHost,

@@ -1,4 +1,3 @@
-pub mod KeygenLemmas
 pub mod ImageLemmas
 pub mod MigrateLemmas
 pub mod SignLemmas

@@ -2,8 +2,7 @@
 
 ghost use Rattle.std.specs.Prelude.{◌+◌, ◌≤◌, ◌≡◌, IfOk, string_bytes, map};
 ghost use Rattle.mb_model.specs.signatures.Key.{key_bytes};
-ghost use Rattle.mb_model.specs.signatures.Signing.{public_of};
-ghost use Rattle.mb_model_commands.specs.Keygen.{keygen, owner_text, write_key};
+ghost use Rattle.mb_model_commands.specs.Keygen.{keygen, owner_text};
 ghost use Rattle.mb_tools.specs.Names.{keygen_files, keygen_given};
 ghost use Rattle.mb_console.specs.Words.{given_argument};
 ghost use Rattle.mb_console.specs.Ending.{CarriesOut};
@@ -13,7 +12,7 @@ use crate::input::keys::Leading;
 use mb_console::{Arguments, End, Output, file, finish, read_as};
 use mb_host::Host;
 use mb_lms::{HashCount, key_bytes, key_hash};
-use mb_model::{DRAW_LENGTH, Keyfile, NoMemory, PublicKey};
+use mb_model::{DRAW_LENGTH, NoMemory, PublicKey};
 use mb_model_commands::Role;
 use mb_officer::{make_key, write_keyfile};
 use mb_signer::public;
@@ -58,25 +57,12 @@ pub fn keygen<H: Host, L: Ledger>(
         names.noise,
         Leading::<DRAW_LENGTH>,
     )?;
-    write_key(alloc, names, &make_key(&noise), host, hashes)
-}
-
-/// Writes a new key's file and its public key, and prints the public key's hash.
-fn write_key<H: Host, L: Ledger>(
-    alloc: Global,
-    names: &KeygenNames<'_>,
-    key: &Keyfile,
-    host: &mut H,
-    hashes: &mut HashCount<L>,
-) -> Result<(), End>
-    ensures carried { CarriesOut (write_key (keygen_files names.now) key.now (key_bytes (public_of key.now.seed))) (H.outside host.old) result (H.outside host.new) }
-    ensures cost { hashes.new ≤ hashes.old + TREE_HASHES }
-{
+    let key = make_key(&noise);
     let owner = public(&key.seed, hashes);
     let Ok(text) = owner_text(alloc, &owner) else {
         return Err(End::NoMemory);
     };
-    let file = write_keyfile(key);
+    let file = write_keyfile(&key);
     let spelled = key_bytes(&owner);
     let outputs = [
         Output {

@@ -17,4 +17,5 @@ pub mod verify;
 
 pub use input::chains::AnyBytes;
 pub use input::devices::{CodeForm, Image, read_image};
-pub use input::keys::{Leading, PublicKeyForm};
+pub use input::keys::{KeyForm, Leading, PublicKeyForm};
+pub use input::orders::{DraftForm, OrderLine};

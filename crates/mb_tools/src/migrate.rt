@@ -1,7 +1,7 @@
 //! The command `migrate`.
 
 ghost use Rattle.std.specs.Prelude.{◌+◌, ◌≤◌, ◌*◌, ◌≡◌, IfOk, string_bytes, map};
-ghost use Rattle.mb_model_commands.specs.MigrateCommand.{migrate, write_migrated_image, migrated_text};
+ghost use Rattle.mb_model_commands.specs.MigrateCommand.{migrate, migrated_text};
 ghost use Rattle.mb_tools.specs.Names.{migrate_files, migrate_given};
 ghost use Rattle.mb_console.specs.Words.{given_argument};
 ghost use Rattle.mb_console.specs.Ending.{CarriesOut};
@@ -48,25 +48,13 @@ pub fn migrate<H: Host, L: Ledger>(
     ensures cost { hashes.new ≤ hashes.old + 2 * IMAGE_HASHES }
 {
     let image = read_old_image(alloc, host, names.image, hashes)?;
-    write_migrated(alloc, names, &image, host)
-}
-
-/// Writes an image, and prints its hash.
-fn write_migrated<H: Host>(
-    alloc: Global,
-    names: &MigrateNames<'_>,
-    image: &[u8],
-    host: &mut H,
-) -> Result<(), End>
-    ensures { CarriesOut (write_migrated_image (migrate_files names.now) image.now) (H.outside host.old) result (H.outside host.new) }
-{
-    let Ok(text) = migrated_text(alloc, image) else {
+    let Ok(text) = migrated_text(alloc, &image) else {
         return Err(End::NoMemory);
     };
     let outputs = [Output {
         role: Role::Out,
         name: names.out,
-        bytes: image,
+        bytes: &image,
     }];
     finish(host, &outputs, text.as_bytes())
 }

@@ -72,9 +72,9 @@ impl<'a> CountersignNames<'a> {
 
 /// The names of the files that are written.
 #[derive(Clone, Copy)]
-struct OutputNames<'a> {
-    key: &'a str,
-    out: &'a str,
+pub struct OutputNames<'a> {
+    pub key: &'a str,
+    pub out: &'a str,
 }
 
 /// Signs the order of a draft by an officer's key: writes the key with its index advanced, then the order's line, and
@@ -95,7 +95,7 @@ pub fn sign<H: Host, L: Ledger>(
         out: names.out,
     };
     match sign_order(alloc, &mut key, &mut order, hashes) {
-        Ok(index) => write_signed(alloc, outputs, &key, &order, index, host),
+        Ok(index) => use_index(alloc, outputs, &key, &order, index, host),
         Err(end) => Err(end_of(end)),
     }
 }
@@ -119,13 +119,13 @@ pub fn countersign<H: Host, L: Ledger>(
         out: names.out,
     };
     match add_countersignature(alloc, &mut key, names.layer as u8, &mut order, hashes) {
-        Ok(index) => write_signed(alloc, outputs, &key, &order, index, host),
+        Ok(index) => use_index(alloc, outputs, &key, &order, index, host),
         Err(end) => Err(end_of(end)),
     }
 }
 
 /// The end of a command whose key has not signed.
-pub(crate) fn end_of(end: SignEnd) -> End
+pub fn end_of(end: SignEnd) -> End
     ensures { TellsUnsigned end result }
 {
     match end {
@@ -136,7 +136,7 @@ pub(crate) fn end_of(end: SignEnd) -> End
 }
 
 /// Writes a key file with its index advanced, and the line of the order that the key signed, and prints the index.
-fn write_signed<H: Host>(
+pub fn use_index<H: Host>(
     alloc: Global,
     names: OutputNames<'_>,
     key: &Keyfile,

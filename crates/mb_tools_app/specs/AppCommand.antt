@@ -45,7 +45,8 @@ tell_end (end.Halted steps output) = print (line_with_lf (app_line (end.Halted s
 tell_end (end.Trap cause place output) = refuse (app_line (end.Trap cause place output))
 tell_end (end.OutOfSteps output) = refuse (app_line (end.OutOfSteps output))
 
--- a dead device runs nothing, and any other runs the layer's code if the layer is runnable
+-- A dead device runs nothing, and any other runs the layer's code if the layer is runnable. A layer that may run has
+-- code, by the form of layers, so there is no end for one without code; to run it as an empty code was not chosen.
 abbrev pub run_stored_code : AppNames → Option State → List ℕ → Command
 run_stored_code names None input = refuse (codes "zeroised")
 run_stored_code names (Some state) input =

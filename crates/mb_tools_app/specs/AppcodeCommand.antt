@@ -20,7 +20,8 @@ pub record AppcodeNames : Type 0 where
 abbrev pub no_secrets : ℕ → Option (List Secret)
 no_secrets region = if region == 3 then Some [] else None
 
--- the code runs on the input, and the end of the run is reported as that of a stored code
+-- The code runs on the input, and the end of the run is reported as that of a stored code. This is said by the run
+-- alone, and not of a device, of which most parts would mean nothing; `AppcodeRunsAsApp` says it of devices.
 abbrev pub run_code : List ℕ → List ℕ → ℕ → Command
 run_code code input steps = find (AppRun code input no_secrets steps) tell_end
 

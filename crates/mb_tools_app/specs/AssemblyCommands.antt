@@ -33,7 +33,9 @@ asm names =
     read (assembly_input names.text) (λ code.
     write_counted names.out code (codes "bytes") (length code))
 
--- the code is read, the line of each of its instructions is written, and the number of these lines is printed
+-- The code is read, the line of each of its instructions is written, and the number of these lines is printed. What is
+-- read stands for instructions, and not for a text, so that the output and the number of its lines are said of one
+-- list. The code keeps only their text, so it reads this input by a function of its own.
 unfoldable pub disasm : DisasmNames → Command
 disasm names =
     read (listing_input names.code) (λ listed.

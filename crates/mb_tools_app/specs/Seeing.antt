@@ -21,7 +21,10 @@ pub record ShowsPrinted (e : Ended) (text : List ℕ) : Type 0 where
   pub after : e.after.printed ≡ Some (shown ++ text)
 
 -- Over devices that agree on what the layer sees, the command has the same ends, whatever else differs; and if two of
--- these ends show what they print, they print the same, with the same status. The code's numbers are bytes.
+-- these ends show what they print, they print the same, with the same status. The code's numbers are bytes. It speaks
+-- of the command after its inputs were read. From the law on ends of the machine alone (`RunsSeeNothingElse`) nothing
+-- follows about the printed line. It is of two states; the law that begins with the bytes of two images stands on it,
+-- in `mb_top_laws` (`app_tells_no_more_of_images`).
 pub record AppSeesNothingElse : Type 0 where
   pub same_ends : (names : AppNames) (a b : State) (input : List ℕ) (past : Past) (e : Ended)
       → AgreeFor names.layer a b

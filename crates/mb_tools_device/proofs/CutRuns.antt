@@ -16,7 +16,7 @@ use Rattle.mb_model_lemmas.proofs.DrawLemmas.{drawn-length}
 use Rattle.mb_model_lemmas.proofs.LineLemmas.{cons_same}
 use Rattle.mb_tools_device.specs.MachineRuns.{is_cut, IsPlain, MachineRun}
 use Rattle.mb_tools_device.specs.CutCommand.{AreUncut, CutRun, AnyLacksMemory, IsRehearsed, IsCutServed, cut_events}
-use Rattle.mb_tools_device.specs.TwoRuns.{CanBeCut, IsImageLeft}
+use Rattle.mb_tools_device.specs.TwoRuns.{CanBeCut, AreRuns, IsImageLeft}
 use Rattle.mb_tools_device.proofs.MachineLemmas.{IsUncut, IsFound, run_is_machine, one_more, cut_short, third_same}
 
 -- ---- draws make no cut of an event
@@ -28,7 +28,7 @@ drawn_uncut noise before event.Tamper uncut = refl
 drawn_uncut noise before event.Status uncut = refl
 drawn_uncut noise before event.Go uncut = refl
 drawn_uncut noise before (event.Cut count tear) uncut = uncut
-drawn_uncut noise before (event.Command text draw) uncut = refl
+drawn_uncut noise before (event.Order text draw) uncut = refl
 drawn_uncut noise before (event.Put region name value) uncut = refl
 drawn_uncut noise before (event.Get region name) uncut = refl
 drawn_uncut noise before (event.Drop region name) uncut = refl
@@ -72,7 +72,7 @@ all_plain (a ∷ rest) (e ∷ events) same uncut found =
     All-cons IsPlain a rest (record { uncut = ap is_cut parts.0 ∙ All-head IsUncut e events uncut; found = All-head IsFound a rest found })
     (all_plain rest events parts.1 (All-tail IsUncut e events uncut) (All-tail IsFound a rest found))
 
-pub is_rehearsed : (image : Image) (count : ℕ) (cut : CutRun) (list : List Answered) (held : Held) → CanBeCut count cut → IsServed image cut.first list held → IsRehearsed image cut list held
+is_rehearsed : (image : Image) (count : ℕ) (cut : CutRun) (list : List Answered) (held : Held) → CanBeCut count cut → IsServed image cut.first list held → IsRehearsed image cut list held
 is_rehearsed image count cut list held can served = record {
   served = served;
   whole = λ found.
@@ -82,6 +82,11 @@ is_rehearsed image count cut list held can served = record {
         record { last = served.last; run = subst (λ events. MachineRun (opening_world image.state) events served.last) served.all run; state = refl },
       );
 }
+
+-- the events of the first run are those before the last
+pub rehearsed : (count : ℕ) (image : Image) (first second : List Event) (cut : CutRun) (list : List Answered) (held : Held) → AreRuns count first second cut → IsServed image first list held
+    → IsRehearsed image cut list held
+rehearsed count image first second cut list held are served = is_rehearsed image count cut list held are.can (subst (λ (l : List Event). IsServed image l list held) are.first_is served)
 
 pub is_cut_served : (image : Image) (count : ℕ) (cut : CutRun) (list : List Answered) (final : Held) → CanBeCut count cut → IsServed image (cut_events count cut) list final
     → IsCutServed image count cut list final

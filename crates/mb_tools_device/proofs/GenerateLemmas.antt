@@ -16,9 +16,9 @@ use Rattle.mb_model.specs.outside.Board.{Held, Used, image_of, not_used, loaded_
 use Rattle.mb_model_commands.specs.declared.workload.Workload.{Workload}
 use Rattle.mb_model_commands.specs.Workload.{key_of_officer, IsWorkload}
 use Rattle.mb_model_commands.specs.Outside.{Outside}
-use Rattle.mb_model_commands.specs.Commands.{Command, Past, serve, print, lack, at_first}
+use Rattle.mb_model_commands.specs.Commands.{Command, Past, load, serve, print, lack, at_first}
 use Rattle.mb_model_commands.specs.RunCommand.{IsServed}
-use Rattle.mb_model_commands.specs.GenerateCommand.{GenerateNames, Prepared, IsPrepared, ShowsLog, prepared_image, summarise, serve_workload, generate}
+use Rattle.mb_model_commands.specs.GenerateCommand.{GenerateNames, Prepared, IsPrepared, ShowsLog, prepared_image, summarise, generate}
 use Rattle.mb_model_lemmas.proofs.EventLemmas.{IsScript-same}
 use Rattle.mb_model_lemmas.proofs.LineLemmas.{HasLines-same, FailsAtLine-none}
 use Rattle.mb_model_lemmas.proofs.FactoryLemmas.{factory_is_well_formed}
@@ -66,10 +66,14 @@ is_prepared : (number rounds : ℕ) (files : Workload) (events : List Event) (ma
 is_prepared number rounds files events made has =
     record { generated = made; image = new_image number rounds files made; undrawn = has.undrawn; script = has.script; noise = has.noise }
 
+-- what comes after the workload was found
+abbrev serve_workload : GenerateNames → Prepared → Command
+serve_workload names made = load made.files.image (writes (workload_outputs names made.files) (serve (IsServed (prepared_image made) made.events) summarise))
+
 -- an allocation fails before its files are written
 pub none_made : (names : GenerateNames) (used : Used) (final : Held) (before : Outside) → used ≡ at_first.used
     → CarriesOutRest (generate names) at_first used final before (Err end.NoMemory) before
-unfolding generate
+unfolding generate writes
 none_made names used final before none =
     memory_unfound (IsPrepared names.number names.rounds) (serve_workload names) at_first used final before refl none
 

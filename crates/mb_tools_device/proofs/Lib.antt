@@ -1,5 +1,5 @@
 pub mod Buffers
-pub mod RunLemmas
+pub mod ServedLemmas
 pub mod SummaryLemmas
 pub mod GenerateLemmas
 pub mod MachineLemmas
@@ -8,6 +8,5 @@ pub mod TwiceLemmas
 pub mod CutLemmas
 pub mod CutRuns
 pub mod Shutting
-pub mod FirstRun
 pub mod CutCounterProofs
 pub mod OutcomeLemmas

@@ -69,7 +69,7 @@ machine_disarmed world event.Tamper answer next uncut m = (m.0, ap disarmed m.1)
 machine_disarmed world event.Status answer next uncut m = ap told_disarmed m ∙ status_disarmed world (running_state_in world)
 machine_disarmed world event.Go answer next uncut m = ap told_disarmed m ∙ go_disarmed world (running_state_in world)
 machine_disarmed world (event.Cut count tear) answer next uncut m = absurd (let no : true ≡ false = uncut in cc)
-machine_disarmed world (event.Command text draw) answer next uncut m = command_disarmed world text draw (running_state_in world) answer next m
+machine_disarmed world (event.Order text draw) answer next uncut m = command_disarmed world text draw (running_state_in world) answer next m
 machine_disarmed world (event.Put L name value) answer next uncut m = ap told_disarmed m ∙ region_disarmed world L (put_event L name value) (running_state_in world)
 machine_disarmed world (event.Get L name) answer next uncut m = ap told_disarmed m ∙ region_disarmed world L (get_event L name) (running_state_in world)
 machine_disarmed world (event.Drop L name) answer next uncut m = ap told_disarmed m ∙ region_disarmed world L (drop_event L name) (running_state_in world)
@@ -118,7 +118,7 @@ armed_stays world event.Tamper answer next uncut m = ap (λ (w : World). w.armed
 armed_stays world event.Status answer next uncut m = ap armed_in m ∙ status_armed world (running_state_in world)
 armed_stays world event.Go answer next uncut m = ap armed_in m ∙ go_armed world (running_state_in world)
 armed_stays world (event.Cut count tear) answer next uncut m = absurd (let no : true ≡ false = uncut in cc)
-armed_stays world (event.Command text draw) answer next uncut m = command_armed world text draw (running_state_in world) answer next m
+armed_stays world (event.Order text draw) answer next uncut m = command_armed world text draw (running_state_in world) answer next m
 armed_stays world (event.Put L name value) answer next uncut m = ap armed_in m ∙ region_armed world L (put_event L name value) (running_state_in world)
 armed_stays world (event.Get L name) answer next uncut m = ap armed_in m ∙ region_armed world L (get_event L name) (running_state_in world)
 armed_stays world (event.Drop L name) answer next uncut m = ap armed_in m ∙ region_armed world L (drop_event L name) (running_state_in world)

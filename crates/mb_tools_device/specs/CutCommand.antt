@@ -67,7 +67,9 @@ pub record CutRun : Type 0 where
   pub last : Event
   pub tear : Tear
 
--- The run has the events of a script. Nothing is kept of the write, and the bytes of this word fill its range.
+-- The run has the events of a script. Nothing is kept of the write, and the bytes of this word fill its range. Four
+-- fillings show each way in which a selector can be torn. A number of bytes to keep would be one more word, for writes
+-- whose first bytes decide nothing.
 pub record IsCutRun (fill_word : List ℕ) (events : List Event) (cut : CutRun) : Type 0 where
   pub whole : events ≡ cut.first ++ cut.last ∷ []
   pub fill : List ℕ
@@ -104,7 +106,9 @@ pub record IsRehearsed (image : Image) (cut : CutRun) (answered : List Answered)
       → (old : Option State) × ShowsState held old × MachineComesTo image.state cut.first old
 
 -- The second run was served. If no allocation failed and power failed in the script's last event, it leaves the state
--- to which the machine comes before that event, or after it.
+-- to which the machine comes before that event, or after it. The line speaks of the second run, which the board still
+-- holds. The old state by the machine alone would be computed by no code. Which of the two it is at `new` follows,
+-- since the machine is a function (`cuts_count_wholly_or_not_at_all`).
 pub record IsCutServed
     (image : Image)
     (count : ℕ)
@@ -116,7 +120,8 @@ pub record IsCutServed
       → (old : Option State) × (new : Option State) × MachineComesTo image.state cut.first old
       × MachineComesTo image.state (cut.first ++ cut.last ∷ []) new × (ShowsState final old ⊎ ShowsState final new)
 
--- both runs leave one state
+-- Both runs leave one state. States are compared, and not images or their hashes: one state can stand in either of two
+-- areas, and what stands behind a record is free. The length of the log stays over a `put`.
 pub record ShowSame (held final : Held) : Type 0 where
   pub state : Option State
   pub first : ShowsState held state
@@ -124,7 +129,9 @@ pub record ShowSame (held final : Held) : Type 0 where
 
 -- ---- the command
 
--- which state is left if power failed: the old one if both runs leave one state, else the new one
+-- Which state is left if power failed: the old one if both runs leave one state, else the new one. The old state comes
+-- first: a boot that does pending work, and a `put` of what stands there, leave the state that was before. A fourth
+-- line would have to be known to be no danger.
 abbrev pub tell_state : Held → Held → Command
 tell_state held final =
     either_command (ShowSame held final) (print (line_with_lf (codes "old"))) (print (line_with_lf (codes "new")))
@@ -135,25 +142,17 @@ tell_cut held answered final =
     either_command (AnyLacksMemory answered) lack
     (either_command (LastIsStopped answered) (tell_state held final) (print (line_with_lf (codes "unstopped"))))
 
--- once the first run was served, the image is loaded anew, and the second run is served
-abbrev pub serve_cut : CutNames → Image → CutRun → List Answered → Held → Command
-serve_cut names image cut answered held =
-    either_command (AnyLacksMemory answered) lack
-    (load image.bytes (serve (IsCutServed image names.count cut) (tell_cut held)))
-
-abbrev pub serve_first : CutNames → Image → CutRun → Command
-serve_first names image cut = load image.bytes (rehearse (IsRehearsed image cut) (serve_cut names image cut))
-
-abbrev pub serve_twice : CutNames → Image → List Event → Command
-serve_twice names image events = find (IsCutRun names.fill events) (serve_first names image)
-
-abbrev pub read_cut_noise : CutNames → Image → List Event → Command
-read_cut_noise names image events = read (draws_input events names.noise) (serve_twice names image)
-
-abbrev pub read_uncut_script : CutNames → Image → Command
-read_uncut_script names image = read (uncut_script_input names.script) (read_cut_noise names image)
-
--- Image, script and noise are read, the image is loaded twice, and the events are served twice: those before the last,
--- and then all of them with a power loss in the last. No file is written.
+-- Image, script and noise are read, and the events of two runs are found. The image is loaded, and the events before
+-- the last are served. Then it is loaded anew, and all events are served with a power loss in the last. No file is
+-- written.
 unfoldable pub cutat : CutNames → Command
-cutat names = read (image_input names.image) (read_uncut_script names)
+cutat names =
+    read (image_input names.image) (λ image.
+    read (uncut_script_input names.script) (λ undrawn.
+    read (draws_input undrawn names.noise) (λ events.
+    find (IsCutRun names.fill events) (λ cut.
+    load image.bytes
+    (rehearse (IsRehearsed image cut) (λ answered held.
+    either_command (AnyLacksMemory answered) lack
+    (load image.bytes
+    (serve (IsCutServed image names.count cut) (tell_cut held)))))))))

@@ -5,7 +5,8 @@ use Rattle.mb_model.specs.declared.limits.TheConstants.{EVENT_LIMIT}
 use Rattle.mb_tools_device.specs.MachineRuns.{is_cut}
 
 -- The event with this index, from 0, is a cut, or there is no room for it; none before it is one, and there is room for
--- those. Or there is no event, and the first is missing.
+-- those. Or there is no event, and the first is missing. `CutCommand` says of lines what is refused, for those who ask
+-- which number is printed; this says it of events, at which the code looks. `refused_line` leads from here to there.
 pub data IsFirstRefused (events : List Event) (index : ℕ) : Type 0 where
   is_missing : events ≡ [] → index ≡ 0 → IsFirstRefused events index
   is_wrong : (before : List Event) (this : Event) (later : List Event) → events ≡ before ++ this ∷ later

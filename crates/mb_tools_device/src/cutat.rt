@@ -1,33 +1,28 @@
 //! The command `cutat`.
 
-ghost use Rattle.std.specs.Prelude.{◌+◌, ◌*◌, ◌≡◌, ◌≤◌, ℕ, List, length, All, None, Option, false, map};
+ghost use Rattle.std.specs.Prelude.{◌+◌, ◌*◌, ◌≡◌, ◌≤◌, ℕ, List, length, false, map};
 ghost use Rattle.mb_model.specs.declared.limits.TheConstants.{CUT_LIMIT, EVENT_LIMIT, IMAGE_LENGTH};
-ghost use Rattle.mb_model.specs.declared.state.State.{State as Stands};
 ghost use Rattle.mb_model.specs.outside.Board.{Held, Used, IsLoaded, image_of, use_of};
-ghost use Rattle.mb_model.specs.memories.Meaning.{IsWellFormed};
-ghost use Rattle.mb_model.specs.chains.Script.{IsScriptEvent};
-ghost use Rattle.mb_model_commands.specs.Commands.{load, serve};
 ghost use Rattle.mb_script.specs.Reading.{IsFill};
 ghost use Rattle.mb_console.specs.Words.{given_argument};
 ghost use Rattle.mb_console.specs.Ending.{CarriesOutRest};
-ghost use Rattle.mb_tools_device.specs.CutCommand.{AreUncut, CutRun, IsCutServed, cut_events, cutat, read_uncut_script, read_cut_noise, serve_twice, serve_first, tell_cut, tell_state};
+ghost use Rattle.mb_tools_device.specs.CutCommand.{cutat, tell_cut, tell_state};
 ghost use Rattle.mb_tools_device.specs.Boards.{IsFresh, CarriesOutOn};
-ghost use Rattle.mb_tools_device.specs.Holding.{HoldsShut, EndsServed, EndsHolding, IsDone, IsOutOfMemory};
+ghost use Rattle.mb_tools_device.specs.Holding.{EndsHolding, IsDone, IsOutOfMemory};
 ghost use Rattle.mb_tools_device.specs.Names.{cut_files, cut_given};
-ghost use Rattle.mb_tools_device.specs.TwoRuns.{AreRuns, CanBeCut, IsImageLeft};
+ghost use Rattle.mb_tools_device.specs.TwoRuns.{IsImageLeft};
 ghost use Rattle.mb_device.specs.declared.step.TheConstants.{STEP_HASHES};
 ghost use Rattle.mb_image.specs.declared.image.TheConstants.{IMAGE_HASHES};
 
 use crate::scripts::{UncutScriptForm, read_draws};
+use crate::serving::{held_image, serve_events};
 use crate::summary::wants_memory;
 use crate::twice::{TwoRuns, last_is_stopped, two_runs};
 use mb_board::Board;
 use mb_console::{Arguments, End, file, hex, number, print_text, read_as};
-use mb_device::Device;
 use mb_host::Host;
 use mb_image::{same_state, stand_for};
 use mb_lms::HashCount;
-use mb_model::Events;
 use mb_model_commands::Role;
 use mb_tools::read_image;
 use std::alloc::Global;
@@ -61,7 +56,8 @@ impl<'a> CutNames<'a> {
 }
 
 /// Serves a script without its last event, and then all of it with a power loss in that event. Prints whether power
-/// failed there, and which state is left.
+/// failed there, and which state is left. The hashes are bounded by the most events that a script can have, twice: what
+/// the first run answered is gone from the board, and the script is read inside the call.
 pub fn cutat<H: Host, B: Board, L: Ledger>(
     alloc: Global,
     names: &CutNames<'_>,
@@ -78,163 +74,36 @@ pub fn cutat<H: Host, B: Board, L: Ledger>(
     ensures cost { hashes.new ≤ hashes.old + 3 * IMAGE_HASHES + 2 * STEP_HASHES * EVENT_LIMIT }
 {
     let image = read_image(alloc, host, names.image, hashes)?;
-    cut_image(alloc, names, image.bytes, host, board, hashes)
-}
-
-/// Reads the script, and goes on with its events.
-fn cut_image<H: Host, B: Board, L: Ledger>(
-    alloc: Global,
-    names: &CutNames<'_>,
-    image: Vec<u8>,
-    host: &mut H,
-    board: &mut B,
-    hashes: &mut HashCount<L>,
-) -> Result<(), End>
-    requires count { (1 ≤ names.now.count) × (names.now.count ≤ CUT_LIMIT) }
-    requires fill { (bytes : List ℕ) × IsFill names.now.fill.now bytes }
-    requires fresh { IsFresh (B.seen board.old) }
-    requires image { (state : Option Stands) × IsWellFormed image.items state }
-    ensures carried { (state : Option Stands) → IsWellFormed image.items state
-        → CarriesOutOn (read_uncut_script (cut_files names.now) (record { bytes = image.items; state = state })) (B.seen board.new) (H.outside host.old)
-        result (H.outside host.new) }
-    ensures stays { EndsHolding (IsDone result) (IsOutOfMemory result) (B.seen board.old) (B.seen board.new) }
-    ensures cost { hashes.new ≤ hashes.old + 2 * IMAGE_HASHES + 2 * STEP_HASHES * EVENT_LIMIT }
-{
-    let events = read_as(alloc, host, Role::Script, names.script, UncutScriptForm)?;
-    cut_script(alloc, names, image, events, host, board, hashes)
-}
-
-/// Reads the noise, and goes on with the draws of the events.
-fn cut_script<H: Host, B: Board, L: Ledger>(
-    alloc: Global,
-    names: &CutNames<'_>,
-    image: Vec<u8>,
-    events: Events,
-    host: &mut H,
-    board: &mut B,
-    hashes: &mut HashCount<L>,
-) -> Result<(), End>
-    requires count { (1 ≤ names.now.count) × (names.now.count ≤ CUT_LIMIT) }
-    requires fill { (bytes : List ℕ) × IsFill names.now.fill.now bytes }
-    requires fresh { IsFresh (B.seen board.old) }
-    requires image { (state : Option Stands) × IsWellFormed image.items state }
-    requires uncut { AreUncut events }
-    requires events { All IsScriptEvent events }
-    ensures carried { (state : Option Stands) → IsWellFormed image.items state
-        → CarriesOutOn (read_cut_noise (cut_files names.now) (record { bytes = image.items; state = state }) events) (B.seen board.new) (H.outside host.old)
-        result (H.outside host.new) }
-    ensures stays { EndsHolding (IsDone result) (IsOutOfMemory result) (B.seen board.old) (B.seen board.new) }
-    ensures cost { hashes.new ≤ hashes.old + 2 * IMAGE_HASHES + 2 * STEP_HASHES * EVENT_LIMIT }
-{
-    let drawn = read_draws(alloc, host, names.noise, events)?;
-    cut_drawn(alloc, names, image, drawn, host, board, hashes)
-}
-
-/// Finds the events of both runs, and goes on with them.
-fn cut_drawn<H: Host, B: Board, L: Ledger>(
-    alloc: Global,
-    names: &CutNames<'_>,
-    image: Vec<u8>,
-    events: Events,
-    host: &mut H,
-    board: &mut B,
-    hashes: &mut HashCount<L>,
-) -> Result<(), End>
-    requires count { (1 ≤ names.now.count) × (names.now.count ≤ CUT_LIMIT) }
-    requires fill { (bytes : List ℕ) × IsFill names.now.fill.now bytes }
-    requires fresh { IsFresh (B.seen board.old) }
-    requires image { (state : Option Stands) × IsWellFormed image.items state }
-    requires uncut { AreUncut events }
-    requires events { All IsScriptEvent events }
-    ensures carried { (state : Option Stands) → IsWellFormed image.items state
-        → CarriesOutOn (serve_twice (cut_files names.now) (record { bytes = image.items; state = state }) events) (B.seen board.new) (H.outside host.old)
-        result (H.outside host.new) }
-    ensures stays { EndsHolding (IsDone result) (IsOutOfMemory result) (B.seen board.old) (B.seen board.new) }
-    ensures cost { hashes.new ≤ hashes.old + 2 * IMAGE_HASHES + 2 * STEP_HASHES * EVENT_LIMIT }
-{
+    let undrawn = read_as(alloc, host, Role::Script, names.script, UncutScriptForm)?;
+    let events = read_draws(alloc, host, names.noise, undrawn)?;
     let Ok(runs) = two_runs(alloc, events, names.count, names.fill) else {
         return Err(End::NoMemory);
     };
-    serve_first(alloc, names, image, runs, host, board, hashes)
-}
-
-/// Serves the first run, keeps the image that it leaves, turns power off, and goes on with the second run.
-fn serve_first<H: Host, B: Board, L: Ledger>(
-    alloc: Global,
-    names: &CutNames<'_>,
-    image: Vec<u8>,
-    runs: TwoRuns,
-    host: &mut H,
-    board: &mut B,
-    hashes: &mut HashCount<L>,
-) -> Result<(), End>
-    requires fresh { IsFresh (B.seen board.old) }
-    requires image { (state : Option Stands) × IsWellFormed image.items state }
-    requires first_count { length runs.first ≤ EVENT_LIMIT }
-    requires first_events { All IsScriptEvent runs.first }
-    requires second_count { length runs.second ≤ EVENT_LIMIT }
-    requires second_events { All IsScriptEvent runs.second }
-    ensures carried { (state : Option Stands) (cut : CutRun) → IsWellFormed image.items state
-        → AreRuns names.now.count runs.first runs.second cut
-        → CarriesOutOn (serve_first (cut_files names.now) (record { bytes = image.items; state = state }) cut) (B.seen board.new) (H.outside host.old)
-        result (H.outside host.new) }
-    ensures stays { EndsHolding (IsDone result) (IsOutOfMemory result) (B.seen board.old) (B.seen board.new) }
-    ensures cost { hashes.new ≤ hashes.old + 2 * IMAGE_HASHES + 2 * STEP_HASHES * EVENT_LIMIT }
-{
-    let Ok(mut before) = Vec::from_slice(alloc, &image) else {
+    let Ok(room) = Vec::from_slice(alloc, &image.bytes) else {
         return Err(End::NoMemory);
     };
     let TwoRuns { first, second } = runs;
-    match board.load(alloc, &image, first) {
-        Ok(()) => {}
+    let device = match serve_events(alloc, &image, first, board, hashes) {
+        Ok(device) => device,
         Err(_) => return Err(End::NoMemory),
-    }
-    let device = Device::start(board).serve(alloc, board, hashes);
-    board.copy_image(&mut before);
+    };
     if wants_memory(board.answered()) {
         return Err(End::NoMemory);
     }
+    let before = held_image(board, room);
     device.shut(board);
-    serve_cut(alloc, names, image, &before, second, host, board, hashes)
-}
-
-/// Serves the second run from the same image, and prints what it leaves. `before` is the image that the first run left.
-fn serve_cut<H: Host, B: Board, L: Ledger>(
-    alloc: Global,
-    names: &CutNames<'_>,
-    image: Vec<u8>,
-    before: &[u8],
-    events: Events,
-    host: &mut H,
-    board: &mut B,
-    hashes: &mut HashCount<L>,
-) -> Result<(), End>
-    requires off { (B.seen board.old).power ≡ false }
-    requires none_out { (B.seen board.old).ledger.out ≡ None }
-    requires image { (state : Option Stands) × IsWellFormed image.items state }
-    requires count { length events ≤ EVENT_LIMIT }
-    requires events { All IsScriptEvent events }
-    ensures carried { (state : Option Stands) (cut : CutRun) (held : Held) → IsWellFormed image.items state
-        → events ≡ cut_events names.now.count cut → CanBeCut names.now.count cut → IsImageLeft held before.now
-        → CarriesOutRest (load image.items (serve (IsCutServed (record { bytes = image.items; state = state }) names.now.count cut) (tell_cut held)))
-        (record { used = use_of (B.seen board.old).ledger; wrote = false }) (use_of (B.seen board.new).ledger)
-        (B.seen board.new).ledger.standing (H.outside host.old) result (H.outside host.new) }
-    ensures stays { HoldsShut (B.seen board.old) → EndsServed (IsDone result) (IsOutOfMemory result) (B.seen board.new) }
-    ensures cost { hashes.new ≤ hashes.old + 2 * IMAGE_HASHES + STEP_HASHES * EVENT_LIMIT }
-{
-    match board.load(alloc, &image, events) {
-        Ok(()) => {}
+    match serve_events(alloc, &image, second, board, hashes) {
+        Ok(_device) => {}
         Err(_) => return Err(End::NoMemory),
     }
-    let _device = Device::start(board).serve(alloc, board, hashes);
-    tell_cut(alloc, image, before, host, board, hashes)
+    tell_cut(alloc, image.bytes, &before, host, board, hashes)
 }
 
-/// Prints whether power failed in the last event, and which state is left. The bytes of `image` are room for the image
-/// that the board holds.
+/// Prints whether power failed in the last event, and which state is left. The bytes of `room` are as many as those of
+/// the image that the board holds.
 fn tell_cut<H: Host, B: Board, L: Ledger>(
     alloc: Global,
-    mut image: Vec<u8>,
+    room: Vec<u8>,
     before: &[u8],
     host: &mut H,
     board: &B,
@@ -242,7 +111,7 @@ fn tell_cut<H: Host, B: Board, L: Ledger>(
 ) -> Result<(), End>
     requires loaded { IsLoaded (B.seen board.now).memory }
     requires answered { (B.seen board.now).ledger.standing.memory ≡ (B.seen board.now).memory }
-    requires room { length image.items ≡ IMAGE_LENGTH }
+    requires room { length room.items ≡ IMAGE_LENGTH }
     ensures carried { (held : Held) → IsImageLeft held before.now
         → ((last : List ℕ) → last ≡ image_of (B.seen board.now).memory → IsImageLeft (B.seen board.now).ledger.standing last)
         → CarriesOutRest (tell_cut held (B.seen board.now).ledger.answered (B.seen board.now).ledger.standing)
@@ -257,8 +126,8 @@ fn tell_cut<H: Host, B: Board, L: Ledger>(
     if !last_is_stopped(answered) {
         return print_text(host, b"unstopped\n");
     }
-    board.copy_image(&mut image);
-    tell_state(alloc, before, &image, host, hashes)
+    let after = held_image(board, room);
+    tell_state(alloc, before, &after, host, hashes)
 }
 
 /// Prints whether two images mean one state. Each is a board's, so it means a state, and only want of memory keeps it

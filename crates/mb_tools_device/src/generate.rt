@@ -8,7 +8,6 @@ ghost use Rattle.mb_model.specs.memories.Acknowledged.{Shows};
 ghost use Rattle.mb_model.specs.chains.Script.{IsScriptEvent};
 ghost use Rattle.mb_model_commands.specs.Commands.{Past};
 ghost use Rattle.mb_model_commands.specs.GenerateCommand.{generate, summarise};
-ghost use Rattle.mb_model_commands.specs.Workload.{IsWorkload};
 ghost use Rattle.mb_generate.specs.declared.limits.TheConstants.{ROUND_LIMIT};
 ghost use Rattle.mb_generate.specs.Serving.{CanBeServed};
 ghost use Rattle.mb_tools_device.specs.Names.{generate_files, generate_given};
@@ -21,6 +20,7 @@ ghost use Rattle.mb_tools_device.specs.Generated.{HasEvents, workload_outputs};
 ghost use Rattle.mb_device.specs.declared.step.TheConstants.{STEP_HASHES};
 ghost use Rattle.mb_lms.specs.declared.hash_count.TheConstants.{SIGNING_HASHES, TREE_HASHES};
 
+use crate::serving::held_image;
 use crate::summary::{summary_of, wants_memory};
 use mb_board::Board;
 use mb_console::{Arguments, End, Output, file, number, print_text, write_all};
@@ -83,7 +83,13 @@ pub fn generate<H: Host, B: Board, L: Ledger>(
     let Ok(events) = events_of(alloc, &files) else {
         return Err(End::NoMemory);
     };
-    load_workload(alloc, names, files, events, host, board, hashes)
+    match board.load(alloc, files.image.as_slice(), events) {
+        Ok(()) => {}
+        Err(_) => return Err(End::NoMemory),
+    }
+    write_files(names, &files, host)?;
+    let _device = Device::start(board).serve(alloc, board, hashes);
+    summarise(files.image.into_vec(), host, board)
 }
 
 /// The events of a workload's script with their draws, which come from its noise.
@@ -102,35 +108,6 @@ fn events_of(alloc: Global, files: &Workload) -> Result<Events, NoMemory>
         Ok(()) => Ok(events),
         Err(ShortNoise) => unreachable!(),
     }
-}
-
-/// Loads a workload, which has these events, on the board, writes its files, and goes on with serving it.
-fn load_workload<H: Host, B: Board, L: Ledger>(
-    alloc: Global,
-    names: &GenerateNames<'_>,
-    files: Workload,
-    events: Events,
-    host: &mut H,
-    board: &mut B,
-    hashes: &mut HashCount<L>,
-) -> Result<(), End>
-    requires generated { IsWorkload names.now.number names.now.rounds files }
-    requires events { HasEvents files events }
-    requires count { length events ≤ EVENT_LIMIT }
-    requires each { All IsScriptEvent events }
-    requires fresh { IsFresh (B.seen board.old) }
-    ensures carried { CarriesOutOn (generate (generate_files names.now)) (B.seen board.new) (H.outside host.old)
-        result (H.outside host.new) }
-    ensures stays { EndsHolding (IsDone result) ⊥ (B.seen board.old) (B.seen board.new) }
-    ensures cost { hashes.new ≤ hashes.old + STEP_HASHES * length (B.seen board.new).ledger.answered }
-{
-    match board.load(alloc, files.image.as_slice(), events) {
-        Ok(()) => {}
-        Err(_) => return Err(End::NoMemory),
-    }
-    write_files(names, &files, host)?;
-    let _device = Device::start(board).serve(alloc, board, hashes);
-    summarise(files.image.into_vec(), host, board)
 }
 
 /// Writes the three files of a workload.
@@ -163,12 +140,12 @@ fn write_files<H: Host>(
 }
 
 /// Prints the summary of the answered events, with the length of the log and the hash of the image as the board holds
-/// them now. The bytes of `image` are room for that image. If an allocation failed while the events were served, there
-/// is no summary.
-fn summarise<H: Host, B: Board>(mut image: Vec<u8>, host: &mut H, board: &B) -> Result<(), End>
+/// them now. The bytes of `room` are as many as those of that image. If an allocation failed while the events were
+/// served, there is no summary.
+fn summarise<H: Host, B: Board>(room: Vec<u8>, host: &mut H, board: &B) -> Result<(), End>
     requires loaded { IsLoaded (B.seen board.now).memory }
     requires answered { (B.seen board.now).ledger.standing.memory ≡ (B.seen board.now).memory }
-    requires room { length image.items ≡ IMAGE_LENGTH }
+    requires room { length room.items ≡ IMAGE_LENGTH }
     requires shown { (last : World) × Shows (B.seen board.now).ledger.standing last }
     ensures { (past : Past) → past.used ≡ use_of (B.seen board.now).ledger
         → CarriesOutRest (summarise (B.seen board.now).ledger.answered (B.seen board.now).ledger.standing)
@@ -179,8 +156,8 @@ fn summarise<H: Host, B: Board>(mut image: Vec<u8>, host: &mut H, board: &B) -> 
     if wants_memory(answered) {
         return Err(End::NoMemory);
     }
-    board.copy_image(&mut image);
-    let hash = Sha256::digest(&image);
-    let summary = summary_of(answered, log_length(&image), &hash);
+    let held = held_image(board, room);
+    let hash = Sha256::digest(&held);
+    let summary = summary_of(answered, log_length(&held), &hash);
     print_text(host, summary.as_slice())
 }

@@ -11,6 +11,7 @@ mod laws;
 mod replies;
 pub mod run;
 mod scripts;
+mod serving;
 mod summary;
 mod twice;
 

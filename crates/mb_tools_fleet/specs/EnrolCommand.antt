@@ -34,8 +34,10 @@ write_register name after line =
     write (record { role = role.Register; name = name; bytes = register_format.spelling after })
     (print (line_with_lf line))
 
--- The line of the answer is printed, after the register is written if the rows have changed. If the register does not
--- have all that was shown, the command is refused with this line.
+-- The line of the answer is printed, after the register is written if the rows have changed: most chains that are
+-- shown each day are the same, and a file of two million bytes is then read and not written. If the register does not
+-- have all that was shown, the command is refused with this line, so that a script sees it by the status. `fleet` is
+-- not refused, since it has many items.
 abbrev pub tell_answer : List ℕ → List Row → Answer → Command
 tell_answer name after (newly_added serial n) = write_register name after (answer_line (newly_added serial n))
 tell_answer name after (extended serial n) = write_register name after (answer_line (extended serial n))

@@ -19,7 +19,8 @@ pub record FleetNames : Type 0 where
   pub register : List ℕ
   pub items : List ℕ
 
--- what serving items comes to
+-- What serving items comes to. Answers that are too long are an outcome beside those that are short enough: a choice by
+-- whether they are too long would have to say on its other side that they are not.
 pub data FleetOutcome : Type 0 where
   -- the text of all answers, and the rows at the end
   all_served : List ℕ → List Row → FleetOutcome
@@ -31,13 +32,18 @@ abbrev pub ServingComesTo : PublicKey → List Row → List Item → FleetOutcom
 ServingComesTo maker rows listed (all_served text after) = AreServed maker rows listed text after
 ServingComesTo maker rows listed text_too_long = IsTooLong maker rows listed
 
--- the register is written, changed or not, and then the answers are printed; if these are too long, memory is lacking
+-- The register is written, changed or not, and then the answers are printed; if these are too long, memory is lacking.
+-- The register is written before an answer is printed, so that whoever sees one knows that the register has it. A write
+-- for each item would leave a register of half the items if memory lacks. It is written even if nothing has changed: so
+-- status 0 says of each call that the file holds the register, and a file that cannot be written is found at once.
 abbrev pub keep_register : List ℕ → FleetOutcome → Command
 keep_register name (all_served text after) =
     write (record { role = role.Register; name = name; bytes = register_format.spelling after }) (print text)
 keep_register name text_too_long = lack
 
--- the maker's public key, the register and the items are read, and the items are served
+-- The maker's public key, the register and the items are read, and the items are served. Answers to items are no
+-- refusals of the command: the reason for which one chain is refused says nothing of the others, and a caller reads a
+-- line for each.
 unfoldable pub fleet : FleetNames → Command
 fleet names =
     read (root_input names.root) (λ maker.

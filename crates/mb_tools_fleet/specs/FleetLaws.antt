@@ -1,5 +1,6 @@
 -- What the definitions of these commands give. Are chains that are enrolled one after another served as the items of
--- `fleet` are, and does `devices` show each row?
+-- `fleet` are, and does `devices` show each row? That a file holds what the command before has left is the host's: the
+-- laws speak of definitions, and of one command.
 use Rattle.std.specs.Prelude.{◌≡◌, ◌≢◌, ◌⊎◌, ◌↔◌, ℕ, List, [], ◌∷◌, ◌++◌, length, map, Option, Some}
 use Rattle.mb_format.specs.Format.{IsBytes, Spells}
 use Rattle.mb_model.specs.chains.Lines.{text_of}

@@ -23,7 +23,8 @@ abbrev pub hash_word : Option (List ℕ) → List ℕ
 hash_word None = codes "-"
 hash_word (Some hash) = hex_word hash
 
--- the line of a device: its serial, how many entries it has shown, its configuration number, and the code of each layer
+-- The line of a device: its serial, how many entries it has shown, its configuration number, and the code of each
+-- layer. The hashes of the entries are not shown: they say nothing to a reader, and make most of a register.
 abbrev pub row_line : Row → List ℕ
 row_line row = spaced_words (
     codes "device" ∷ hex_word row.serial ∷ decimal (length row.hashes) ∷ decimal row.number

@@ -1,2 +1,1 @@
-pub mod HsskeygenLemmas
 pub mod EndorseLemmas

@@ -27,7 +27,8 @@ endorsed_text root = ENDORSED_TEXT ∷ key_bytes root
 abbrev pub number_used : Maker → Maker
 number_used maker = record maker { next = maker.next + 1 }
 
--- The maker's file is written with its next number used, then that number's signature, and the number is printed.
+-- The maker's file is written with its next number used, then that number's signature, and the number is printed. The
+-- line is `index N` of `sign`, though the number is an index at the last level alone.
 unfoldable pub use_number : EndorseNames → Maker → PublicKey → Command
 use_number names maker root =
     write (record { role = role.Key; name = names.key; bytes = maker_format.spelling (number_used maker) })
@@ -38,12 +39,14 @@ use_number names maker root =
     })
     (print (index_text maker.next)))
 
--- the maker endorses the root key, unless all its 32^levels numbers are used
+-- The maker endorses the root key, unless all its 32^levels numbers are used. What was signed is not verified: that it
+-- verifies is a law (`MakersSignaturesVerify`), and that `endorsed` accepts it another (`endorsements_are_accepted`).
 unfoldable pub endorse_root : EndorseNames → Maker → PublicKey → Command
 endorse_root names maker root =
     either_command (maker.next ≡ 32 ^ maker.levels) (refuse (codes "spent")) (use_number names maker root)
 
--- the maker's key and the root key are read, and the maker endorses the root key
+-- The maker's key and the root key are read, and the maker endorses the root key. It does not ask whose the root key
+-- is, and takes keys of all twenty pairs of types: a maker may have root keys in hardware of another height.
 unfoldable pub endorse : EndorseNames → Command
 endorse names =
     read (maker_input names.key) (λ maker.

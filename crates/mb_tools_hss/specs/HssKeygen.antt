@@ -6,7 +6,6 @@ use Rattle.hex.specs.Hex.{encode_lower}
 use Rattle.mb_model.specs.outside.Texts.{line_with_lf}
 use Rattle.mb_model_commands.specs.declared.role.Role.TheVariants as role
 use Rattle.mb_model_commands.specs.Commands.{Command, read, write, print}
-use Rattle.mb_hss.specs.declared.maker.Maker.{Maker}
 use Rattle.mb_hss.specs.HssKeyFormat.{hss_key_format}
 use Rattle.mb_hss.specs.MakerFormat.{maker_format}
 use Rattle.mb_hss.specs.MakerKeys.{new_maker, maker_key}
@@ -23,14 +22,19 @@ pub record HsskeygenNames : Type 0 where
 abbrev pub maker_text : List ℕ → List ℕ
 maker_text public = line_with_lf (codes "maker " ++ encode_lower (sha256 public))
 
--- the maker's file is written, then its public key, and the public key's hash is printed
-unfoldable pub write_maker_key : HsskeygenNames → Maker → List ℕ → Command
-write_maker_key names maker public =
-    write (record { role = role.Key; name = names.key; bytes = maker_format.spelling maker })
-    (write (record { role = role.Public; name = names.public; bytes = public }) (print (maker_text public)))
+-- the public key of a new maker, in bytes
+abbrev pub new_maker_key : List ℕ → ℕ → List ℕ
+new_maker_key noise levels = hss_key_format.spelling (maker_key (new_maker noise levels))
 
--- a new maker is derived from the noise, and its key is written; none of its numbers is used
+-- The noise is read, and a new maker is derived from it, none of whose numbers is used. The maker's file is written,
+-- then its public key, and the public key's hash is printed.
 unfoldable pub hsskeygen : HsskeygenNames → Command
-hsskeygen names = read (maker_noise_input names.noise) (λ noise.
-    write_maker_key names (new_maker noise names.levels)
-    (hss_key_format.spelling (maker_key (new_maker noise names.levels))))
+hsskeygen names =
+    read (maker_noise_input names.noise) (λ noise.
+    write (record {
+      role = role.Key;
+      name = names.key;
+      bytes = maker_format.spelling (new_maker noise names.levels);
+    })
+    (write (record { role = role.Public; name = names.public; bytes = new_maker_key noise names.levels })
+    (print (maker_text (new_maker_key noise names.levels)))))

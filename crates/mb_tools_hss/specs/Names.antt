@@ -5,9 +5,11 @@ use Rattle.mb_console.specs.Words.{Argument, file_given, number_given}
 use Rattle.mb_tools_hss.specs.HssKeygen.{HsskeygenNames as HsskeygenFiles}
 use Rattle.mb_tools_hss.specs.Endorse.{EndorseNames as EndorseFiles}
 use Rattle.mb_tools_hss.specs.Endorsed.{EndorsedNames as EndorsedFiles}
+use Rattle.mb_tools_hss.specs.ShowMaker.{ShowMakerNames as ShowMakerFiles}
 use Rattle.mb_tools_hss.specs.declared.hsskeygen.HsskeygenNames.{HsskeygenNames}
 use Rattle.mb_tools_hss.specs.declared.endorse.EndorseNames.{EndorseNames}
 use Rattle.mb_tools_hss.specs.declared.endorsed.EndorsedNames.{EndorsedNames}
+use Rattle.mb_tools_hss.specs.declared.showmaker.ShowMakerNames.{ShowMakerNames}
 
 abbrev pub hsskeygen_files : HsskeygenNames → HsskeygenFiles
 hsskeygen_files names = record {
@@ -38,3 +40,9 @@ endorsed_files names =
 abbrev pub endorsed_given : List Argument → EndorsedFiles
 endorsed_given given =
     record { public = file_given 0 given; root = file_given 1 given; endorsement = file_given 2 given }
+
+abbrev pub showmaker_files : ShowMakerNames → ShowMakerFiles
+showmaker_files names = record { key = names.key.now }
+
+abbrev pub showmaker_given : List Argument → ShowMakerFiles
+showmaker_given given = record { key = file_given 0 given }

@@ -26,7 +26,8 @@ use std::alloc::Global;
 use std::sync::ledger::Ledger;
 
 /// Domain separator of what a maker's HSS key signs to endorse a root key. It differs from those of what owners,
-/// devices and regions sign.
+/// devices and regions sign. This crate alone signs and verifies such a text. Among the others, in `mb_model`, it would
+/// have every crate proved anew for one command.
 pub const ENDORSED_TEXT: u8 = 0x05;
 
 /// The names of the files of `endorse`.
@@ -66,7 +67,7 @@ pub fn endorse<H: Host, L: Ledger>(
     let body = key_bytes(&root);
     let mut signature = Vec::new(alloc);
     match sign(&mut maker, &[ENDORSED_TEXT], &body, &mut signature, hashes) {
-        Ok(index) => write_endorsement(alloc, names, &maker, signature, index, host),
+        Ok(index) => use_number(alloc, names, &maker, signature, index, host),
         Err(end) => Err(end_of(end)),
     }
 }
@@ -82,7 +83,7 @@ fn end_of(end: HssEnd) -> End
 }
 
 /// Writes a maker's file with one more of its numbers used, then the signature with that number, and prints the number.
-fn write_endorsement<H: Host>(
+fn use_number<H: Host>(
     alloc: Global,
     names: &EndorseNames<'_>,
     maker: &Maker,

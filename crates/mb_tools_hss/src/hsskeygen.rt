@@ -4,15 +4,13 @@ ghost use Rattle.std.specs.Prelude.{◌+◌, ◌≡◌, ◌≤◌, IfOk, map, st
 ghost use Rattle.mb_console.specs.Ending.{CarriesOut};
 ghost use Rattle.mb_console.specs.Words.{given_argument};
 ghost use Rattle.mb_hss.specs.declared.limits.TheConstants.{LEVEL_LIMIT};
-ghost use Rattle.mb_hss.specs.HssKeyFormat.{hss_key_format};
-ghost use Rattle.mb_hss.specs.MakerKeys.{IsMaker, maker_key};
-ghost use Rattle.mb_tools_hss.specs.HssKeygen.{hsskeygen, maker_text, write_maker_key};
+ghost use Rattle.mb_tools_hss.specs.HssKeygen.{hsskeygen, maker_text};
 ghost use Rattle.mb_tools_hss.specs.Names.{hsskeygen_files, hsskeygen_given};
 ghost use Rattle.mb_lms.specs.declared.hash_count.TheConstants.{TREE_HASHES};
 
 use mb_console::{Arguments, End, Output, file, finish, number, read_as};
 use mb_host::Host;
-use mb_hss::{Maker, hss_key_bytes, make_maker, public, write_maker};
+use mb_hss::{hss_key_bytes, make_maker, public, write_maker};
 use mb_lms::HashCount;
 use mb_model::{DRAW_LENGTH, NoMemory};
 use mb_model_commands::Role;
@@ -64,26 +62,11 @@ pub fn hsskeygen<H: Host, L: Ledger>(
         Leading::<DRAW_LENGTH>,
     )?;
     let maker = make_maker(&noise, names.levels as u8);
-    write_maker_key(alloc, names, &maker, host, hashes)
-}
-
-/// Writes a maker's file and its public key, and prints the public key's hash.
-fn write_maker_key<H: Host, L: Ledger>(
-    alloc: Global,
-    names: &HsskeygenNames<'_>,
-    maker: &Maker,
-    host: &mut H,
-    hashes: &mut HashCount<L>,
-) -> Result<(), End>
-    requires { IsMaker maker.now }
-    ensures carried { CarriesOut (write_maker_key (hsskeygen_files names.now) maker.now (hss_key_format.spelling (maker_key maker.now))) (H.outside host.old) result (H.outside host.new) }
-    ensures cost { hashes.new ≤ hashes.old + TREE_HASHES + 2 }
-{
-    let spelled = hss_key_bytes(&public(maker, hashes));
+    let spelled = hss_key_bytes(&public(&maker, hashes));
     let Ok(text) = maker_text(alloc, &spelled) else {
         return Err(End::NoMemory);
     };
-    let file = write_maker(maker);
+    let file = write_maker(&maker);
     let outputs = [
         Output {
             role: Role::Key,
@@ -100,7 +83,7 @@ fn write_maker_key<H: Host, L: Ledger>(
 }
 
 /// The line of the hash of a maker's public key.
-fn maker_text(alloc: Global, public: &[u8; 60]) -> Result<String, NoMemory>
+pub(crate) fn maker_text(alloc: Global, public: &[u8; 60]) -> Result<String, NoMemory>
     ensures { IfOk result (λ text. string_bytes text ≡ maker_text public.now) }
 {
     let hash = hex::encode(alloc, Sha256::digest(public))?;

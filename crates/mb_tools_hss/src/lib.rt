@@ -1,8 +1,8 @@
 //! The commands of a maker's HSS key, which endorses factory root keys.
 //!
-//! This crate owns what `hsskeygen`, `endorse` and `endorsed` do after the words are read, and the forms of the inputs
-//! that no other command has. It stands on `mb_hss`, which makes and verifies the signatures, on `mb_console`, and on
-//! `mb_tools` for the other forms.
+//! This crate owns what `hsskeygen`, `showmaker`, `endorse` and `endorsed` do after the words are read, and the forms of
+//! the inputs that no other command has. It stands on `mb_hss`, which makes and verifies the signatures, on
+//! `mb_console`, and on `mb_tools` for the other forms.
 #![tactic(auto)]
 
 pub mod endorse;
@@ -10,6 +10,7 @@ pub mod endorsed;
 pub mod hsskeygen;
 mod input;
 mod laws;
+pub mod showmaker;
 
 pub use laws::{inputs_are_clear, numbers_are};
 pub use mb_hss::LEVEL_LIMIT;

@@ -24,7 +24,8 @@ pub record TrustNames : Type 0 where
 abbrev pub denied_line : ℕ → List ℕ → List ℕ
 denied_line number rule = codes "denied " ++ decimal number ++ codes " " ++ rule
 
--- what the policy comes to: the key is allowed, or a configuration is denied
+-- What the policy comes to: the key is allowed, or a configuration is denied. One word is printed, for scripts;
+-- `verify` prints the listing.
 abbrev pub tell_judgement : Judgement → Command
 tell_judgement judgement.Allowed = print (line_with_lf (codes "allowed"))
 tell_judgement (judgement.Denied number rule) = refuse (denied_line number rule)

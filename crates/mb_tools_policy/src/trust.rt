@@ -80,7 +80,9 @@ fn end_of_denial(alloc: Global, number: u32, rule: &[u8]) -> End
     }
 }
 
-/// The line with the number of the configuration that is denied, and the name of the rule that denies it.
+/// The line with the number of the configuration that is denied, and the name of the rule that denies it. It is made
+/// with memory, though it has at most 50 bytes: that the name of a rule has at most 32 is a fact about policies that
+/// were read, which `judge_report` does not say, and an invariant of `Policy` would be for this alone.
 fn denied_line(alloc: Global, number: u32, rule: &[u8]) -> Result<LongLine, NoMemory>
     ensures { IfOk result (λ line. line ≡ denied_line number rule.now) }
 {

@@ -11,11 +11,11 @@ use Rattle.mb_top.specs.Top.{Ends, no_command, did}
 use Rattle.mb_top.specs.EndCounterExamples.{EndCounterExamples}
 
 -- whether a word comes after the name
-has_word : Row Command → Bool
-has_word row = nat_lt 0 (length row.2)
+has_a_word : Row Command → Bool
+has_a_word row = nat_lt 0 (length row.2)
 
-all_have_one : all_rows has_word commands ≡ true
-unfolding commands has_word
+all_have_one : all_rows has_a_word commands ≡ true
+unfolding commands has_a_word
 all_have_one = refl
 
 as_many : (kinds : List Kind) (words : List (List ℕ)) (arguments : List Argument) → AreWordsFor kinds words arguments → length words ≡ length kinds
@@ -25,17 +25,17 @@ as_many (kind ∷ kinds) [] arguments is = absurd is
 as_many (kind ∷ kinds) (word ∷ words) [] is = absurd is
 as_many (kind ∷ kinds) (word ∷ words) (argument ∷ arguments) is = omega (arith, as_many kinds words arguments is.1)
 
-called_by_some : (name : List ℕ) (kinds : List Kind) (words : List (List ℕ)) (given : List Argument) → nat_lt 0 (length kinds) ≡ true → IsCalled name kinds words given → 2 ≤ length words
-called_by_some name kinds [] given some is = absurd is
-called_by_some name kinds (first ∷ words) given some is =
+called_by_more : (name : List ℕ) (kinds : List Kind) (words : List (List ℕ)) (given : List Argument) → nat_lt 0 (length kinds) ≡ true → IsCalled name kinds words given → 2 ≤ length words
+called_by_more name kinds [] given one is = absurd is
+called_by_more name kinds (first ∷ words) given one is =
     let many = as_many kinds words given is.1 in
-    grind (arith, many, some)
+    grind (arith, many, one)
 
 two_words : (words : List (List ℕ)) (called : Command) (given : List Argument) → IsCall commands words called given → 2 ≤ length words
-unfolding has_word
+unfolding has_a_word
 two_words words called given is =
-    let row = row_of_call has_word commands words called given all_have_one is in
-    called_by_some row.row.1 row.row.2 words given row.passes row.called
+    let row = row_of_call has_a_word commands words called given all_have_one is in
+    called_by_more row.row.1 row.row.2 words given row.passes row.called
 
 no_other_status : (words : List (List ℕ)) (e : Ended) → length words ≤ 1 → e.status ≢ 2 → Ends words e → ⊥
 no_other_status words e few other (no_command none stops) = other stops.status_is

@@ -45,9 +45,12 @@ call_completes words called given files e is told has well (did other others is_
 
 -- ---- numbers within the bounds of their kinds
 
-is_countersign : Command → Bool
-is_countersign command.Countersign = true
-is_countersign _ = false
+-- the second word of the command is a layer
+abbrev pub takes_layer : Command → Bool
+takes_layer command.Countersign = true
+takes_layer command.Cosign = true
+takes_layer command.App = true
+takes_layer _ = false
 
 is_cutat : Command → Bool
 is_cutat command.Cutat = true
@@ -61,14 +64,10 @@ is_hsskeygen : Command → Bool
 is_hsskeygen command.Hsskeygen = true
 is_hsskeygen _ = false
 
-is_app : Command → Bool
-is_app command.App = true
-is_app _ = false
-
--- the layer that countersigns is 2 or 3
-pub layer_of : (words : List (List ℕ)) (called : Command) (given : List Argument) → called ≡ command.Countersign → IsCall commands words called given → (2 ≤ number_given 1 given) × (number_given 1 given ≤ 3)
-unfolding commands is_countersign
-layer_of words called given is call = number_of_call is_countersign 1 2 3 commands words called given refl (ap is_countersign is) call
+-- the layer that countersigns, or whose code runs, is 2 or 3
+pub layer_of : (words : List (List ℕ)) (called : Command) (given : List Argument) → takes_layer called ≡ true → IsCall commands words called given → (2 ≤ number_given 1 given) × (number_given 1 given ≤ 3)
+unfolding commands
+layer_of words called given takes call = number_of_call takes_layer 1 2 3 commands words called given refl takes call
 
 -- a workload has 1 to 24 rounds
 pub rounds_of : (words : List (List ℕ)) (called : Command) (given : List Argument) → called ≡ command.Generate → IsCall commands words called given → (1 ≤ number_given 1 given) × (number_given 1 given ≤ 24)
@@ -79,11 +78,6 @@ rounds_of words called given is call = number_of_call is_generate 1 1 24 command
 pub levels_of : (words : List (List ℕ)) (called : Command) (given : List Argument) → called ≡ command.Hsskeygen → IsCall commands words called given → (1 ≤ number_given 1 given) × (number_given 1 given ≤ 8)
 unfolding commands is_hsskeygen
 levels_of words called given is call = number_of_call is_hsskeygen 1 1 8 commands words called given refl (ap is_hsskeygen is) call
-
--- the layer whose code runs is 2 or 3
-pub app_layer_of : (words : List (List ℕ)) (called : Command) (given : List Argument) → called ≡ command.App → IsCall commands words called given → (2 ≤ number_given 1 given) × (number_given 1 given ≤ 3)
-unfolding commands is_app
-app_layer_of words called given is call = number_of_call is_app 1 2 3 commands words called given refl (ap is_app is) call
 
 -- power is cut in one of the first 100,000 writes
 pub count_of : (words : List (List ℕ)) (called : Command) (given : List Argument) → called ≡ command.Cutat → IsCall commands words called given → (1 ≤ number_given 3 given) × (number_given 3 given ≤ 100000)

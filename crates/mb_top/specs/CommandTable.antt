@@ -26,52 +26,67 @@ row called name kinds = (called, name, kinds)
 -- the commands with their names and the kinds of the words after each
 unfoldable pub commands : List (Row Command)
 commands =
+    -- ---- to make keys and devices
+    -- keygen NOISE KEY PUBLIC
+    row command.Keygen (codes "keygen") (a_file ∷ a_file ∷ a_file ∷ [])
+    -- showkey KEY
+    ∷ row command.Showkey (codes "showkey") (a_file ∷ [])
+    -- factory NOISE KEY OWNER CODE IMAGE
+    ∷ row command.Factory (codes "factory") (a_file ∷ a_file ∷ a_file ∷ a_file ∷ a_file ∷ [])
+    -- hsskeygen NOISE LEVELS KEY PUBLIC
+    ∷ row command.Hsskeygen (codes "hsskeygen") (a_file ∷ a_number 1 8 ∷ a_file ∷ a_file ∷ [])
+    -- showmaker KEY
+    ∷ row command.Showmaker (codes "showmaker") (a_file ∷ [])
+    -- endorse KEY ROOT OUT
+    ∷ row command.Endorse (codes "endorse") (a_file ∷ a_file ∷ a_file ∷ [])
+    -- ---- to give orders
+    -- showorder ORDER
+    ∷ row command.Showorder (codes "showorder") (a_file ∷ [])
+    -- ordered PUBLIC ORDER
+    ∷ row command.Ordered (codes "ordered") (a_file ∷ a_file ∷ [])
+    -- sign KEY DRAFT OUT
+    ∷ row command.Sign (codes "sign") (a_file ∷ a_file ∷ a_file ∷ [])
+    -- countersign KEY LAYER ORDER OUT
+    ∷ row command.Countersign (codes "countersign") (a_file ∷ a_number 2 3 ∷ a_file ∷ a_file ∷ [])
+    -- cosign KEY LAYER ORDER DRAFT OUT
+    ∷ row command.Cosign (codes "cosign") (a_file ∷ a_number 2 3 ∷ a_file ∷ a_file ∷ a_file ∷ [])
+    -- ---- to serve a device
     -- run IMAGE SCRIPT NOISE
-    row command.Run (codes "run") (a_file ∷ a_file ∷ a_file ∷ [])
+    ∷ row command.Run (codes "run") (a_file ∷ a_file ∷ a_file ∷ [])
     -- cutat IMAGE SCRIPT NOISE COUNT FILL
     ∷ row command.Cutat (codes "cutat") (a_file ∷ a_file ∷ a_file ∷ a_number 1 100000 ∷ a_fill ∷ [])
+    -- chain IMAGE OUT
+    ∷ row command.Chain (codes "chain") (a_file ∷ a_file ∷ [])
+    -- attach CHAIN STATEMENT OUT
+    ∷ row command.Attach (codes "attach") (a_file ∷ a_file ∷ a_file ∷ [])
+    -- migrate IMAGE OUT
+    ∷ row command.Migrate (codes "migrate") (a_file ∷ a_file ∷ [])
+    -- generate NUMBER ROUNDS IMAGE SCRIPT NOISE
+    ∷ row command.Generate (codes "generate") (a_number 0 4294967295 ∷ a_number 1 24 ∷ a_file ∷ a_file ∷ a_file ∷ [])
+    -- ---- to verify what a device says of itself
     -- verify ROOT CHAIN KEYNUMBER
     ∷ row command.Verify (codes "verify") (a_file ∷ a_file ∷ a_number 0 4294967295 ∷ [])
     -- audit IMAGE ROOT CHAIN KEYNUMBER
     ∷ row command.Audit (codes "audit") (a_file ∷ a_file ∷ a_file ∷ a_number 0 4294967295 ∷ [])
     -- trust ROOT CHAIN KEYNUMBER POLICY
     ∷ row command.Trust (codes "trust") (a_file ∷ a_file ∷ a_number 0 4294967295 ∷ a_file ∷ [])
-    -- chain IMAGE OUT
-    ∷ row command.Chain (codes "chain") (a_file ∷ a_file ∷ [])
-    -- attach CHAIN STATEMENT OUT
-    ∷ row command.Attach (codes "attach") (a_file ∷ a_file ∷ a_file ∷ [])
-    -- fleet ROOT REGISTER ITEMS
-    ∷ row command.Fleet (codes "fleet") (a_file ∷ a_file ∷ a_file ∷ [])
+    -- endorsed PUBLIC ROOT ENDORSEMENT
+    ∷ row command.Endorsed (codes "endorsed") (a_file ∷ a_file ∷ a_file ∷ [])
     -- register OUT
     ∷ row command.Register (codes "register") (a_file ∷ [])
     -- enrol ROOT REGISTER CHAIN
     ∷ row command.Enrol (codes "enrol") (a_file ∷ a_file ∷ a_file ∷ [])
     -- devices REGISTER
     ∷ row command.Devices (codes "devices") (a_file ∷ [])
-    -- factory NOISE KEY OWNER CODE IMAGE
-    ∷ row command.Factory (codes "factory") (a_file ∷ a_file ∷ a_file ∷ a_file ∷ a_file ∷ [])
-    -- keygen NOISE KEY PUBLIC
-    ∷ row command.Keygen (codes "keygen") (a_file ∷ a_file ∷ a_file ∷ [])
-    -- sign KEY DRAFT OUT
-    ∷ row command.Sign (codes "sign") (a_file ∷ a_file ∷ a_file ∷ [])
-    -- countersign KEY LAYER ORDER OUT
-    ∷ row command.Countersign (codes "countersign") (a_file ∷ a_number 2 3 ∷ a_file ∷ a_file ∷ [])
-    -- hsskeygen NOISE LEVELS KEY PUBLIC
-    ∷ row command.Hsskeygen (codes "hsskeygen") (a_file ∷ a_number 1 8 ∷ a_file ∷ a_file ∷ [])
-    -- endorse KEY ROOT OUT
-    ∷ row command.Endorse (codes "endorse") (a_file ∷ a_file ∷ a_file ∷ [])
-    -- endorsed PUBLIC ROOT ENDORSEMENT
-    ∷ row command.Endorsed (codes "endorsed") (a_file ∷ a_file ∷ a_file ∷ [])
-    -- migrate IMAGE OUT
-    ∷ row command.Migrate (codes "migrate") (a_file ∷ a_file ∷ [])
-    -- app IMAGE LAYER INPUT STEPS
-    ∷ row command.App (codes "app") (a_file ∷ a_number 2 3 ∷ a_file ∷ a_number 1 10000000 ∷ [])
-    -- appcode CODE INPUT STEPS
-    ∷ row command.Appcode (codes "appcode") (a_file ∷ a_file ∷ a_number 1 10000000 ∷ [])
+    -- fleet ROOT REGISTER ITEMS
+    ∷ row command.Fleet (codes "fleet") (a_file ∷ a_file ∷ a_file ∷ [])
+    -- ---- to write applications
     -- asm TEXT OUT
     ∷ row command.Asm (codes "asm") (a_file ∷ a_file ∷ [])
     -- disasm CODE OUT
     ∷ row command.Disasm (codes "disasm") (a_file ∷ a_file ∷ [])
-    -- generate NUMBER ROUNDS IMAGE SCRIPT NOISE
-    ∷ row command.Generate (codes "generate") (a_number 0 4294967295 ∷ a_number 1 24 ∷ a_file ∷ a_file ∷ a_file ∷ [])
+    -- appcode CODE INPUT STEPS
+    ∷ row command.Appcode (codes "appcode") (a_file ∷ a_file ∷ a_number 1 10000000 ∷ [])
+    -- app IMAGE LAYER INPUT STEPS
+    ∷ row command.App (codes "app") (a_file ∷ a_number 2 3 ∷ a_file ∷ a_number 1 10000000 ∷ [])
     ∷ []

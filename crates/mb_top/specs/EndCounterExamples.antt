@@ -4,7 +4,7 @@ use Rattle.mb_model.specs.outside.Board.{not_used}
 use Rattle.mb_model_commands.specs.Commands.{Ended}
 use Rattle.mb_top.specs.Top.{Ends}
 
--- One word, and none, is no command.
+-- One word, or none, is no command.
 pub record EndCounterExamples (words : List (List ℕ)) (e : Ended) : Type 0 where
   -- the program ends with another status than 2
   pub status : length words ≤ 1 → e.status ≢ 2 → Ends words e → ⊥

@@ -7,6 +7,7 @@ use Rattle.mb_model_commands.specs.Commands.{Command as Does, Ended, Stops, Comm
 use Rattle.mb_model_commands.specs.RunCommand.{run}
 use Rattle.mb_model_commands.specs.Keygen.{keygen}
 use Rattle.mb_model_commands.specs.Sign.{sign, countersign}
+use Rattle.mb_model_commands.specs.Cosign.{cosign}
 use Rattle.mb_model_commands.specs.FactoryCommand.{factory}
 use Rattle.mb_model_commands.specs.MigrateCommand.{migrate}
 use Rattle.mb_model_commands.specs.VerifyCommand.{verify}
@@ -19,10 +20,15 @@ use Rattle.mb_console.specs.Ending.{ended_at, EndsOncePrinted}
 use Rattle.mb_console.specs.Words.{Argument, IsCall}
 use Rattle.mb_tools.specs.Names.{keygen_given, sign_given, countersign_given, factory_given, migrate_given}
 use Rattle.mb_tools.specs.Names.{verify_given, audit_given, chain_given, attach_given}
+use Rattle.mb_tools_orders.specs.ShowOrder.{showorder}
+use Rattle.mb_tools_orders.specs.Ordered.{ordered}
+use Rattle.mb_tools_orders.specs.ShowKey.{showkey}
+use Rattle.mb_tools_orders.specs.Names.{cosign_given, showorder_given, ordered_given, showkey_given}
 use Rattle.mb_tools_hss.specs.HssKeygen.{hsskeygen}
+use Rattle.mb_tools_hss.specs.ShowMaker.{showmaker}
 use Rattle.mb_tools_hss.specs.Endorse.{endorse}
 use Rattle.mb_tools_hss.specs.Endorsed.{endorsed}
-use Rattle.mb_tools_hss.specs.Names.{hsskeygen_given, endorse_given, endorsed_given}
+use Rattle.mb_tools_hss.specs.Names.{hsskeygen_given, showmaker_given, endorse_given, endorsed_given}
 use Rattle.mb_tools_policy.specs.TrustCommand.{trust}
 use Rattle.mb_tools_policy.specs.Names.{trust_given}
 use Rattle.mb_tools_app.specs.AppCommand.{app}
@@ -55,9 +61,14 @@ command_of command.Enrol given = enrol (enrol_given given)
 command_of command.Devices given = devices (devices_given given)
 command_of command.Factory given = factory (factory_given given)
 command_of command.Keygen given = keygen (keygen_given given)
+command_of command.Showkey given = showkey (showkey_given given)
 command_of command.Sign given = sign (sign_given given)
 command_of command.Countersign given = countersign (countersign_given given)
+command_of command.Cosign given = cosign (cosign_given given)
+command_of command.Showorder given = showorder (showorder_given given)
+command_of command.Ordered given = ordered (ordered_given given)
 command_of command.Hsskeygen given = hsskeygen (hsskeygen_given given)
+command_of command.Showmaker given = showmaker (showmaker_given given)
 command_of command.Endorse given = endorse (endorse_given given)
 command_of command.Endorsed given = endorsed (endorsed_given given)
 command_of command.Migrate given = migrate (migrate_given given)
@@ -86,12 +97,15 @@ CarriesOutWords words used final before result now =
 
 -- ---- what the board holds
 
--- the words call `cutat`
+-- The words call `cutat`, which turns power off before the second load, in which an allocation may fail: an `off` at
+-- the end of the first run would be an event that no script has.
 abbrev pub CallsCutat : List (List ℕ) → Type 0
 CallsCutat words = (given : List Argument) × IsCall commands words command.Cutat given
 
 -- What a board holds after a command: it was left alone, or it holds what it held at its last answer. Or an allocation
--- of `cutat` failed between its two runs, and power was turned off.
+-- of `cutat` failed between its two runs, and power was turned off. There is no condition on the beginning: with the
+-- number of loads in `ends` it follows whether the board was loaded. That no event waits is said at status 0 alone:
+-- `generate` loads before it writes its files, and if a write fails its events still wait.
 abbrev pub HoldsAfter : Command → Result (Unit {0}) End → Seen → Seen → Type 0
 HoldsAfter called result before after =
     EndsHolding (IsDone result) ((called ≡ command.Cutat) × IsOutOfMemory result) before after

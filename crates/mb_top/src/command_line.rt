@@ -10,7 +10,7 @@ ghost use Rattle.mb_top.specs.Top.{HoldsAtStatus};
 ghost use Rattle.mb_top.specs.Usage.{usage};
 
 use crate::commands::top;
-use crate::table::{COMMANDS, Usage, put, put_rows};
+use crate::table::{GROUPS, Usage, put, put_groups};
 use arrayvec::ArrayVec;
 use mb_board::Board;
 use mb_console::{End, is_word, stop};
@@ -19,12 +19,12 @@ use std::alloc::Global;
 
 /// The beginning of the text that `--help` prints.
 pub const HEAD: &str = "miniboot serves a simulated secure coprocessor.
-
-usage:
 ";
 
 /// The end of the text that `--help` prints.
-pub const STATUSES: &str = "  miniboot --help
+pub const STATUSES: &str = "
+to learn of the program:
+  miniboot --help
       prints this text
   miniboot --version
       prints the version
@@ -99,7 +99,7 @@ fn usage() -> Usage
 {
     let mut text = ArrayVec::new();
     put(&mut text, HEAD);
-    put_rows(&mut text, &COMMANDS);
+    put_groups(&mut text, &GROUPS);
     put(&mut text, STATUSES);
     text
 }

@@ -8,7 +8,7 @@ ghost use Rattle.mb_top.specs.CommandTable.{commands};
 ghost use Rattle.mb_top.specs.Top.{command_of, Ends, HoldsAfter, HoldsAfterWords, HoldsAtStatus, CarriesOutWords};
 ghost use Rattle.mb_tools_device.specs.Boards.{IsFresh, CarriesOutOn};
 
-use crate::table::{COMMANDS, Call, Command, call_in};
+use crate::table::{Call, Command, GROUPS, call_in};
 use mb_board::Board;
 use mb_console::{End, stop};
 use mb_host::Host;
@@ -35,6 +35,11 @@ use mb_tools_fleet::register::{RegisterNames, register};
 use mb_tools_hss::endorse::{EndorseNames, endorse};
 use mb_tools_hss::endorsed::{EndorsedNames, endorsed};
 use mb_tools_hss::hsskeygen::{HsskeygenNames, hsskeygen};
+use mb_tools_hss::showmaker::{ShowMakerNames, showmaker};
+use mb_tools_orders::cosign::{CosignNames, cosign};
+use mb_tools_orders::ordered::{OrderedNames, ordered};
+use mb_tools_orders::showkey::{ShowKeyNames, showkey};
+use mb_tools_orders::showorder::{ShowOrderNames, showorder};
 use mb_tools_policy::trust::{TrustNames, trust};
 use std::alloc::Global;
 use std::marker::Brand;
@@ -84,7 +89,7 @@ fn called(words: &[String]) -> Option<Call<'_>>
         ((called : Command) (given : List Argument) → IsCall commands (map string_bytes words.now) called given → ⊥)
         (λ call. IsCall commands (map string_bytes words.now) call.command (map given_argument call.arguments.items)) }
 {
-    call_in(&COMMANDS, words)
+    call_in(&GROUPS, words)
 }
 
 /// Carries out a command, up to the line of its status.
@@ -116,9 +121,14 @@ fn carry_out<H: Host, B: Board, L: Ledger>(
         Command::Devices => devices(alloc, &DevicesNames::of(given), host),
         Command::Factory => factory(alloc, &FactoryNames::of(given), host, hashes),
         Command::Keygen => keygen(alloc, &KeygenNames::of(given), host, hashes),
+        Command::Showkey => showkey(alloc, &ShowKeyNames::of(given), host, hashes),
         Command::Sign => sign(alloc, &SignNames::of(given), host, hashes),
         Command::Countersign => countersign(alloc, &CountersignNames::of(given), host, hashes),
+        Command::Cosign => cosign(alloc, &CosignNames::of(given), host, hashes),
+        Command::Showorder => showorder(alloc, &ShowOrderNames::of(given), host),
+        Command::Ordered => ordered(alloc, &OrderedNames::of(given), host),
         Command::Hsskeygen => hsskeygen(alloc, &HsskeygenNames::of(given), host, hashes),
+        Command::Showmaker => showmaker(alloc, &ShowMakerNames::of(given), host, hashes),
         Command::Endorse => endorse(alloc, &EndorseNames::of(given), host, hashes),
         Command::Endorsed => endorsed(alloc, &EndorsedNames::of(given), host),
         Command::Migrate => migrate(alloc, &MigrateNames::of(given), host, hashes),
@@ -130,7 +140,8 @@ fn carry_out<H: Host, B: Board, L: Ledger>(
     }
 }
 
-/// Does what the words say, over this host and this board, and answers the exit status.
+/// Does what the words say, over this host and this board, and answers the exit status. Its clause `complete` does not
+/// ask that no absence was counted, which follows from having the files.
 pub fn top<H: Host, B: Board>(alloc: Global, words: &[String], host: &mut H, board: &mut B) -> u8
     requires off { (B.seen board.old).power ≡ false }
     requires none_out { (B.seen board.old).ledger.out ≡ None }

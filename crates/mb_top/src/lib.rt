@@ -15,4 +15,4 @@ mod table;
 pub use command_line::{NoWords, VERSION, program};
 pub use commands::top;
 pub use counter_examples::end_counter_examples;
-pub use table::{COMMANDS, Command};
+pub use table::{Command, GROUPS};

@@ -27,7 +27,7 @@ use_alike : (key_name out : List ℕ) (key : Keyfile) (order : Order) → Alike 
 unfolding use_index
 use_alike key_name out key order = alike_write _ _ (alike_write _ _ (alike_print _))
 
-sign_by_alike : (key_name out : List ℕ) (key : Keyfile) (order : Order) → Alike (sign_by key_name out key order) (sign_by key_name out key order)
+pub sign_by_alike : (key_name out : List ℕ) (key : Keyfile) (order : Order) → Alike (sign_by key_name out key order) (sign_by key_name out key order)
 unfolding sign_by
 sign_by_alike key_name out key order = alike_either _ _ _ (λ is. alike_refuse _) (λ not. use_alike key_name out key order)
 

@@ -12,8 +12,8 @@ use Rattle.mb_model.specs.memories.Meaning.{IsWellFormed}
 use Rattle.mb_model.specs.chains.Replies.{replies_text}
 use Rattle.mb_model_commands.specs.declared.role.Role.TheVariants as role
 use Rattle.mb_model_commands.specs.Inputs.{Image}
-use Rattle.mb_model_commands.specs.RunCommand.{RunNames, IsServed, run, serve_events, write_image}
-use Rattle.mb_model_commands.specs.Commands.{serve, print, Past, Ended, WantsMemory, CommandEnds, end_seen_from}
+use Rattle.mb_model_commands.specs.RunCommand.{RunNames, IsServed, run}
+use Rattle.mb_model_commands.specs.Commands.{Command, load, serve, write, print, Past, Ended, WantsMemory, CommandEnds, end_seen_from}
 use Rattle.mb_model_commands.specs.Commands.{at_first}
 use Rattle.mb_model_lemmas.specs.RefusalLaws.{BringsBytes}
 use Rattle.mb_model_histories.specs.PowerLaws.{HasOwnAnswer}
@@ -61,6 +61,14 @@ runs_of_ends image = record {
     }
 
 -- ---- the events
+
+-- what comes after the events were served
+abbrev write_image : RunNames → List Answered → Held → Command
+write_image names answered final = write (record { role = role.Image; name = names.image; bytes = image_of final.memory }) (print (replies_text answered))
+
+-- what comes after the inputs were read
+abbrev serve_events : RunNames → Image → List Event → Command
+serve_events names image events = load image.bytes (serve (IsServed image events) (write_image names))
 
 -- what serving the events comes to
 record Serves (names : RunNames) (image : Image) (events : List Event) (past : Past) (files : Files) (printed : List ℕ) (e : Ended) : Type 0 where

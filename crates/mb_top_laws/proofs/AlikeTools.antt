@@ -17,7 +17,7 @@ use Rattle.mb_migrate.proofs.Migrations.{migrates_to_one, migrates_or_cannot}
 use Rattle.mb_hss.specs.declared.maker.Maker.{Maker}
 use Rattle.mb_hss.specs.ExactFormats.{hss_key_exact, maker_exact}
 use Rattle.mb_tools_hss.specs.MakerInputs.{maker_input, hss_key_input}
-use Rattle.mb_tools_hss.specs.HssKeygen.{HsskeygenNames, hsskeygen, write_maker_key}
+use Rattle.mb_tools_hss.specs.HssKeygen.{HsskeygenNames, hsskeygen}
 use Rattle.mb_tools_hss.specs.Endorse.{EndorseNames, endorse, endorse_root, use_number}
 use Rattle.mb_tools_hss.specs.Endorsed.{EndorsedNames, endorsed, judge_endorsement}
 use Rattle.mb_policy.specs.declared.judging.Judgement.{Judgement}
@@ -64,14 +64,14 @@ migrate_alike names = alike_read _ _ (old_image_once _) (λ bytes image are is. 
 
 -- ---- a maker's HSS key
 
-maker_once : (name : List ℕ) → IsReadOnce (maker_input name)
+pub maker_once : (name : List ℕ) → IsReadOnce (maker_input name)
 maker_once name = binary_once _ _ name (IsClearWhole-from_exact maker_exact)
 
 hss_key_once : (name : List ℕ) → IsReadOnce (hss_key_input name)
 hss_key_once name = binary_once _ _ name (IsClearWhole-from_exact hss_key_exact)
 
 pub hsskeygen_alike : (names : HsskeygenNames) → Alike (hsskeygen names) (hsskeygen names)
-unfolding hsskeygen write_maker_key
+unfolding hsskeygen
 hsskeygen_alike names = alike_read _ _ (leading_once _ _ _) (λ bytes noise are is. alike_write _ _ (alike_write _ _ (alike_print _)))
 
 use_number_alike : (names : EndorseNames) (maker : Maker) (root : PublicKey) → Alike (use_number names maker root) (use_number names maker root)

@@ -2,7 +2,8 @@
 use Rattle.std.proofs.Common.{◌≡◌, List, false, arith}
 use Rattle.mb_console.specs.Words.{Argument}
 use Rattle.mb_tools.specs.Names.{keygen_given, sign_given, countersign_given, factory_given, migrate_given, verify_given, audit_given, chain_given, attach_given}
-use Rattle.mb_tools_hss.specs.Names.{hsskeygen_given, endorse_given, endorsed_given}
+use Rattle.mb_tools_orders.specs.Names.{cosign_given, showorder_given, ordered_given, showkey_given}
+use Rattle.mb_tools_hss.specs.Names.{hsskeygen_given, showmaker_given, endorse_given, endorsed_given}
 use Rattle.mb_tools_policy.specs.Names.{trust_given}
 use Rattle.mb_tools_app.specs.Names.{app_given, appcode_given, asm_given, disasm_given}
 use Rattle.mb_tools_fleet.specs.FleetWords.{fleet_given, register_given, enrol_given, devices_given}
@@ -14,6 +15,7 @@ use Rattle.mb_top_laws.specs.EndLaws.{CommandsAreDetermined}
 use Rattle.mb_top_laws.proofs.AlikeSteps.{Alike, whole_alike}
 use Rattle.mb_top_laws.proofs.AlikeCommands.{keygen_alike, sign_alike, countersign_alike, factory_alike, verify_alike, audit_alike, chain_alike, attach_alike}
 use Rattle.mb_top_laws.proofs.AlikeTools.{migrate_alike, hsskeygen_alike, endorse_alike, endorsed_alike, trust_alike, app_alike, appcode_alike, asm_alike, disasm_alike, fleet_alike, register_alike, enrol_alike, devices_alike}
+use Rattle.mb_top_laws.proofs.AlikeOrders.{cosign_alike, showorder_alike, ordered_alike, showkey_alike, showmaker_alike}
 
 each_alike : (called : Command) (given : List Argument) → serves called ≡ false → Alike (command_of called given) (command_of called given)
 each_alike command.Run given is = absurd (grind (arith, is))
@@ -32,6 +34,11 @@ each_alike command.Factory given is = factory_alike (factory_given given)
 each_alike command.Keygen given is = keygen_alike (keygen_given given)
 each_alike command.Sign given is = sign_alike (sign_given given)
 each_alike command.Countersign given is = countersign_alike (countersign_given given)
+each_alike command.Cosign given is = cosign_alike (cosign_given given)
+each_alike command.Showorder given is = showorder_alike (showorder_given given)
+each_alike command.Ordered given is = ordered_alike (ordered_given given)
+each_alike command.Showkey given is = showkey_alike (showkey_given given)
+each_alike command.Showmaker given is = showmaker_alike (showmaker_given given)
 each_alike command.Hsskeygen given is = hsskeygen_alike (hsskeygen_given given)
 each_alike command.Endorse given is = endorse_alike (endorse_given given)
 each_alike command.Endorsed given is = endorsed_alike (endorsed_given given)

@@ -8,6 +8,7 @@ pub mod StoredCodes
 pub mod FleetOnce
 pub mod ListingOnce
 pub mod AlikeTools
+pub mod AlikeOrders
 pub mod EventBytes
 pub mod AlikeRuns
 pub mod FreshHosts

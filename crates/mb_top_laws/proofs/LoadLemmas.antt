@@ -11,12 +11,13 @@ use Rattle.mb_model_commands.specs.Outside.{read_once}
 use Rattle.mb_model_commands.specs.Inputs.{Image, image_input, script_input, draws_input}
 use Rattle.mb_model_commands.specs.Keygen.{KeygenNames, keygen}
 use Rattle.mb_model_commands.specs.Sign.{SignNames, CountersignNames, sign, countersign, sign_by, use_index}
+use Rattle.mb_model_commands.specs.Cosign.{CosignNames, cosign}
 use Rattle.mb_model_commands.specs.FactoryCommand.{FactoryNames, factory, make_device, write_device}
 use Rattle.mb_model_commands.specs.MigrateCommand.{MigrateNames, migrate}
 use Rattle.mb_model_commands.specs.VerifyCommand.{VerifyNames, verify, tell_verdict}
 use Rattle.mb_model_commands.specs.AuditCommand.{AuditNames, audit, audit_chain, compare}
 use Rattle.mb_model_commands.specs.ChainCommands.{ChainNames, AttachNames, chain, chain_of, attach, attach_statement, write_entries}
-use Rattle.mb_model_commands.specs.RunCommand.{RunNames, IsServed, run, read_script, read_noise, write_image}
+use Rattle.mb_model_commands.specs.RunCommand.{RunNames, IsServed, run}
 use Rattle.mb_model_commands.specs.GenerateCommand.{GenerateNames, Prepared, generate, prepared_image, summarise}
 use Rattle.mb_model_commands.specs.Commands.{Command, read, find, either_command, load, serve, rehearse, write, print, refuse, lack, Input, Past, Ended, end_seen_from, WantsMemory, InputEnds, input_is_too_long, input_is_faulty, input_is_not_read, memory_lacks, PrintEnds, text_is_printed, text_is_not_printed, CommandEnds, at_first}
 use Rattle.mb_policy.specs.declared.judging.Judgement.{Judgement}
@@ -25,10 +26,15 @@ use Rattle.mb_policy.specs.Policies.{PolicyItem}
 use Rattle.mb_appvm.specs.declared.running.AppEnd.{AppEnd}
 use Rattle.mb_appvm.specs.declared.running.AppEnd.TheVariants as app_end
 use Rattle.mb_tools.specs.Names.{keygen_given, sign_given, countersign_given, factory_given, migrate_given, verify_given, audit_given, chain_given, attach_given}
-use Rattle.mb_tools_hss.specs.HssKeygen.{HsskeygenNames, hsskeygen, write_maker_key}
+use Rattle.mb_tools_orders.specs.ShowOrder.{ShowOrderNames, showorder}
+use Rattle.mb_tools_orders.specs.Ordered.{OrderedNames, ordered}
+use Rattle.mb_tools_orders.specs.ShowKey.{ShowKeyNames, showkey}
+use Rattle.mb_tools_orders.specs.Names.{cosign_given, showorder_given, ordered_given, showkey_given}
+use Rattle.mb_tools_hss.specs.HssKeygen.{HsskeygenNames, hsskeygen}
+use Rattle.mb_tools_hss.specs.ShowMaker.{ShowMakerNames, showmaker}
 use Rattle.mb_tools_hss.specs.Endorse.{EndorseNames, endorse, endorse_root, use_number}
 use Rattle.mb_tools_hss.specs.Endorsed.{EndorsedNames, endorsed, judge_endorsement}
-use Rattle.mb_tools_hss.specs.Names.{hsskeygen_given, endorse_given, endorsed_given}
+use Rattle.mb_tools_hss.specs.Names.{hsskeygen_given, showmaker_given, endorse_given, endorsed_given}
 use Rattle.mb_tools_policy.specs.TrustCommand.{TrustNames, trust, tell_judgement, judge_verdict}
 use Rattle.mb_tools_policy.specs.Names.{trust_given}
 use Rattle.mb_tools_app.specs.AppCommand.{AppNames, app, run_stored_code, tell_end}
@@ -42,7 +48,7 @@ use Rattle.mb_tools_fleet.specs.EnrolCommand.{EnrolNames, enrol, tell_answer}
 use Rattle.mb_tools_fleet.specs.RegisterCommands.{RegisterNames, DevicesNames, register, devices}
 use Rattle.mb_tools_fleet.specs.FleetCommand.{FleetNames, FleetOutcome, all_served, text_too_long, keep_register, fleet}
 use Rattle.mb_tools_fleet.specs.FleetWords.{fleet_given, register_given, enrol_given, devices_given}
-use Rattle.mb_tools_device.specs.CutCommand.{CutNames, CutRun, IsCutServed, cutat, uncut_script_input, read_uncut_script, read_cut_noise, serve_first, serve_cut, tell_cut}
+use Rattle.mb_tools_device.specs.CutCommand.{CutNames, CutRun, AnyLacksMemory, IsCutRun, IsRehearsed, IsCutServed, cutat, tell_cut}
 use Rattle.mb_tools_device.specs.Names.{run_given, cut_given, generate_given}
 use Rattle.mb_top.specs.declared.table.Command.TheVariants as command
 use Rattle.mb_top_laws.specs.LoadLaws.{NothingIsLoaded, EndsAfterLoads, LoadsOnce, LoadsTwice}
@@ -153,8 +159,28 @@ never_attach names = λ chain statement. (tt, λ bytes. tt)
 
 -- ---- the commands of the other crates
 
+never_cosign : (names : CosignNames) → NeverLoads (cosign names)
+unfolding cosign sign_by use_index NeverLoads
+never_cosign names = λ key order drafted. (tt, ((tt, tt), tt))
+
+never_showorder : (names : ShowOrderNames) → NeverLoads (showorder names)
+unfolding showorder NeverLoads
+never_showorder names = λ order. tt
+
+never_ordered : (names : OrderedNames) → NeverLoads (ordered names)
+unfolding ordered NeverLoads
+never_ordered names = λ key order lines. (tt, tt)
+
+never_showkey : (names : ShowKeyNames) → NeverLoads (showkey names)
+unfolding showkey NeverLoads
+never_showkey names = λ key. tt
+
+never_showmaker : (names : ShowMakerNames) → NeverLoads (showmaker names)
+unfolding showmaker NeverLoads
+never_showmaker names = λ maker. tt
+
 never_hsskeygen : (names : HsskeygenNames) → NeverLoads (hsskeygen names)
-unfolding hsskeygen write_maker_key NeverLoads
+unfolding hsskeygen NeverLoads
 never_hsskeygen names = λ noise. tt
 
 never_endorse : (names : EndorseNames) → NeverLoads (endorse names)
@@ -254,6 +280,11 @@ all_load_nothing e command.Factory given is ends = nothing_is_loaded (factory (f
 all_load_nothing e command.Keygen given is ends = nothing_is_loaded (keygen (keygen_given given)) at_first e (never_keygen (keygen_given given)) ends
 all_load_nothing e command.Sign given is ends = nothing_is_loaded (sign (sign_given given)) at_first e (never_sign (sign_given given)) ends
 all_load_nothing e command.Countersign given is ends = nothing_is_loaded (countersign (countersign_given given)) at_first e (never_countersign (countersign_given given)) ends
+all_load_nothing e command.Cosign given is ends = nothing_is_loaded (cosign (cosign_given given)) at_first e (never_cosign (cosign_given given)) ends
+all_load_nothing e command.Showorder given is ends = nothing_is_loaded (showorder (showorder_given given)) at_first e (never_showorder (showorder_given given)) ends
+all_load_nothing e command.Ordered given is ends = nothing_is_loaded (ordered (ordered_given given)) at_first e (never_ordered (ordered_given given)) ends
+all_load_nothing e command.Showkey given is ends = nothing_is_loaded (showkey (showkey_given given)) at_first e (never_showkey (showkey_given given)) ends
+all_load_nothing e command.Showmaker given is ends = nothing_is_loaded (showmaker (showmaker_given given)) at_first e (never_showmaker (showmaker_given given)) ends
 all_load_nothing e command.Hsskeygen given is ends = nothing_is_loaded (hsskeygen (hsskeygen_given given)) at_first e (never_hsskeygen (hsskeygen_given given)) ends
 all_load_nothing e command.Endorse given is ends = nothing_is_loaded (endorse (endorse_given given)) at_first e (never_endorse (endorse_given given)) ends
 all_load_nothing e command.Endorsed given is ends = nothing_is_loaded (endorsed (endorsed_given given)) at_first e (never_endorsed (endorsed_given given)) ends
@@ -329,27 +360,23 @@ unfolding CommandEnds GoneOn
 loaded_ended image rest e goes (inl it) = inr (gone_on rest (record { used = loaded_once_more image not_used; wrote = false }) e goes it)
 loaded_ended image rest e goes (inr wants) = lacked e wants
 
+-- an input, and what comes after it
+read_ended : {A : Type 0} (Often : Used → ℕ → Type 0) (input : Input A) (rest : A → Command) (e : Ended)
+    → ((value : A) (e : Ended) → CommandEnds (rest value) at_first e → EndsAfterLoads (Often e.used e.status) e)
+    → CommandEnds (read input rest) at_first e → EndsAfterLoads (Often e.used e.status) e
+unfolding CommandEnds
+read_ended Often input rest e later (inl ends) = input_ended input e ends
+read_ended Often input rest e later (inr it) = later it.2.0 (end_seen_from (read_once e.before) e) it.2.2
+
 -- ---- `run`
 
-run_goes_on : (names : RunNames) (image : Image) (events : List Event) → GoesOn (serve (IsServed image events) (write_image names))
-unfolding GoesOn
-run_goes_on names image events = λ answered held. tt
-
-noise_read : (names : RunNames) (image : Image) (events : List Event) (e : Ended) → CommandEnds (read_noise names image events) at_first e → EndsAfterLoads (e.used.loads ≡ 1) e
-unfolding CommandEnds
-noise_read names image events e (inl ends) = input_ended (draws_input events names.noise) e ends
-noise_read names image events e (inr it) =
-    loaded_ended image.bytes (serve (IsServed image it.2.0) (write_image names)) (end_seen_from (read_once e.before) e) (run_goes_on names image it.2.0) it.2.2
-
-script_read : (names : RunNames) (image : Image) (e : Ended) → CommandEnds (read_script names image) at_first e → EndsAfterLoads (e.used.loads ≡ 1) e
-unfolding CommandEnds
-script_read names image e (inl ends) = input_ended (script_input names.script) e ends
-script_read names image e (inr it) = noise_read names image it.2.0 (end_seen_from (read_once e.before) e) it.2.2
+abbrev OnceLoaded : Used → ℕ → Type 0
+OnceLoaded used status = used.loads ≡ 1
 
 run_loads : (names : RunNames) (e : Ended) → CommandEnds (run names) at_first e → EndsAfterLoads (e.used.loads ≡ 1) e
-unfolding run CommandEnds
-run_loads names e (inl ends) = input_ended (image_input names.image) e ends
-run_loads names e (inr it) = script_read names it.2.0 (end_seen_from (read_once e.before) e) it.2.2
+unfolding run GoesOn
+run_loads names e ends =
+    read_ended OnceLoaded _ _ e (λ image e. read_ended OnceLoaded _ _ e (λ undrawn e. read_ended OnceLoaded _ _ e (λ events e. loaded_ended image.bytes _ e (λ answered held. tt)))) ends
 
 -- ---- `generate`
 
@@ -375,8 +402,20 @@ all_load_once e = record { run = λ given ends. run_loads (run_given given) e en
 
 -- ---- `cutat`
 
+abbrev TwiceLoaded : Used → ℕ → Type 0
+TwiceLoaded used status = ((used.loads ≡ 1) × (status ≡ 6)) ⊎ (used.loads ≡ 2)
+
 abbrev CutEnds : Ended → Type 0
-CutEnds e = EndsAfterLoads (((e.used.loads ≡ 1) × (e.status ≡ 6)) ⊎ (e.used.loads ≡ 2)) e
+CutEnds e = EndsAfterLoads (TwiceLoaded e.used e.status) e
+
+-- what comes after the first run
+abbrev serve_cut : CutNames → Image → CutRun → List Answered → Held → Command
+serve_cut names image cut answered held =
+    either_command (AnyLacksMemory answered) lack (load image.bytes (serve (IsCutServed image names.count cut) (tell_cut held)))
+
+-- what comes after the runs were found
+abbrev serve_first : CutNames → Image → CutRun → Command
+serve_first names image cut = load image.bytes (rehearse (IsRehearsed image cut) (serve_cut names image cut))
 
 cut_goes_on : (names : CutNames) (image : Image) (cut : CutRun) (held : Held) → GoesOn (serve (IsCutServed image names.count cut) (tell_cut held))
 unfolding GoesOn
@@ -400,21 +439,15 @@ first_ended names image cut e (inl it) =
     second_ended names image cut it.0 it.1 (record { used = having_answered it.0 (loaded_once_more image.bytes not_used); wrote = false }) e refl it.3
 first_ended names image cut e (inr wants) = lacked e wants
 
-cut_noise_read : (names : CutNames) (image : Image) (events : List Event) (e : Ended) → CommandEnds (read_cut_noise names image events) at_first e → CutEnds e
+cut_found : (names : CutNames) (image : Image) (events : List Event) (e : Ended) → CommandEnds (find (IsCutRun names.fill events) (serve_first names image)) at_first e → CutEnds e
 unfolding CommandEnds
-cut_noise_read names image events e (inl ends) = input_ended (draws_input events names.noise) e ends
-cut_noise_read names image events e (inr (bytes, is, (drawn, means, inl it))) = first_ended names image it.0 (end_seen_from (read_once e.before) e) it.2
-cut_noise_read names image events e (inr (bytes, is, (drawn, means, inr wants))) = lacked (end_seen_from (read_once e.before) e) wants
-
-cut_script_read : (names : CutNames) (image : Image) (e : Ended) → CommandEnds (read_uncut_script names image) at_first e → CutEnds e
-unfolding CommandEnds
-cut_script_read names image e (inl ends) = input_ended (uncut_script_input names.script) e ends
-cut_script_read names image e (inr it) = cut_noise_read names image it.2.0 (end_seen_from (read_once e.before) e) it.2.2
+cut_found names image events e (inl it) = first_ended names image it.0 e it.2
+cut_found names image events e (inr wants) = lacked e wants
 
 cut_loads : (names : CutNames) (e : Ended) → CommandEnds (cutat names) at_first e → CutEnds e
-unfolding cutat CommandEnds
-cut_loads names e (inl ends) = input_ended (image_input names.image) e ends
-cut_loads names e (inr it) = cut_script_read names it.2.0 (end_seen_from (read_once e.before) e) it.2.2
+unfolding cutat
+cut_loads names e ends =
+    read_ended TwiceLoaded _ _ e (λ image e. read_ended TwiceLoaded _ _ e (λ undrawn e. read_ended TwiceLoaded _ _ e (λ events e. cut_found names image events e))) ends
 
 pub all_load_twice : (e : Ended) → LoadsTwice e
 all_load_twice e = record { cutat = λ given ends. cut_loads (cut_given given) e ends }

@@ -11,6 +11,6 @@ mod refusal;
 mod statement;
 
 pub use chain::{verify, verify_entries};
-pub use listing::write_listing;
+pub use listing::{kind_word, trust_words, write_listing};
 pub use mb_model::Report;
 pub use refusal::ChainRefusal;

@@ -123,7 +123,7 @@ fn code_words(alloc: Global, code: &Option<CodeName>) -> Result<String, NoMemory
 }
 
 /// The word for the kind of a key.
-fn kind_word(kind: KeyKind) -> &'static str
+pub fn kind_word(kind: KeyKind) -> &'static str
     ensures { result.now ≡ kind_word kind }
 {
     match kind {
@@ -133,7 +133,7 @@ fn kind_word(kind: KeyKind) -> &'static str
 }
 
 /// The words for the trusts of a layer: one word if it trusts changes of layer 1 and of layer 2 alike.
-fn trust_words(alloc: Global, trusts: Trusts) -> Result<String, NoMemory>
+pub fn trust_words(alloc: Global, trusts: Trusts) -> Result<String, NoMemory>
     ensures { IfOk result (λ words. string_bytes words ≡ spaced_words (trust_words trusts)) }
 {
     let one = trust_word(trusts.one);

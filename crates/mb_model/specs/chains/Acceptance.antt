@@ -57,11 +57,14 @@ in_charge maker before = if before.length == 0 then Some maker else before.devic
 abbrev pub IsCertified : PublicKey → Figures → SignedEntry → Type 0
 IsCertified maker before signed = IsSignedBy (in_charge maker before) (entry_text signed.entry) signed.signature
 
--- an entry after others stands in its place and is signed with the next index; neither is required of the first
+-- An entry after others stands in its place and is signed with the next index; neither is required of the first. The
+-- index of the first counts what the maker's key signed, which the chain does not show. A later birth is tried for its
+-- index like any entry.
 abbrev pub IsInPlace : Figures → SignedEntry → Type 0
 IsInPlace before signed = before.length ≢ 0 → Ordered before signed.entry (leaf_number signed.signature)
 
--- an entry may follow a log with these figures: signed by the key in charge, in its place, and allowed by the rules
+-- An entry may follow a log with these figures: signed by the key in charge, in its place, and allowed by the rules.
+-- There is no limit of eight keys a region, since a chain does not show which keys were deleted.
 pub record IsGood (maker : PublicKey) (before : Figures) (signed : SignedEntry) : Type 0 where
   pub certified : IsCertified maker before signed
   pub in_place : IsInPlace before signed
@@ -173,7 +176,9 @@ pub record IsGoodFor
   pub named : key_of log key_number ≡ Some made
   pub stated : chain.statement ≡ Some statement
 
--- The bytes are refused for this reason, and for none that is checked before it.
+-- The bytes are refused for this reason, and for none that is checked before it. So the answer names the first entry
+-- that is wrong, whatever key is asked for. A signature with an index of 32 or more is not one of a key of 32 indices:
+-- that is `bad_signature`.
 abbrev pub IsRefused : PublicKey → List ℕ → ℕ → ChainRefusal → Type 0
 IsRefused maker bytes key_number (bad_form offset) = FailsWhole chain_format bytes offset
 IsRefused maker bytes key_number (bad_signature index) =
@@ -217,7 +222,7 @@ IsVerdict maker bytes key_number (chain_rejection why) = IsRefused maker bytes k
 
 -- A chain has no forged entry of the device with this log: its first entry is the log's first if it verifies under the
 -- maker's key, and each later entry is one of the log's if it verifies under a device key that the log names. Entries
--- are compared without their signatures.
+-- are compared without their signatures. It says nothing of statements, on which the list does not rest.
 pub record Honest (entries : List SignedEntry) (maker : PublicKey) (log : List Entry) : Type 0 where
   pub first : (signed : SignedEntry) (rest : List SignedEntry)
       → entries ≡ signed ∷ rest

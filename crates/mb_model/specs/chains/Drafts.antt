@@ -61,7 +61,9 @@ trust_line trust = spaced_words (codes "trust" ∷ trust_word trust ∷ [])
 abbrev pub trusts_line : Trusts → List ℕ
 trusts_line trusts = spaced_words (codes "trust" ∷ trust_word trusts.one ∷ trust_word trusts.two ∷ [])
 
--- The line gives these trusts, by two words or, if they are equal, by one. Two equal words are allowed too.
+-- The line gives these trusts, by two words or, if they are equal, by one. Two equal words are allowed too. A draft has
+-- no single spelling anyhow, since its digits may be of either case; what counts is that its lines stand for at most
+-- one order.
 abbrev pub SaysTrusts : List ℕ → Trusts → Type 0
 SaysTrusts line trusts =
     (line ≡ trusts_line trusts) ⊎ ((line ≡ trust_line trusts.one) × (trusts ≡ equal_trusts trusts.one))

@@ -36,7 +36,8 @@ abbrev pub code_words : Option CodeName → List (List ℕ)
 code_words None = codes "-" ∷ codes "-" ∷ []
 code_words (Some code) = hex_word code.hash ∷ decimal code.version ∷ []
 
--- the words for a layer's trusts: one word if they are equal, else both
+-- The words for a layer's trusts: one word if they are equal, else both. So the listing of a device that never gave two
+-- trusts stays as it was.
 abbrev pub trust_words : Trusts → List (List ℕ)
 trust_words trusts =
     if are_equal trusts then trust_word trusts.one ∷ []

@@ -10,7 +10,7 @@ use Rattle.mb_model.specs.records.OrderFormat.{order_format}
 use Rattle.mb_model.specs.records.ChainFormat.{statement_format}
 
 -- There is one line, that of a command whose bytes spell the order. In any other text line 1 is wrong, or line 2 if
--- line 1 is that of an order and another line, even an empty one, follows.
+-- line 1 is that of an order and another line, even an empty one, follows. So nothing can be appended unseen.
 pub record IsOrderLine (lines : List (List ℕ)) (order : Order) : Type 0 where
   pub line : List ℕ
   pub bytes : List ℕ

@@ -15,7 +15,8 @@ use Rattle.mb_model.specs.outside.Pieces.{part}
 
 -- ---- what the words of an event may be
 
--- the name of a secret: 1 to 32 printed characters of ASCII, and no space
+-- The name of a secret: 1 to 32 printed characters of ASCII, and no space. It stands in a line as it is, and may be `-`
+-- or begin with `#`.
 pub record IsName (name : List ℕ) : Type 0 where
   pub some : 1 ≤ length name
   pub most : length name ≤ NAME_LIMIT
@@ -56,7 +57,7 @@ IsScriptEvent event.Tamper = Unit {0}
 IsScriptEvent event.Status = Unit {0}
 IsScriptEvent event.Go = Unit {0}
 IsScriptEvent (event.Cut count tear) = (fill : List ℕ) × IsCut count tear fill
-IsScriptEvent (event.Command text draw) = length draw ≡ DRAW_LENGTH
+IsScriptEvent (event.Order text draw) = length draw ≡ DRAW_LENGTH
 IsScriptEvent (event.Put region name value) = IsTrue (is_upper region) × IsName name × FitsMessage value
 IsScriptEvent (event.Get region name) = IsTrue (is_upper region) × IsName name
 IsScriptEvent (event.Drop region name) = IsTrue (is_upper region) × IsName name
@@ -90,7 +91,7 @@ SaysEvent line event.Tamper = line ≡ codes "tamper"
 SaysEvent line event.Status = line ≡ codes "status"
 SaysEvent line event.Go = line ≡ codes "go"
 SaysEvent line (event.Cut count tear) = IsCutLine line count tear
-SaysEvent line (event.Command text draw) = EndsInHex line (codes "command" ∷ []) text × (draw ≡ replicate DRAW_LENGTH 0)
+SaysEvent line (event.Order text draw) = EndsInHex line (codes "command" ∷ []) text × (draw ≡ replicate DRAW_LENGTH 0)
 SaysEvent line (event.Put region name value) =
     IsTrue (is_upper region) × IsName name × FitsMessage value
     × EndsInHex line (codes "put" ∷ decimal region ∷ name ∷ []) value
@@ -102,7 +103,8 @@ SaysEvent line (event.Sign region key message) =
     IsTrue (is_upper region) × (key ≤ number_limit) × FitsMessage message
     × EndsInHex line (codes "sign" ∷ decimal region ∷ decimal key ∷ []) message
 
--- empty lines, and lines that begin with a number sign, say nothing
+-- Empty lines, and lines that begin with a number sign, say nothing. They may hold any bytes. A line of spaces is not
+-- empty, and is wrong.
 abbrev pub is_skipped : List ℕ → Bool
 is_skipped [] = true
 is_skipped (byte ∷ rest) = byte == 35
@@ -126,7 +128,7 @@ is_command event.Tamper = false
 is_command event.Status = false
 is_command event.Go = false
 is_command (event.Cut count tear) = false
-is_command (event.Command text draw) = true
+is_command (event.Order text draw) = true
 is_command (event.Put region name value) = false
 is_command (event.Get region name) = false
 is_command (event.Drop region name) = false
@@ -138,8 +140,8 @@ commands_in events = count_by is_command events
 
 -- the event with its draw: the i-th command, from 0, has the bytes 32 i to 32 i + 31 of the noise
 abbrev pub drawn_event : List ℕ → List Event → Event → Event
-drawn_event noise before (event.Command text draw) =
-    event.Command text (part (DRAW_LENGTH * commands_in before) DRAW_LENGTH noise)
+drawn_event noise before (event.Order text draw) =
+    event.Order text (part (DRAW_LENGTH * commands_in before) DRAW_LENGTH noise)
 drawn_event noise before other = other
 
 -- the events with their draws

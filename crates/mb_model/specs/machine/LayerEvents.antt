@@ -99,7 +99,8 @@ unfoldable pub sign_event : ℕ → ℕ → List ℕ → State → Outcome
 sign_event layer number message state =
     sign_with layer (find (has_number number) (region_of state layer).keys) message state
 
--- An event on the region of a layer is refused if control is past that layer, or if the layer may not run.
+-- An event on the region of a layer is refused if control is past that layer, or if the layer may not run. A layer can
+-- use the regions above it: those rest on its code, and have to trust it anyhow.
 abbrev pub on_region : ℕ → ℕ → (State → Outcome) → State → Outcome
 on_region ratchet layer event state =
     if nat_lt layer ratchet || not (is_runnable state.layers layer) then (refusal_reply WrongLayer, state)

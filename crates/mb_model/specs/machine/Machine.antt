@@ -99,7 +99,7 @@ Machine world event.Tamper answer next =
     (answer ≡ reply.Tampered) × (next ≡ record world { phase = off; state = None })
 Machine world (event.Cut count tear) answer next = (answer ≡ reply.Armed) × (next ≡ record world { armed = true })
 Machine world event.Status answer next = (answer, next) ≡ status_event world (running_state_in world)
-Machine world (event.Command text draw) answer next = CommandStep world text draw (running_state_in world) answer next
+Machine world (event.Order text draw) answer next = CommandStep world text draw (running_state_in world) answer next
 Machine world event.Go answer next = (answer, next) ≡ go_event world (running_state_in world)
 Machine world (event.Put layer name value) answer next =
     (answer, next) ≡ region_event world layer (put_event layer name value) (running_state_in world)
@@ -114,7 +114,7 @@ Machine world (event.Sign layer key message) answer next =
 abbrev pub may_want_memory : Event → Bool
 may_want_memory event.Boot = true
 may_want_memory event.Status = true
-may_want_memory (event.Command text draw) = true
+may_want_memory (event.Order text draw) = true
 may_want_memory (event.Put layer name value) = true
 may_want_memory (event.Get layer name) = true
 may_want_memory (event.Drop layer name) = true

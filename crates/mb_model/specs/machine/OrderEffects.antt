@@ -110,7 +110,8 @@ key_made view kind draw = record { number = view.keys_made; kind = kind; seed = 
 unfoldable pub entry_signed_by : KeySeed → ℕ → Entry → SignedEntry
 entry_signed_by key index entry = record { entry = entry; signature = signature_of key index (entry_text entry) }
 
--- the log with one more entry, signed by the device key at its next index
+-- The log with one more entry, signed by the device key at its next index. That is the index that the log gives; in a
+-- valid state the count that the state keeps is equal.
 abbrev pub log_with : State → Entry → List SignedEntry
 log_with state entry = state.log ++ entry_signed_by state.device (uses_of_device_key (entries_of state.log)) entry ∷ []
 

@@ -87,7 +87,9 @@ SignsAfterUses state answered =
     → All (λ each. (index : ℕ) → IsSignedAt key.number index each → key.uses ≤ index) answered
 
 -- A key of a layer is in its region exactly if it is alive according to the log. The last of the configurations in
--- which such a key lived has the current layers.
+-- which such a key lived has the current layers. The number of that configuration is no free choice: it stands in the
+-- list of `lives_of`. To name it by the last change at a layer up to the key's own would be a second definition of what
+-- the list has.
 pub record HoldsLivingKeys (live : State) (layer : ℕ) : Type 0 where
   pub alive : (key : RegionKey)
       → Contains (region_of live layer).keys key

@@ -21,7 +21,8 @@ use Rattle.mb_model.specs.machine.Fates.{change_fate, key_fate}
 
 -- ---- the entries and the keys
 
--- the view of a state after a succession
+-- The view of a state after a succession. `state_after_succession` says the same of a state, and lemmas that both agree
+-- (`AdditionLemmas`). By figures alone nothing would show that the state between the two steps is valid.
 abbrev pub after_succession : View → List ℕ → View
 after_succession view draw = record view {
   length = view.length + 1;

@@ -29,7 +29,8 @@ pub record HoldsNoOther (held : Held) : Type 0 where
   pub clean : Clean held.memory.bbram world.state
 
 -- When battery-backed memory may hold no secrets after an answer but those of the state. The board held `standing` at
--- the answer before, and holds `now`.
+-- the answer before, and holds `now`. It is asked while power is off too: else a body could put an old secret back once
+-- it is off.
 pub data HasToBeClean (standing now : Held) (event : Event) (reply : Reply) : Type 0 where
   -- power is on
   power_is_on : now.phase ≢ off → HasToBeClean standing now event reply
@@ -64,7 +65,8 @@ LeavesCleanMemory each = LeavesMemory each ⊎ (each.event ≡ Boot)
 -- leads from the world before to the world now, whose state a device can have; each secret and key of that state was
 -- kept rightly; and battery-backed memory is clean if it has to be. If the reply tells of no change, nothing was
 -- written beyond what handing out the event does, and nothing at a boot of a clean memory. The sectors that hold a
--- signed entry of the log keep their bytes, and so do those that hold nothing.
+-- signed entry of the log keep their bytes, and so do those that hold nothing. That a device can have the state is
+-- asked beside that secrets were kept rightly: any log would keep a secret with a number from the future rightly.
 pub record MayAnswer (standing now : Held) (event : Event) (reply : Reply) : Type 0 where
   pub before : World
   pub after : World

@@ -25,7 +25,8 @@ SomePublicBy Form flash root =
 abbrev pub SomePublic : List ℕ → Root → Type 0
 SomePublic flash root = SomePublicBy HoldsPublic flash root
 
--- the area holds some region
+-- The area holds some region. The area has to be well formed even if its pending fate is to become empty, and the limit
+-- of eight keys is asked after the fate: a fault is one of bytes as they lie, and validity is of what they mean.
 abbrev pub SomeRegion : List ℕ → Type 0
 SomeRegion area = (region : Region) × HoldsRegion area region
 
@@ -33,7 +34,9 @@ SomeRegion area = (region : Region) × HoldsRegion area region
 abbrev pub AreSound : Contents → Type 0
 AreSound contents = HasIndex contents.root contents.root.pending × Valid (Some (state_of_contents contents))
 
--- The memory has this fault by this form of the flash, and none that is named before it.
+-- The memory has this fault by this form of the flash, and none that is named before it. A mismatch of counts is a
+-- fault of the public record: so are two unsigned entries without an outgoing key. Pending work without an outgoing key
+-- and without a used index is a fault of the state.
 abbrev pub IsFaultyBy : FlashForm → List ℕ → List ℕ → Fault → Type 0
 IsFaultyBy Form flash bbram bad_length = ⊥
 IsFaultyBy Form flash bbram bad_root = (IsBlank bbram → ⊥) × ((root : Root) → RootIn bbram root → ⊥)

@@ -7,7 +7,9 @@ use Rattle.mb_model.specs.memories.OldFlash.{WasWellFormed}
 use Rattle.mb_model.specs.memories.WrittenImage.{written_image}
 
 -- `out` is the image that is written for the state that `image` means in the current form, or, if `image` is well
--- formed in that form for no state, for the one that it meant in the earlier form.
+-- formed in that form for no state, for the one that it meant in the earlier form. It is written from scratch, as the
+-- factory writes one. So nothing of the old image is left beside what its state says, and a migrated image migrates to
+-- itself. Bytes of the flash beside the records are lost, and count for nothing.
 pub data IsMigrated (image out : List ℕ) : Type 0 where
   from_present : (state : Option State) → IsWellFormed image state → out ≡ written_image state → IsMigrated image out
   from_before : ((any : Option State) → IsWellFormed image any → ⊥) → (state : Option State) →

@@ -31,6 +31,7 @@ HasIndex root (Some pending) = pending.outgoing ≡ None → root.uses ≢ 0
 
 -- The unsigned entries with the signatures that they will have. The device key signs with the index that it used last.
 -- If a key gives way, that key signs the first entry with the index that it used last, and the next key signs the rest.
+-- They are signed in the version that they have, also in an old image; the next order's entry has version 2.
 abbrev pub entries_signed_for : KeySeed → ℕ → Option Outgoing → List Entry → List SignedEntry
 entries_signed_for device uses None unsigned = map (entry_signed_by device (uses - 1)) unsigned
 entries_signed_for device uses (Some outgoing) [] = []

@@ -49,7 +49,8 @@ pub record AreNamed (layers : Layers) (codes : Codes) : Type 0 where
 abbrev pub as_made : RegionKey → MadeKey
 as_made key = record { number = key.number; kind = key.kind; key = public_of key.seed }
 
--- a region that a layer can have with this log and these layers
+-- A region that a layer can have with this log and these layers. The uses of a region's key may be any from 0 to 32: no
+-- log shows how often it has signed.
 pub record IsValidRegion (log : List Entry) (layers : Layers) (layer : ℕ) (region : Region) : Type 0 where
   pub empty : (layer_of layers layer).reliable ≡ false → region ≡ empty_region
   pub names : AllPairs (λ one other. one.name ≢ other.name) region.secrets

@@ -44,7 +44,9 @@ phase_at false level = off
 phase_at true zero = dead
 phase_at true (suc below) = ratchet (suc below)
 
--- what a board holds: its memory, its phase, and whether a power loss is armed
+-- What a board holds: its memory, its phase, and whether a power loss is armed. With the memory alone no clause could
+-- say that a run leads to what the board shows; and what the board holds at its end a body could change after the last
+-- answer.
 pub record Held : Type 0 where
   pub memory : Memory
   pub phase : Phase
@@ -52,7 +54,9 @@ pub record Held : Type 0 where
 
 -- The events that wait, the one that is out, and those answered. What the board held at the last answer, and how many
 -- calls power losses had stopped by then; or both at the load, if nothing has been answered since. The memory that was
--- loaded last, and how many loads there were, counted up to 1,000.
+-- loaded last, and how many loads there were, counted up to 1,000. The memory that was loaded stands here, so that a
+-- clause can say which image was served: not in the meter, which each composition of calls describes part by part, and
+-- not in a ghost field, which holds no data.
 pub record Ledger : Type 0 where
   pub waiting : List Event
   pub out : Option Event

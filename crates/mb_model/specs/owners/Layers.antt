@@ -25,7 +25,8 @@ is_same_trust _ _ = false
 abbrev pub are_equal : Trusts → Bool
 are_equal trusts = is_same_trust trusts.one trusts.two
 
--- the trust of a layer in changes of a lower one: 1 or 2
+-- The trust of a layer in changes of a lower one: 1 or 2. For any layer but 1 the second: a trust is asked of a layer
+-- above the changed one, which is 1 or 2.
 abbrev pub trust_for : Layer → ℕ → Trust
 trust_for layer lower = if lower == 1 then layer.trust.one else layer.trust.two
 
@@ -37,7 +38,8 @@ layer_without_owner = record { owner = None; code = None; reliable = false; trus
 abbrev pub unowned_layers : Layers
 unowned_layers = record { one = layer_without_owner; two = layer_without_owner; three = layer_without_owner }
 
--- the layer with this number, 1 to 3; any other number gives a layer without an owner
+-- The layer with this number, 1 to 3; any other number gives a layer without an owner. So nobody has authority over
+-- layer 1 from beneath, without a rule for it.
 abbrev pub layer_of : Layers → ℕ → Layer
 layer_of layers number =
     if number == 1 then layers.one
@@ -61,7 +63,8 @@ is_upper number = number == 2 || number == 3
 abbrev pub is_in : ℕ → Pair → Bool
 is_in number pair = if number == 2 then pair.two else if number == 3 then pair.three else false
 
--- a layer that a device can hold: without an owner it is the unowned layer
+-- A layer that a device can hold: without an owner it is the unowned layer. That a reliable layer has code is said by
+-- how a layer is spelled (`Has` of `LayerFormat`); so are the limits of secrets and of entries.
 abbrev pub IsLayer : Layer → Type 0
 IsLayer layer = layer.owner ≡ None → layer ≡ layer_without_owner
 

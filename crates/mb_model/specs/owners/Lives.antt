@@ -64,7 +64,8 @@ splits [] = []
 splits (entry ∷ rest) =
     record { before = []; entry = entry; later = rest } ∷ map (with_front entry) (splits rest)
 
--- the configuration that an entry opens for a key of this layer: a change at the layer or beneath it opens one
+-- The configuration that an entry opens for a key of this layer: a change at the layer or beneath it opens one. Its
+-- number is the one that the entry names, and no count of the list.
 abbrev pub configurations_opened_by : ℕ → Entry → List Configuration
 configurations_opened_by key_layer (Birth version serial key layers) = []
 configurations_opened_by key_layer (Change version position number kind layer cosigned layers kept next) =

@@ -58,7 +58,8 @@ last_of named (entry ∷ rest) = option_or (last_of named rest) (named entry)
 unfoldable pub number_of : List Entry → ℕ
 number_of log = count_by is_change log
 
--- the layers of the last birth or change; before the birth none has an owner
+-- The layers of the last birth or change; before the birth none has an owner. No log that obeys the rules is without a
+-- birth; but this way each function of a log is total.
 unfoldable pub layers_of : List Entry → Layers
 layers_of log = unwrap_or (last_of layers_in log) unowned_layers
 
@@ -66,7 +67,8 @@ layers_of log = unwrap_or (last_of layers_in log) unowned_layers
 unfoldable pub device_of : List Entry → Option PublicKey
 device_of log = last_of device_in log
 
--- how many entries follow the one that names the device key: those at the end that name none
+-- How many entries follow the one that names the device key: those at the end that name none. A key that is named twice
+-- starts at index 0 again: a reader that goes over a log once cannot count over all of it.
 unfoldable pub uses_of_device_key : List Entry → ℕ
 uses_of_device_key log = length (take_while (λ entry. is_none (device_in entry)) (reverse log))
 
@@ -116,20 +118,24 @@ pub record HaveEqualTrusts (layers : Layers) : Type 0 where
   pub three : layers.three.trust.one ≡ layers.three.trust.two
 
 -- A birth or change with these layers may have this version. Version 1 spells one trust for each layer, so it can only
--- name layers whose trusts are equal. No entry of version 1 follows one of version 2.
+-- name layers whose trusts are equal. No entry of version 1 follows one of version 2. The type allows any version; one
+-- that is neither 1 nor 2 breaks the rules. The rule looks at all entries before, so that it need not mention new keys
+-- and successions, which have no version.
 pub record MayHaveVersion (after_version_two : Bool) (version : ℕ) (layers : Layers) : Type 0 where
   pub known : (version ≡ 1) ⊎ (version ≡ 2)
   pub equal_trusts : version ≡ 1 → HaveEqualTrusts layers
   pub rises : IsTrue after_version_two → version ≡ 2
 
--- the layers at a birth: layer 1 has an owner and is reliable, and layers 2 and 3 have no owner
+-- The layers at a birth: layer 1 has an owner and is reliable, and layers 2 and 3 have no owner. The device cannot
+-- check what else the factory decided.
 pub record AreFirst (layers : Layers) : Type 0 where
   pub owned : IsSome layers.one.owner
   pub reliable : IsTrue layers.one.reliable
   pub two : layers.two ≡ layer_without_owner
   pub three : layers.three ≡ layer_without_owner
 
--- A change of a layer has the next configuration number, and names the next device key exactly if it has to.
+-- A change of a layer has the next configuration number, and names the next device key exactly if it has to. This and
+-- `ChangesRightly` are two records, so that each is the contract of one function.
 pub record CountsRightly
     (before : Figures)
     (number : ℕ)

@@ -40,7 +40,8 @@ change_of kind.Load = Some Load
 change_of kind.Emergency = Some Emergency
 change_of kind.NewKey = None
 
--- the lowest layer that an order of this kind may be for: layer 1 takes ordinary loads alone
+-- The lowest layer that an order of this kind may be for: layer 1 takes ordinary loads alone. So the owner of layer 1
+-- stays: no owner beneath could establish another.
 abbrev pub least_layer : OrderKind → ℕ
 least_layer kind.Establish = 2
 least_layer kind.Surrender = 2

@@ -54,7 +54,9 @@ pair_rows =
 unfoldable pub pair_format : Format Pair
 pair_format = table w8 pair_rows pair_byte
 
--- the tag that an entry begins with; that of a birth or change gives its version too
+-- The tag that an entry begins with; that of a birth or change gives its version too. So an old entry is the bytes that
+-- were signed. A version of the whole log could not be raised without signing it anew; read as new ones, old entries
+-- would have no signature that verifies.
 pub data EntryTag : Type 0 where
   birth_tag change_tag : ℕ → EntryTag
   new_key_tag succession_tag : EntryTag

@@ -24,11 +24,14 @@ slot_format = as_record (both (between w8 0 2) code_length_format)
 
 -- ---- unsigned entries
 
--- the bytes of an entry, 1 to 400, after their number
+-- The bytes of an entry, 1 to 400, after their number. A header whose bytes spell no entry is a header all the same;
+-- whoever reads the entry asks what they spell. 400 leaves room over the 358 bytes of the longest. As values,
+-- `mb_segments` would need every reader of `mb_layout`.
 unfoldable pub entry_bytes_format : Format (List ℕ)
 entry_bytes_format = sized (between w16 1 ENTRY_TEXT_LIMIT)
 
--- how many entries may be unsigned beside this many signed ones: at most two, and at most 128 of both together
+-- How many entries may be unsigned beside this many signed ones: at most two, and at most 128 of both together. Of too
+-- many entries the number of unsigned ones is at fault: the number of signed ones is allowed by itself.
 abbrev pub unsigned_limit : ℕ → ℕ
 unsigned_limit signed = if nat_le (signed + 2) ENTRY_LIMIT then 2 else ENTRY_LIMIT - signed
 
@@ -42,7 +45,8 @@ abbrev pub second_text : List (List ℕ) → Option (List ℕ)
 second_text [] = None
 second_text (first ∷ rest) = first_text rest
 
--- a first and a second text as a list; there is no second without a first
+-- A first and a second text as a list; there is no second without a first. There are never more than two, so they are
+-- two options; a list could hold more than a header can.
 abbrev pub texts_in : Option (List ℕ) → Option (List ℕ) → Option (List (List ℕ))
 texts_in None None = Some []
 texts_in None (Some second) = None

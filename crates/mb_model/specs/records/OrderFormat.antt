@@ -89,7 +89,8 @@ form_byte form = if form.differs then 16 + order_byte form.kind else order_byte 
 abbrev pub form : OrderKind → Bool → OrderForm
 form order differs = record { kind = order; differs = differs }
 
--- surrender and new key give no trusts, so they have no row with two
+-- Surrender and new key give no trusts, so they have no row with two. Two trusts that differ have a kind of their own,
+-- so that the bytes of an order with one trust stay, with all signatures over them, and each order has one spelling.
 abbrev pub form_rows : List (ℕ × OrderForm)
 form_rows =
     (1, form kind.Establish false)
@@ -113,7 +114,7 @@ differs_in (NewKey key_kind) = false
 abbrev pub form_of : Act → OrderForm
 form_of act = form (kind_of act) (differs_in act)
 
--- the trusts other than this one
+-- The trusts other than this one. A second trust that equals the first fails at its own offset, like one above 2.
 abbrev pub other_rows : Trust → List (ℕ × Trust)
 other_rows Always = (1, Never) ∷ (2, Countersigned) ∷ []
 other_rows Never = (0, Always) ∷ (2, Countersigned) ∷ []
@@ -197,7 +198,8 @@ pub record Climb : Type 0 where
   pub below : ℕ
   pub left : ℕ
 
--- a countersignature: its layer, which leaves a higher one for each that follows, and its signature
+-- A countersignature: its layer, which leaves a higher one for each that follows, and its signature. If two are
+-- announced for layer 1, a first layer of 3 fails there, since no second could follow it.
 abbrev pub countersignature_format : Climb → Format Countersignature
 countersignature_format climb = as_record (pair (between w8 (climb.below + 1) (4 - climb.left)) sized_signature_format)
     (λ (layer, signature). record { layer = layer; signature = signature })

@@ -73,5 +73,7 @@ abbrev pub written_with : List Secret → List RegionKey → List ℕ
 written_with [] [] = []
 written_with secrets keys = region_format.spelling (REGION_VERSION, record { secrets = secrets; keys = keys })
 
+-- The record that is written for a region. A record of version 1 stays until its region is next written: rewriting it
+-- at a boot would cost a write, and one more argument about power losses.
 abbrev pub written_region : Region → List ℕ
 written_region region = written_with region.secrets region.keys

@@ -93,21 +93,29 @@ enum Field {
     Kind(KeyKind),
 }
 
+/// Whether this value was read.
+fn is_read<T: PartialEq + Drop, E: Drop>(found: Result<T, E>, value: T) -> bool {
+    match found {
+        Ok(found) => found == value,
+        Err(_) => false,
+    }
+}
+
 /// Whether the field is read at the cursor.
 fn is_next(cursor: &mut Cursor, field: &Field) -> bool {
     match field {
-        Field::U8(value) => cursor.take_u8() == Ok(*value),
-        Field::U16(value) => cursor.take_u16() == Ok(*value),
-        Field::U32(value) => cursor.take_u32() == Ok(*value),
-        Field::Five(bytes) => cursor.take_slice(5) == Ok(bytes.as_slice()),
-        Field::AfterU8(bytes) => bytes_after_u8(cursor, 0, 2) == Ok(bytes.as_slice()),
-        Field::AfterU16(bytes) => bytes_after_u16(cursor, 0, 2) == Ok(bytes.as_slice()),
-        Field::AfterU32(bytes) => bytes_after_u32(cursor, 0, 1) == Ok(bytes.as_slice()),
-        Field::Flag(value) => flag_at(cursor) == Ok(*value),
-        Field::Key(key) => public_key_at(cursor) == Ok(*key),
-        Field::Seed(seed) => key_seed_at(cursor) == Ok(*seed),
-        Field::Trust(trust) => trust_at(cursor) == Ok(*trust),
-        Field::Kind(kind) => key_kind_at(cursor) == Ok(*kind),
+        Field::U8(value) => is_read(cursor.take_u8(), *value),
+        Field::U16(value) => is_read(cursor.take_u16(), *value),
+        Field::U32(value) => is_read(cursor.take_u32(), *value),
+        Field::Five(bytes) => is_read(cursor.take_slice(5), bytes.as_slice()),
+        Field::AfterU8(bytes) => is_read(bytes_after_u8(cursor, 0, 2), bytes.as_slice()),
+        Field::AfterU16(bytes) => is_read(bytes_after_u16(cursor, 0, 2), bytes.as_slice()),
+        Field::AfterU32(bytes) => is_read(bytes_after_u32(cursor, 0, 1), bytes.as_slice()),
+        Field::Flag(value) => is_read(flag_at(cursor), *value),
+        Field::Key(key) => is_read(public_key_at(cursor), *key),
+        Field::Seed(seed) => is_read(key_seed_at(cursor), *seed),
+        Field::Trust(trust) => is_read(trust_at(cursor), *trust),
+        Field::Kind(kind) => is_read(key_kind_at(cursor), *kind),
     }
 }
 

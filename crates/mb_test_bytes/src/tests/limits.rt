@@ -77,17 +77,26 @@ fn filled<T: Copy + Drop>(alloc: Global, item: T, times: usize) -> Result<usize,
     Ok(items.as_slice().len())
 }
 
+/// A copy of `count` bytes, each of which is `byte`.
+fn copied(alloc: Global, byte: u8, count: usize) -> Result<Bytes, NoMemory> {
+    let bytes = vec![in alloc; byte; count]?;
+    Bytes::copy(alloc, bytes.as_slice())
+}
+
+/// A secret whose name and value are as long as they may be.
+fn longest_secret(alloc: Global) -> Result<Secret, NoMemory> {
+    Ok(Secret {
+        name: copied(alloc, 0x7E, 32)?,
+        value: copied(alloc, 0xFF, 128)?,
+        born: 0,
+    })
+}
+
 /// The length of a list of `times` secrets, each as long as a secret may be.
 fn secrets(alloc: Global, times: usize) -> Result<usize, NoMemory> {
     let mut items = Items::new(alloc);
     for _i in 0..times {
-        let name = Bytes::copy(alloc, &[0x7E; 32])?;
-        let value = Bytes::copy(alloc, &[0xFF; 128])?;
-        items.push(Secret {
-            name,
-            value,
-            born: 0,
-        })?;
+        items.push(longest_secret(alloc)?)?;
     }
     Ok(items.as_slice().len())
 }

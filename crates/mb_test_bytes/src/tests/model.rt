@@ -6,7 +6,7 @@ use std::test::Fail;
 /// Whether the event is the command of the test.
 fn is_pin(event: &Event) -> bool {
     match event {
-        Event::Command { text, draw } => text.as_slice() == b"pin".as_slice() && draw[0] == 7,
+        Event::Order { text, draw } => text.as_slice() == b"pin".as_slice() && draw[0] == 7,
         _ => false,
     }
 }
@@ -15,7 +15,7 @@ fn is_pin(event: &Event) -> bool {
 fn copies_are_the_same(rt: HostRuntime) -> Result<(), Fail> {
     let text = Bytes::copy(rt.alloc(), b"pin")?;
     assert!(rt; text.as_slice() == b"pin".as_slice());
-    let event = Event::Command {
+    let event = Event::Order {
         text,
         draw: [7; 32],
     };

@@ -1,6 +1,7 @@
 //! Keys and signatures that another program made.
 
 ghost use Rattle.std.specs.Prelude.{◌≡◌, ◌<◌};
+ghost use Rattle.mb_signer.specs.Tree.{IsTreeOf};
 
 use hex::FromHex;
 use mb_lms::{HashCount, hash, key_bytes, verify};
@@ -24,57 +25,6 @@ fn seed_of(identifier: &str, seed: &str) -> Result<KeySeed, Fail> {
     })
 }
 
-fn hash_of(alloc: Global, bytes: &[u8]) -> [u8; 32] {
-    hash_counted::<Brand>(alloc, bytes, Blank::new(1))
-}
-
-fn hash_counted<L: Ledger>(alloc: Global, bytes: &[u8], blank: Blank) -> [u8; 32]
-    requires name { blank.name ≡ L.name }
-    requires parts { blank.parts ≡ L.parts }
-    requires some { 0 < blank.parts }
-{
-    hash(bytes, &[], &[], &mut HashCount::<L>::begin(alloc, blank))
-}
-
-/// The public key, on a count of its own.
-fn key_of(alloc: Global, seed: &KeySeed) -> PublicKey {
-    key_counted::<Brand>(alloc, seed, Blank::new(1))
-}
-
-fn key_counted<L: Ledger>(alloc: Global, seed: &KeySeed, blank: Blank) -> PublicKey
-    requires name { blank.name ≡ L.name }
-    requires parts { blank.parts ≡ L.parts }
-    requires some { 0 < blank.parts }
-{
-    public(seed, &mut HashCount::<L>::begin(alloc, blank))
-}
-
-/// The signature of the text, handed over in two pieces, on a count of its own.
-fn signature_of(alloc: Global, index: u32, seed: &KeySeed, head: &[u8], body: &[u8]) -> [u8; 2348]
-    requires { index < 32 }
-{
-    signature_counted::<Brand>(alloc, index, seed, head, body, Blank::new(1))
-}
-
-fn signature_counted<L: Ledger>(
-    alloc: Global,
-    index: u32,
-    seed: &KeySeed,
-    head: &[u8],
-    body: &[u8],
-    blank: Blank,
-) -> [u8; 2348]
-    requires index { index < 32 }
-    requires name { blank.name ≡ L.name }
-    requires parts { blank.parts ≡ L.parts }
-    requires some { 0 < blank.parts }
-{
-    let mut out = no_signature();
-    let mut hashes = HashCount::<L>::begin(alloc, blank);
-    sign(right_at(index), seed, head, body, &mut out, &mut hashes);
-    out
-}
-
 /// The right to sign at an index.
 fn right_at(index: u32) -> OneUse
     requires { index < 32 }
@@ -92,69 +42,39 @@ fn no_signature() -> [u8; 2348] {
 }
 
 /// The seed has this public key.
-fn expect_public(
+fn expect_public<L: Ledger>(
     rt: &impl Abort,
-    alloc: Global,
     identifier: &str,
     seed: &str,
     key: &str,
+    hashes: &mut HashCount<L>,
 ) -> Result<(), Fail> {
     let seed = seed_of(identifier, seed)?;
-    assert!(rt; key_bytes(&key_of(alloc, &seed)) == <[u8; 56] as FromHex>::from_hex(key)?);
+    let found = key_bytes(&public(&seed, hashes));
+    assert!(rt; found == <[u8; 56] as FromHex>::from_hex(key)?, "{key}");
     Ok(())
 }
 
 /// The signature of the text, handed over in two pieces, has this hash and verifies.
-fn expect_signature(
+fn expect_signature<L: Ledger>(
     rt: &impl Abort,
     alloc: Global,
     seed: &KeySeed,
     key: &PublicKey,
-    index: u32,
-    text: &str,
-    expected: &str,
+    (index, text, expected): &(u32, &str, &str),
+    hashes: &mut HashCount<L>,
 ) -> Result<(), Fail> {
-    assert!(rt; index < 32);
-    let expected = <[u8; 32] as FromHex>::from_hex(expected)?;
+    assert!(rt; *index < 32);
     let text = hex::decode(alloc, text)?;
     let (head, body) = text.split_at(text.len() / 2);
-    let signature = signature_of(alloc, index, seed, head, body);
-    assert!(rt; hash_of(alloc, &signature) == expected);
-    assert!(rt; verify(key, head, body, &signature));
-    Ok(())
-}
-
-/// Two signatures by one kept tree are those that are made without it.
-fn expect_kept<L: Ledger>(rt: &impl Abort, alloc: Global, blank: Blank) -> Result<(), Fail>
-    requires name { blank.name ≡ L.name }
-    requires parts { blank.parts ≡ L.parts }
-    requires some { 0 < blank.parts }
-{
-    let seed = seed_of(IDENTIFIER, SEED)?;
-    let mut hashes = HashCount::<L>::begin(alloc, blank);
-    let tree = KeptTree::build(&seed, &mut hashes);
-    for index in 0..2u32 {
-        let mut kept = no_signature();
-        sign_kept(
-            right_at(index),
-            &tree,
-            &seed,
-            b"kept ",
-            b"tree",
-            &mut kept,
-            &mut hashes,
-        );
-        let mut anew = no_signature();
-        sign(
-            right_at(index),
-            &seed,
-            b"kept ",
-            b"tree",
-            &mut anew,
-            &mut hashes,
-        );
-        assert!(rt; kept == anew);
-    }
+    let mut signature = no_signature();
+    sign(right_at(*index), seed, head, body, &mut signature, hashes);
+    let found = hash(&signature, &[], &[], hashes);
+    assert!(rt;
+        found == <[u8; 32] as FromHex>::from_hex(expected)?,
+        "{expected}"
+    );
+    assert!(rt; verify(key, head, body, &signature), "{expected}");
     Ok(())
 }
 
@@ -177,30 +97,8 @@ const KEYS: &[(&str, &str, &str)] = &[
     ),
 ];
 
-#[test]
-fn public_keys(rt: HostRuntime) -> Result<(), Fail> {
-    for (identifier, seed, key) in KEYS {
-        expect_public(&rt, rt.alloc(), identifier, seed, key)?;
-    }
-    Ok(())
-}
-
-/// Each row has an index, a text and the hash of its signature.
-fn expect_signatures(
-    rt: &impl Abort,
-    alloc: Global,
-    rows: &[(u32, &str, &str)],
-) -> Result<(), Fail> {
-    let seed = seed_of(IDENTIFIER, SEED)?;
-    let key = key_of(alloc, &seed);
-    for (index, text, expected) in rows {
-        expect_signature(rt, alloc, &seed, &key, *index, text, expected)?;
-    }
-    Ok(())
-}
-
-/// The signatures of no text.
-const OF_NO_TEXT: &[(u32, &str, &str)] = &[
+/// Signatures of no text, of one byte, and of texts of 64 bytes: the index of each, its text, and its hash.
+const SIGNATURES: &[(u32, &str, &str)] = &[
     (
         0,
         "",
@@ -226,15 +124,6 @@ const OF_NO_TEXT: &[(u32, &str, &str)] = &[
         "",
         "f2180b692061d6f2c400566e14dc5c02026c109510b006562c19e461c7cff0d9",
     ),
-];
-
-#[test]
-fn signatures_of_no_text(rt: HostRuntime) -> Result<(), Fail> {
-    expect_signatures(&rt, rt.alloc(), OF_NO_TEXT)
-}
-
-/// The signatures of one byte.
-const OF_ONE_BYTE: &[(u32, &str, &str)] = &[
     (
         0,
         "61",
@@ -260,15 +149,6 @@ const OF_ONE_BYTE: &[(u32, &str, &str)] = &[
         "61",
         "8440bed289ddb508e642e80d560e6d3b7bc583ac597ed1301aafbf0e846798a7",
     ),
-];
-
-#[test]
-fn signatures_of_one_byte(rt: HostRuntime) -> Result<(), Fail> {
-    expect_signatures(&rt, rt.alloc(), OF_ONE_BYTE)
-}
-
-/// The signatures of texts of 64 bytes.
-const OF_LONGER_TEXTS: &[(u32, &str, &str)] = &[
     (
         0,
         "7dbb80edfa073bf605b4a8f69cb16df1042d89807a850da0e63a8d88174f0ab0baab012084e81df99e5188e7b1e49f1d4c91e9a442f2978f81ee1e9e07c2ca6e",
@@ -296,12 +176,54 @@ const OF_LONGER_TEXTS: &[(u32, &str, &str)] = &[
     ),
 ];
 
-#[test]
-fn signatures_of_longer_texts(rt: HostRuntime) -> Result<(), Fail> {
-    expect_signatures(&rt, rt.alloc(), OF_LONGER_TEXTS)
+/// A signature by a kept tree is the one that is made without it.
+fn expect_kept<L: Ledger>(
+    rt: &impl Abort,
+    index: u32,
+    tree: &KeptTree,
+    seed: &KeySeed,
+    hashes: &mut HashCount<L>,
+)
+    requires index { index < 32 }
+    requires tree { IsTreeOf seed.now tree.now }
+{
+    let mut kept = no_signature();
+    sign_kept(
+        right_at(index),
+        tree,
+        seed,
+        b"kept ",
+        b"tree",
+        &mut kept,
+        hashes,
+    );
+    let mut anew = no_signature();
+    sign(right_at(index), seed, b"kept ", b"tree", &mut anew, hashes);
+    assert!(rt; kept == anew, "{index}");
+}
+
+/// Each key and each signature is that of its row, and the signatures of a kept tree are those that are made without it.
+fn expect_all<L: Ledger>(rt: &impl Abort, alloc: Global, blank: Blank) -> Result<(), Fail>
+    requires name { blank.name ≡ L.name }
+    requires parts { blank.parts ≡ L.parts }
+    requires some { 0 < blank.parts }
+{
+    let mut hashes = HashCount::<L>::begin(alloc, blank);
+    for (identifier, seed, key) in KEYS {
+        expect_public(rt, identifier, seed, key, &mut hashes)?;
+    }
+    let seed = seed_of(IDENTIFIER, SEED)?;
+    let key = public(&seed, &mut hashes);
+    for row in SIGNATURES {
+        expect_signature(rt, alloc, &seed, &key, row, &mut hashes)?;
+    }
+    let tree = KeptTree::build(&seed, &mut hashes);
+    expect_kept(rt, 0, &tree, &seed, &mut hashes);
+    expect_kept(rt, 1, &tree, &seed, &mut hashes);
+    Ok(())
 }
 
 #[test]
-fn kept_tree(rt: HostRuntime) -> Result<(), Fail> {
-    expect_kept::<Brand>(&rt, rt.alloc(), Blank::new(1))
+fn keys_and_signatures(rt: HostRuntime) -> Result<(), Fail> {
+    expect_all::<Brand>(&rt, rt.alloc(), Blank::new(1))
 }

@@ -146,6 +146,26 @@ const COMMANDS: &[Access] = &[
         writes: &[("key", "officer2"), ("out", "out")],
     },
     Access {
+        words: "cosign officer2 2 load draft6 out",
+        reads: &[("key", "officer2"), ("order", "load"), ("draft", "draft6")],
+        writes: &[("key", "officer2"), ("out", "out")],
+    },
+    Access {
+        words: "showorder order6",
+        reads: &[("order", "order6")],
+        writes: &[],
+    },
+    Access {
+        words: "ordered public1 order6",
+        reads: &[("public", "public1"), ("order", "order6")],
+        writes: &[],
+    },
+    Access {
+        words: "showkey officer2",
+        reads: &[("key", "officer2")],
+        writes: &[],
+    },
+    Access {
         words: "migrate image out",
         reads: &[("image", "image")],
         writes: &[("out", "out")],
@@ -159,6 +179,11 @@ const COMMANDS: &[Access] = &[
         words: "hsskeygen noise0 1 key public",
         reads: &[("noise", "noise0")],
         writes: &[("key", "key"), ("public", "public")],
+    },
+    Access {
+        words: "showmaker hss",
+        reads: &[("key", "hss")],
+        writes: &[],
     },
     Access {
         words: "endorse hss public0 out",

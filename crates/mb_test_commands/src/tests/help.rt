@@ -6,7 +6,40 @@ use std::test::Fail;
 /// The text of `--help`. `checks/documents.sh` finds it in docs/use/commands.md.
 const HELP: &str = "miniboot serves a simulated secure coprocessor.
 
-usage:
+to make keys and devices:
+  miniboot keygen NOISE KEY PUBLIC
+      makes an officer's key from the noise, writes its file and its public key, and prints the public
+      key's hash
+  miniboot showkey KEY
+      prints the hash of the public key of an officer's key, its next index, and how many indices are left
+  miniboot factory NOISE KEY OWNER CODE IMAGE
+      makes a device of this owner and code from the noise, signs its birth by the maker's key, writes
+      that key with one more index used and the device's image, and prints the device's serial
+  miniboot hsskeygen NOISE LEVELS KEY PUBLIC
+      makes a maker's HSS key of 1 to 8 levels from the noise, writes its file and its public key, and
+      prints the public key's hash
+  miniboot showmaker KEY
+      prints the hash of the public key of a maker's HSS key, its levels, its next number, and how many
+      numbers are left
+  miniboot endorse KEY ROOT OUT
+      endorses the public key in ROOT by a maker's HSS key, writes that key with one more of its numbers
+      used and the endorsement, and prints the number
+
+to give orders:
+  miniboot showorder ORDER
+      prints what an order line says, line by line, and verifies nothing
+  miniboot ordered PUBLIC ORDER
+      names the signatures of an order line that verify under the public key
+  miniboot sign KEY DRAFT OUT
+      signs the order of the draft, writes the key with one more index used and the order as a line, and
+      prints the index
+  miniboot countersign KEY LAYER ORDER OUT
+      adds the countersignature of the owner of layer 2 or 3 to an order line, writes the key with one
+      more index used and the order as a line, and prints the index
+  miniboot cosign KEY LAYER ORDER DRAFT OUT
+      countersigns as countersign does, if the order line says what the draft says, and else refuses
+
+to serve a device:
   miniboot run IMAGE SCRIPT NOISE
       gives the device of IMAGE the events of SCRIPT, writes the new image over IMAGE, and prints a line
       for each reply
@@ -14,6 +47,18 @@ usage:
       serves SCRIPT on the device of IMAGE, and cuts power in the write with the number COUNT, 1 to 100,000,
       of its last event; prints which state that leaves, and writes no file; FILL is what the write leaves,
       1 to 16 bytes in hexadecimal
+  miniboot chain IMAGE OUT
+      writes the chain of the device's log, and prints how many entries it has
+  miniboot attach CHAIN STATEMENT OUT
+      attaches a statement to the chain, and prints how many entries that chain has
+  miniboot migrate IMAGE OUT
+      writes the image of IMAGE's state in the current form; IMAGE may have the earlier form; prints the
+      new image's hash
+  miniboot generate NUMBER ROUNDS IMAGE SCRIPT NOISE
+      makes the workload of NUMBER with ROUNDS rounds, 1 to 24, writes its files, serves it, and prints a
+      summary
+
+to verify what a device says of itself:
   miniboot verify ROOT CHAIN KEYNUMBER
       verifies the chain under the maker's public key, and lists every configuration of code that could have
       used the key with this number
@@ -21,13 +66,8 @@ usage:
       verifies the chain, and compares what it lists for the key with the log of the device of IMAGE
   miniboot trust ROOT CHAIN KEYNUMBER POLICY
       verifies the chain, and then judges by the policy each configuration that could have used the key
-  miniboot chain IMAGE OUT
-      writes the chain of the device's log, and prints how many entries it has
-  miniboot attach CHAIN STATEMENT OUT
-      attaches a statement to the chain, and prints how many entries that chain has
-  miniboot fleet ROOT REGISTER ITEMS
-      serves the items, chains and questions, over a register of the maker's devices, writes the register,
-      and prints the answers
+  miniboot endorsed PUBLIC ROOT ENDORSEMENT
+      verifies the endorsement of the public key in ROOT under the public key of a maker's HSS key
   miniboot register OUT
       writes a register of no devices, and prints how many that has
   miniboot enrol ROOT REGISTER CHAIN
@@ -35,42 +75,23 @@ usage:
       answer
   miniboot devices REGISTER
       lists the devices of a register, with what each has shown last
-  miniboot factory NOISE KEY OWNER CODE IMAGE
-      makes a device of this owner and code from the noise, signs its birth by the maker's key, writes
-      that key with one more index used and the device's image, and prints the device's serial
-  miniboot keygen NOISE KEY PUBLIC
-      makes an officer's key from the noise, writes its file and its public key, and prints the public
-      key's hash
-  miniboot sign KEY DRAFT OUT
-      signs the order of the draft, writes the key with one more index used and the order as a line, and
-      prints the index
-  miniboot countersign KEY LAYER ORDER OUT
-      adds the countersignature of the owner of layer 2 or 3 to an order line, writes the key with one
-      more index used and the order as a line, and prints the index
-  miniboot hsskeygen NOISE LEVELS KEY PUBLIC
-      makes a maker's HSS key of 1 to 8 levels from the noise, writes its file and its public key, and
-      prints the public key's hash
-  miniboot endorse KEY ROOT OUT
-      endorses the public key in ROOT by a maker's HSS key, writes that key with one more of its numbers
-      used and the endorsement, and prints the number
-  miniboot endorsed PUBLIC ROOT ENDORSEMENT
-      verifies the endorsement of the public key in ROOT under the public key of a maker's HSS key
-  miniboot migrate IMAGE OUT
-      writes the image of IMAGE's state in the current form; IMAGE may have the earlier form; prints the
-      new image's hash
-  miniboot app IMAGE LAYER INPUT STEPS
-      runs the code of layer 2 or 3 of the device of IMAGE on the bytes of INPUT for at most STEPS steps,
-      1 to 10,000,000, and prints how it ends
-  miniboot appcode CODE INPUT STEPS
-      runs the code on the bytes of INPUT for at most STEPS steps, 1 to 10,000,000, as layer 3 of a device
-      without secrets, and prints how it ends
+  miniboot fleet ROOT REGISTER ITEMS
+      serves the items, chains and questions, over a register of the maker's devices, writes the register,
+      and prints the answers
+
+to write applications:
   miniboot asm TEXT OUT
       assembles the text, writes its code, and prints how many bytes that has
   miniboot disasm CODE OUT
       lists the code, writes its text, and prints how many lines that has
-  miniboot generate NUMBER ROUNDS IMAGE SCRIPT NOISE
-      makes the workload of NUMBER with ROUNDS rounds, 1 to 24, writes its files, serves it, and prints a
-      summary
+  miniboot appcode CODE INPUT STEPS
+      runs the code on the bytes of INPUT for at most STEPS steps, 1 to 10,000,000, as layer 3 of a device
+      without secrets, and prints how it ends
+  miniboot app IMAGE LAYER INPUT STEPS
+      runs the code of layer 2 or 3 of the device of IMAGE on the bytes of INPUT for at most STEPS steps,
+      1 to 10,000,000, and prints how it ends
+
+to learn of the program:
   miniboot --help
       prints this text
   miniboot --version

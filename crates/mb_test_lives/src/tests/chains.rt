@@ -458,6 +458,9 @@ fn chains_tell_of_their_device(rt: HostRuntime) -> Result<(), Fail> {
     go_on(&rt, &mut host, ANOTHER_DEVICE)
 }
 
+// The old device has the image that `factory` wrote for its noise when births had version 1. No image of that time was
+// kept, but its hash was, in the example of a device's life, and the bytes here have it. A birth of version 1 stands in
+// a migrated image alone, since `factory` wrote version 2 when it first wrote segments.
 #[test]
 fn an_old_device_lives_on(rt: HostRuntime) -> Result<(), Fail> {
     owned_device_goes_through(

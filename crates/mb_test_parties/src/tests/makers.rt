@@ -1,4 +1,6 @@
-//! Makers, keys and endorsements that another program made.
+//! Makers, keys and endorsements that another program made. The keys of the levels are tested by what the maker shows
+//! of them: the public key before the last of the signatures. A public call that derives the key of a level is needed
+//! by no crate.
 
 ghost use Rattle.std.specs.Prelude.{◌≡◌, ◌<◌, ◌≤◌, IfOk};
 ghost use Rattle.mb_hss.specs.declared.limits.TheConstants.{LEVEL_LIMIT};
@@ -54,11 +56,7 @@ fn maker_at(levels: u8, number: u64) -> Result<Maker, Fail>
     Ok(read_maker(&file)?)
 }
 
-/// The public key of a seed, on a count of its own.
-fn key_of(alloc: Global, seed: &KeySeed) -> PublicKey {
-    key_counted::<Brand>(alloc, seed, Blank::new(1))
-}
-
+/// The public key of a seed.
 fn key_counted<L: Ledger>(alloc: Global, seed: &KeySeed, blank: Blank) -> PublicKey
     requires name { blank.name ≡ L.name }
     requires parts { blank.parts ≡ L.parts }

@@ -112,28 +112,28 @@ fn is_refused(
     Ok(())
 }
 
-/// A byte of the chain, its new value, and the refusal.
-const CHANGES: &[(usize, u8, ChainRefusal)] = &[
-    (0, 0x4d, ChainRefusal::KeyUnknown),
-    (3, 0x32, ChainRefusal::Form { at: 0 }),
-    (5, 0, ChainRefusal::Form { at: 4 }),
-    (5, 129, ChainRefusal::Form { at: 4 }),
-    (5, 2, ChainRefusal::Form { at: 2526 }),
-    (6, 4, ChainRefusal::Form { at: 6 }),
-    (2525, 2, ChainRefusal::Form { at: 2525 }),
-    (2525, 1, ChainRefusal::Form { at: 2526 }),
-    (2526, 0, ChainRefusal::Form { at: 2526 }),
-    (7, 0, ChainRefusal::Signature { entry: 0 }),
-    (2524, 0, ChainRefusal::Signature { entry: 0 }),
+/// A maker's key, a byte of the chain, its new value, and the refusal.
+const CHANGES: &[(&str, usize, u8, ChainRefusal)] = &[
+    (MAKER, 0, 0x4d, ChainRefusal::KeyUnknown),
+    (MAKER, 3, 0x32, ChainRefusal::Form { at: 0 }),
+    (MAKER, 5, 0, ChainRefusal::Form { at: 4 }),
+    (MAKER, 5, 129, ChainRefusal::Form { at: 4 }),
+    (MAKER, 5, 2, ChainRefusal::Form { at: 2526 }),
+    (MAKER, 6, 4, ChainRefusal::Form { at: 6 }),
+    (MAKER, 2525, 2, ChainRefusal::Form { at: 2525 }),
+    (MAKER, 2525, 1, ChainRefusal::Form { at: 2526 }),
+    (MAKER, 2526, 0, ChainRefusal::Form { at: 2526 }),
+    (MAKER, 7, 0, ChainRefusal::Signature { entry: 0 }),
+    (MAKER, 2524, 0, ChainRefusal::Signature { entry: 0 }),
+    (OTHER, 0, 0x4d, ChainRefusal::Signature { entry: 0 }),
 ];
 
 #[test]
 fn chains_of_one_entry(rt: HostRuntime) -> Result<(), Fail> {
-    for (at, byte, why) in CHANGES {
-        is_refused(&rt, rt.alloc(), MAKER, *at, *byte, *why)?;
+    for (maker, at, byte, why) in CHANGES {
+        is_refused(&rt, rt.alloc(), maker, *at, *byte, *why)?;
     }
-    let why = ChainRefusal::Signature { entry: 0 };
-    is_refused(&rt, rt.alloc(), OTHER, 0, 0x4d, why)
+    Ok(())
 }
 
 /// The owners of three layers, and the hash of the code of each.

@@ -121,16 +121,11 @@ fn answer_counted<L: Ledger>(alloc: Global, image: &[u8], blank: Blank) -> Answe
     }
 }
 
-/// What the image means, with the hashes on a count of their own.
-fn stands_for(alloc: Global, image: &[u8]) -> Answer {
-    answer_counted::<Brand>(alloc, image, Blank::new(1))
-}
-
 /// The image of a new device, changed by `change`, means what is expected.
 fn expect(rt: &impl Abort, alloc: Global, change: Change, expected: Answer) -> Result<(), Fail> {
     let mut image = new_device(alloc)?;
     apply(&mut image, change)?;
-    assert!(rt; stands_for(alloc, &image) == expected);
+    assert!(rt; answer_counted::<Brand>(alloc, &image, Blank::new(1)) == expected);
     Ok(())
 }
 

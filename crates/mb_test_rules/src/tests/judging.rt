@@ -15,7 +15,6 @@ use mb_orders::{JudgeEnd, Plan, judge};
 use mb_signer::Bench;
 use std::alloc::Global;
 use std::marker::Brand;
-use std::process::Abort;
 use std::sync::ledger::{Blank, Ledger};
 use std::test::Fail;
 
@@ -136,7 +135,6 @@ fn judge_counted<L: Ledger>(
 }
 
 /// What is seen of a plan.
-#[derive(Clone, Copy, PartialEq, Eq)]
 struct Seen {
     entries: usize,
     uses: u32,
@@ -152,41 +150,61 @@ struct Seen {
     reliable: bool,
 }
 
-fn seen_of(plan: &Plan) -> Seen {
-    Seen {
-        entries: plan.bodies.entries.as_slice().len(),
-        uses: plan.bodies.uses,
-        outgoing: plan.bodies.outgoing.is_some(),
-        two_loses: plan.two == Fate::DropConfiguration,
-        three_loses: plan.three == Fate::DropConfiguration,
-        three_empties: plan.three == Fate::Empty,
-        reliable: plan.layers.three.reliable,
+/// What an order comes to.
+enum Outcome {
+    /// A plan of which this is seen.
+    Plan(Seen),
+    /// A plan that leaves layer 3 these trusts.
+    Trusts(Trusts),
+    /// No plan, for this reason.
+    End(JudgeEnd),
+}
+
+/// Whether this is seen of the plan.
+fn is_seen(plan: &Plan, seen: &Seen) -> bool {
+    plan.bodies.entries.as_slice().len() == seen.entries
+        && plan.bodies.uses == seen.uses
+        && plan.bodies.outgoing.is_some() == seen.outgoing
+        && (plan.two == Fate::DropConfiguration) == seen.two_loses
+        && (plan.three == Fate::DropConfiguration) == seen.three_loses
+        && (plan.three == Fate::Empty) == seen.three_empties
+        && plan.layers.three.reliable == seen.reliable
+}
+
+/// Whether the plan is what is expected.
+fn is_planned(plan: &Plan, expected: &Outcome) -> bool {
+    match expected {
+        Outcome::Plan(seen) => is_seen(plan, seen),
+        Outcome::Trusts(trusts) => plan.layers.three.trust == *trusts,
+        Outcome::End(_) => false,
     }
 }
 
-/// What the order of these parts comes to.
-fn judged(alloc: Global, view: &View, parts: [&str; 3]) -> Result<Result<Seen, JudgeEnd>, Fail>
+/// Whether the order of these parts comes to this, on a device with these figures.
+fn comes_to(alloc: Global, view: &View, parts: [&str; 3], expected: &Outcome) -> Result<bool, Fail>
     requires uses { view.now.uses ≤ 31 }
     requires number { view.now.number ≤ 128 }
     requires keys_made { view.now.keys_made ≤ 128 }
 {
     let order = order_of(alloc, parts)?;
-    match judge_counted::<Brand>(alloc, view, &order, Blank::new(1)) {
-        Ok(plan) => Ok(Ok(seen_of(&plan))),
-        Err(end) => Ok(Err(end)),
-    }
+    Ok(
+        match judge_counted::<Brand>(alloc, view, &order, Blank::new(1)) {
+            Ok(plan) => is_planned(&plan, expected),
+            Err(found) => matches!(expected, Outcome::End(end) if *end == found),
+        },
+    )
 }
 
 /// Orders: what each shows, what is changed in the layers, the number of entries, the number of used indices (less than
 /// 32), the parts of the order, and what it comes to.
-const ORDERS: &[(&str, But, u32, u8, [&str; 3], Result<Seen, JudgeEnd>)] = &[
+const ORDERS: &[(&str, But, u32, u8, [&str; 3], Outcome)] = &[
     (
         "a target comes first",
         But::Nothing,
         1,
         1,
         [ESTABLISH_AT_SEVEN, UNSIGNED, ALONE],
-        Err(JudgeEnd::Target(0)),
+        Outcome::End(JudgeEnd::Target(0)),
     ),
     (
         "a target before all",
@@ -194,7 +212,7 @@ const ORDERS: &[(&str, But, u32, u8, [&str; 3], Result<Seen, JudgeEnd>)] = &[
         128,
         31,
         [LOAD_AT_SEVEN, UNSIGNED, WRONG],
-        Err(JudgeEnd::Target(0)),
+        Outcome::End(JudgeEnd::Target(0)),
     ),
     (
         "the layers come next",
@@ -202,7 +220,7 @@ const ORDERS: &[(&str, But, u32, u8, [&str; 3], Result<Seen, JudgeEnd>)] = &[
         128,
         31,
         [LOAD_TWO, UNSIGNED, ALONE],
-        Err(JudgeEnd::State),
+        Outcome::End(JudgeEnd::State),
     ),
     (
         "then the signature",
@@ -210,7 +228,7 @@ const ORDERS: &[(&str, But, u32, u8, [&str; 3], Result<Seen, JudgeEnd>)] = &[
         128,
         31,
         [LOAD_ONE, UNSIGNED, WRONG],
-        Err(JudgeEnd::Signature),
+        Outcome::End(JudgeEnd::Signature),
     ),
     (
         "then countersignatures",
@@ -218,7 +236,7 @@ const ORDERS: &[(&str, But, u32, u8, [&str; 3], Result<Seen, JudgeEnd>)] = &[
         128,
         31,
         [LOAD_ONE, LOAD_ONE_BY_ONE, WRONG],
-        Err(JudgeEnd::Countersignature(2)),
+        Outcome::End(JudgeEnd::Countersignature(2)),
     ),
     (
         "nobody countersigns for a layer without an owner",
@@ -226,7 +244,7 @@ const ORDERS: &[(&str, But, u32, u8, [&str; 3], Result<Seen, JudgeEnd>)] = &[
         2,
         1,
         [LOAD_ONE, LOAD_ONE_BY_ONE, LOAD_ONE_BY_THREE],
-        Err(JudgeEnd::Countersignature(3)),
+        Outcome::End(JudgeEnd::Countersignature(3)),
     ),
     (
         "then the log, without room for two",
@@ -234,7 +252,7 @@ const ORDERS: &[(&str, But, u32, u8, [&str; 3], Result<Seen, JudgeEnd>)] = &[
         127,
         31,
         [LOAD_TWO, LOAD_TWO_BY_TWO, ALONE],
-        Err(JudgeEnd::LogFull),
+        Outcome::End(JudgeEnd::LogFull),
     ),
     (
         "then the log, without room for one",
@@ -242,7 +260,7 @@ const ORDERS: &[(&str, But, u32, u8, [&str; 3], Result<Seen, JudgeEnd>)] = &[
         128,
         1,
         [NEW_KEY, NEW_KEY_BY_THREE, ALONE],
-        Err(JudgeEnd::LogFull),
+        Outcome::End(JudgeEnd::LogFull),
     ),
     (
         "the keys come last",
@@ -250,7 +268,7 @@ const ORDERS: &[(&str, But, u32, u8, [&str; 3], Result<Seen, JudgeEnd>)] = &[
         100,
         1,
         [NEW_KEY, NEW_KEY_BY_THREE, ALONE],
-        Err(JudgeEnd::KeysFull),
+        Outcome::End(JudgeEnd::KeysFull),
     ),
     (
         "a load of layer 1 needs no succession",
@@ -258,7 +276,7 @@ const ORDERS: &[(&str, But, u32, u8, [&str; 3], Result<Seen, JudgeEnd>)] = &[
         127,
         31,
         [LOAD_ONE, LOAD_ONE_BY_ONE, ALONE],
-        Ok(Seen {
+        Outcome::Plan(Seen {
             entries: 1,
             uses: 0,
             outgoing: true,
@@ -274,7 +292,7 @@ const ORDERS: &[(&str, But, u32, u8, [&str; 3], Result<Seen, JudgeEnd>)] = &[
         100,
         31,
         [LOAD_TWO, LOAD_TWO_BY_TWO, ALONE],
-        Ok(Seen {
+        Outcome::Plan(Seen {
             entries: 2,
             uses: 1,
             outgoing: true,
@@ -290,7 +308,7 @@ const ORDERS: &[(&str, But, u32, u8, [&str; 3], Result<Seen, JudgeEnd>)] = &[
         2,
         1,
         [LOAD_ONE, LOAD_ONE_BY_ONE, ALONE],
-        Ok(Seen {
+        Outcome::Plan(Seen {
             entries: 1,
             uses: 0,
             outgoing: true,
@@ -306,7 +324,7 @@ const ORDERS: &[(&str, But, u32, u8, [&str; 3], Result<Seen, JudgeEnd>)] = &[
         2,
         1,
         [LOAD_ONE, LOAD_ONE_BY_ONE, ALONE],
-        Ok(Seen {
+        Outcome::Plan(Seen {
             entries: 1,
             uses: 0,
             outgoing: true,
@@ -322,7 +340,7 @@ const ORDERS: &[(&str, But, u32, u8, [&str; 3], Result<Seen, JudgeEnd>)] = &[
         2,
         1,
         [LOAD_TWO, LOAD_TWO_BY_TWO, ALONE],
-        Ok(Seen {
+        Outcome::Plan(Seen {
             entries: 1,
             uses: 2,
             outgoing: false,
@@ -338,7 +356,7 @@ const ORDERS: &[(&str, But, u32, u8, [&str; 3], Result<Seen, JudgeEnd>)] = &[
         2,
         1,
         [LOAD_ONE, LOAD_ONE_BY_ONE, LOAD_ONE_BY_THREE],
-        Ok(Seen {
+        Outcome::Plan(Seen {
             entries: 1,
             uses: 0,
             outgoing: true,
@@ -348,52 +366,21 @@ const ORDERS: &[(&str, But, u32, u8, [&str; 3], Result<Seen, JudgeEnd>)] = &[
             reliable: true,
         }),
     ),
+    (
+        "a load gives two trusts",
+        But::Nothing,
+        2,
+        1,
+        [LOAD_THREE, LOAD_THREE_BY_THREE, ALONE],
+        Outcome::Trusts(APART),
+    ),
 ];
-
-/// The order of these parts comes to this, on a device with these figures.
-fn comes_to(
-    rt: &impl Abort,
-    alloc: Global,
-    shown: &str,
-    view: &View,
-    parts: [&str; 3],
-    expected: Result<Seen, JudgeEnd>,
-) -> Result<(), Fail>
-    requires uses { view.now.uses ≤ 31 }
-    requires number { view.now.number ≤ 128 }
-    requires keys_made { view.now.keys_made ≤ 128 }
-{
-    let is_right = judged(alloc, view, parts)? == expected;
-    assert!(rt; is_right, "{shown}");
-    Ok(())
-}
 
 #[test]
 fn orders_are_judged(rt: HostRuntime) -> Result<(), Fail> {
     for (shown, but, length, uses, parts, expected) in ORDERS {
         let view = view(layers_but(*but)?, *length, u32::from(*uses % 32));
-        comes_to(&rt, rt.alloc(), shown, &view, *parts, *expected)?;
+        assert!(rt; comes_to(rt.alloc(), &view, *parts, expected)?, "{shown}");
     }
-    Ok(())
-}
-
-/// The trusts of layer 3 that the order of these parts leaves.
-fn trusts_left(alloc: Global, view: &View, parts: [&str; 3]) -> Result<Option<Trusts>, Fail>
-    requires uses { view.now.uses ≤ 31 }
-    requires number { view.now.number ≤ 128 }
-    requires keys_made { view.now.keys_made ≤ 128 }
-{
-    let order = order_of(alloc, parts)?;
-    match judge_counted::<Brand>(alloc, view, &order, Blank::new(1)) {
-        Ok(plan) => Ok(Some(plan.layers.three.trust)),
-        Err(_) => Ok(None),
-    }
-}
-
-#[test]
-fn a_load_gives_two_trusts(rt: HostRuntime) -> Result<(), Fail> {
-    let view = view(layers_but(But::Nothing)?, 2, 1);
-    let parts = [LOAD_THREE, LOAD_THREE_BY_THREE, ALONE];
-    assert!(rt; trusts_left(rt.alloc(), &view, parts)? == Some(APART));
     Ok(())
 }

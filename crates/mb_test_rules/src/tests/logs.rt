@@ -86,13 +86,17 @@ fn key(byte: u8) -> PublicKey {
 /// A layer of the owner with this byte, with code of this version. Without a version, it has no code and is not
 /// reliable.
 fn layer(owner: u8, version: Option<u32>) -> Layer {
-    Layer {
-        owner: Some(key(owner)),
-        code: version.map(|version| CodeName {
+    let code = match version {
+        Some(version) => Some(CodeName {
             hash: [owner; 32],
             version,
         }),
-        reliable: version.is_some(),
+        None => None,
+    };
+    Layer {
+        owner: Some(key(owner)),
+        code,
+        reliable: code.is_some(),
         trust: Trusts {
             one: Trust::Countersigned,
             two: Trust::Countersigned,

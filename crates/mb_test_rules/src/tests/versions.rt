@@ -147,12 +147,6 @@ fn chain_counted<L: Ledger>(alloc: Global, versions: [u8; 4], blank: Blank) -> R
     Ok(chain)
 }
 
-fn chain_of(alloc: Global, versions: [u8; 4]) -> Result<Vec<u8>, Fail>
-    ensures { IfOk result (λ bytes. vec_len bytes ≤ 20000) }
-{
-    chain_counted::<Brand>(alloc, versions, Blank::new(1))
-}
-
 /// The chain in these versions, verified for a key that no entry makes, is refused for the reason `why`.
 fn is_refused(
     rt: &impl Abort,
@@ -161,7 +155,7 @@ fn is_refused(
     why: ChainRefusal,
 ) -> Result<(), Fail> {
     let root = public_key(ROOT)?;
-    let chain = chain_of(alloc, versions)?;
+    let chain = chain_counted::<Brand>(alloc, versions, Blank::new(1))?;
     assert!(rt; verify(alloc, &root, &chain, 9).err() == Some(why));
     Ok(())
 }

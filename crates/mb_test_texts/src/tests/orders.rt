@@ -15,41 +15,23 @@ use std::alloc::Global;
 use std::marker::Brand;
 use std::sync::ledger::{Blank, Ledger};
 
-/// The key of the owner in charge.
-fn signer() -> Option<Keyfile>
-    ensures { IfSome result (λ key. key.next ≡ 0) }
-{
-    let noise = <[u8; 32] as FromHex>::from_hex(
-        "000102030405060708090a0b0c0d0e0f101112131415161718191a1b1c1d1e1f",
-    );
-    match noise {
-        Ok(noise) => Some(make_key(&noise)),
-        Err(_) => None,
-    }
-}
+/// The noise from which the key of the owner in charge is made.
+const SIGNER: &str = "000102030405060708090a0b0c0d0e0f101112131415161718191a1b1c1d1e1f";
 
-/// The key of another owner.
-fn countersigner() -> Option<Keyfile>
+/// The noise from which the key of another owner is made.
+const COUNTERSIGNER: &str = "0102030405060708090a0b0c0d0e0f101112131415161718191a1b1c1d1e1f20";
+
+/// The key that is made from this noise, in hexadecimal.
+fn key_of(noise: &str) -> Option<Keyfile>
     ensures { IfSome result (λ key. key.next ≡ 0) }
 {
-    let noise = <[u8; 32] as FromHex>::from_hex(
-        "0102030405060708090a0b0c0d0e0f101112131415161718191a1b1c1d1e1f20",
-    );
-    match noise {
+    match <[u8; 32] as FromHex>::from_hex(noise) {
         Ok(noise) => Some(make_key(&noise)),
         Err(_) => None,
     }
 }
 
 /// Signs the order, with the hashes on a count of their own.
-fn signed(alloc: Global, k: &mut Keyfile, order: &mut Order) -> Result<u32, SignEnd>
-    requires spelled { order_format.Allowed order.old }
-    ensures spelled { OnOk result (order_format.Allowed order.new) }
-    ensures unchanged { OnErr result ((k.new ≡ k.old) × (order.new ≡ order.old)) }
-{
-    signed_counted::<Brand>(alloc, k, order, Blank::new(1))
-}
-
 fn signed_counted<L: Ledger>(
     alloc: Global,
     k: &mut Keyfile,
@@ -67,19 +49,6 @@ fn signed_counted<L: Ledger>(
 }
 
 /// Countersigns the order, with the hashes on a count of their own.
-fn countersigned(
-    alloc: Global,
-    k: &mut Keyfile,
-    layer: u8,
-    order: &mut Order,
-) -> Result<u32, SignEnd>
-    requires spelled { order_format.Allowed order.old }
-    requires layer { IsTrue (is_upper layer) }
-    ensures spelled { OnOk result (order_format.Allowed order.new) }
-{
-    countersigned_counted::<Brand>(alloc, k, layer, order, Blank::new(1))
-}
-
 fn countersigned_counted<L: Ledger>(
     alloc: Global,
     k: &mut Keyfile,
@@ -161,8 +130,8 @@ pub fn is_signed(alloc: Global, order: &mut Order) -> bool
     requires { order_format.Allowed order.old }
     ensures { IsTrue result → order_format.Allowed order.new }
 {
-    match signer() {
-        Some(mut key) => match signed(alloc, &mut key, order) {
+    match key_of(SIGNER) {
+        Some(mut key) => match signed_counted::<Brand>(alloc, &mut key, order, Blank::new(1)) {
             Ok(index) => index == 0 && key.next.number() == 1,
             Err(_) => false,
         },
@@ -170,115 +139,112 @@ pub fn is_signed(alloc: Global, order: &mut Order) -> bool
     }
 }
 
-/// Signs the order, and answers whether it then has this hash, and the order read from its line has it too.
-fn signs(alloc: Global, order: &mut Order, hash: &str) -> bool
+/// Signs the order, and answers whether it then has this hash, and the order read from its line has it too. Without a
+/// hash, the order is not signed.
+fn signs(alloc: Global, order: &mut Order, hash: Option<&str>) -> bool
     requires { order_format.Allowed order.old }
     ensures { IsTrue result → order_format.Allowed order.new }
 {
-    is_signed(alloc, order)
-        && has_hash(alloc, order, hash)
-        && hand_on(alloc, order)
-        && has_hash(alloc, order, hash)
+    match hash {
+        Some(hash) => {
+            is_signed(alloc, order)
+                && has_hash(alloc, order, hash)
+                && hand_on(alloc, order)
+                && has_hash(alloc, order, hash)
+        }
+        None => true,
+    }
 }
 
 /// Countersigns the order as the owner of layer 3, and answers whether that used index 0 and the order has this hash.
 fn countersigns(alloc: Global, order: &mut Order, hash: &str) -> bool
     requires { order_format.Allowed order.old }
 {
-    match countersigner() {
-        Some(mut key) => match countersigned(alloc, &mut key, 3, order) {
-            Ok(index) => index == 0 && has_hash(alloc, order, hash),
-            Err(_) => false,
-        },
+    match key_of(COUNTERSIGNER) {
+        Some(mut key) => {
+            match countersigned_counted::<Brand>(alloc, &mut key, 3, order, Blank::new(1)) {
+                Ok(index) => index == 0 && has_hash(alloc, order, hash),
+                Err(_) => false,
+            }
+        }
         None => false,
     }
 }
 
-#[test]
-fn an_emergency_countersigned(rt: HostRuntime) {
-    let alloc = rt.alloc();
-    let found = drafted(
-        alloc,
-        b"order emergency 2\n\
+/// A draft and the body of its order; and the hash of the order once it is signed, and once it is countersigned too, if
+/// it is.
+struct Row {
+    draft: &'static str,
+    body: &'static str,
+    signed: Option<&'static str>,
+    countersigned: Option<&'static str>,
+}
+
+/// What is wrong with the order of the draft, or nothing.
+fn fault_of(alloc: Global, row: &Row) -> &'static str {
+    let Some(mut order) = drafted(alloc, row.draft.as_bytes(), row.body) else {
+        return "the body of its order";
+    };
+    if !signs(alloc, &mut order, row.signed) {
+        return "its signed order";
+    }
+    match row.countersigned {
+        Some(hash) if !countersigns(alloc, &mut order, hash) => "its countersigned order",
+        _ => "",
+    }
+}
+
+/// Drafts with one trust or with two. Two equal words mean the same as one.
+const ROWS: &[Row] = &[
+    Row {
+        draft: "order emergency 2\n\
             target owner 1 1111111111111111111111111111111111111111111111111111111111111111\n\
             target code 3 2222222222222222222222222222222222222222222222222222222222222222\n\
             version 4294967295\ntrust always\ncode 00ff\n",
-        "0402020301111111111111111111111111111111111111111111111111111111111111111104032222222222222222222222\
+        body: "0402020301111111111111111111111111111111111111111111111111111111111111111104032222222222222222222222\
             222222222222222222222222222222222222222222ffffffff000000000200ff",
-    );
-    let Some(mut order) = found else {
-        panic!(rt; "the draft says no order of this body");
-    };
-    assert!(rt;
-        signs(
-            alloc,
-            &mut order,
-            "4d05e04686380b6984de41c0bfe498f00946d35f8dc7c76df9a57e66591640cd",
-        )
-    );
-    assert!(rt;
-        countersigns(
-            alloc,
-            &mut order,
-            "3e43471b11adc07980d95f8e2d91906a2a6b2b2fb46b900fc9f65e9d7877aee9",
-        )
-    );
-}
-
-/// Whether the draft says an order of this body.
-fn says_body(alloc: Global, draft: &str, body: &str) -> bool {
-    drafted(alloc, draft.as_bytes(), body).is_some()
-}
-
-/// Drafts with one trust or with two, and the bodies of their orders. Two equal words mean the same as one.
-const BODIES: &[(&str, &str)] = &[
-    (
-        "order establish 3\n\
+        signed: Some("4d05e04686380b6984de41c0bfe498f00946d35f8dc7c76df9a57e66591640cd"),
+        countersigned: Some("3e43471b11adc07980d95f8e2d91906a2a6b2b2fb46b900fc9f65e9d7877aee9"),
+    },
+    Row {
+        draft: "order establish 3\n\
             owner 0000000500000003313131313131313131313131313131313232323232323232323232323232323232323232323232323232323232323232\n\
             trust always never\n",
-        "110300000000050000000331313131313131313131313131313131323232323232323232323232323232323232323232323232\
+        body: "110300000000050000000331313131313131313131313131313131323232323232323232323232323232323232323232323232\
             32323232323232320001",
-    ),
-    (
-        "order load 3\nversion 258\ntrust always never\ncode 616263\n",
-        "13030000000102000100000003616263",
-    ),
-    (
-        "order emergency 2\ntarget length 7\nversion 1\ntrust countersigned always\ncode -\n",
-        "140201020000000700000001020000000000",
-    ),
-    (
-        "order load 1\nversion 2\ntrust never never\ncode 00\n",
-        "03010000000002010000000100",
-    ),
-    (
-        "order load 1\nversion 2\ntrust never\ncode 00\n",
-        "03010000000002010000000100",
-    ),
+        signed: None,
+        countersigned: None,
+    },
+    Row {
+        draft: "order load 3\nversion 258\ntrust always never\ncode 616263\n",
+        body: "13030000000102000100000003616263",
+        signed: Some("f008ead89a3683f44149961b1f95137573d9654244585829c452e80afb27b923"),
+        countersigned: None,
+    },
+    Row {
+        draft: "order emergency 2\ntarget length 7\nversion 1\ntrust countersigned always\ncode -\n",
+        body: "140201020000000700000001020000000000",
+        signed: None,
+        countersigned: None,
+    },
+    Row {
+        draft: "order load 1\nversion 2\ntrust never never\ncode 00\n",
+        body: "03010000000002010000000100",
+        signed: None,
+        countersigned: None,
+    },
+    Row {
+        draft: "order load 1\nversion 2\ntrust never\ncode 00\n",
+        body: "03010000000002010000000100",
+        signed: None,
+        countersigned: None,
+    },
 ];
 
 #[test]
-fn drafts_give_trusts(rt: HostRuntime) {
-    for (draft, body) in BODIES {
-        assert!(rt; says_body(rt.alloc(), draft, body), "{draft}");
+fn drafts_are_signed_and_countersigned(rt: HostRuntime) {
+    for row in ROWS {
+        let fault = fault_of(rt.alloc(), row);
+        assert!(rt; fault.is_empty(), "{fault}: {}", row.draft);
     }
-}
-
-/// Whether the order of the draft has this hash when it is signed.
-fn signs_draft(alloc: Global, draft: &str, hash: &str) -> bool {
-    match order_of(alloc, draft.as_bytes()) {
-        Some(mut order) => signs(alloc, &mut order, hash),
-        None => false,
-    }
-}
-
-#[test]
-fn a_load_with_two_trusts_is_signed(rt: HostRuntime) {
-    assert!(rt;
-        signs_draft(
-            rt.alloc(),
-            "order load 3\nversion 258\ntrust always never\ncode 616263\n",
-            "f008ead89a3683f44149961b1f95137573d9654244585829c452e80afb27b923",
-        )
-    );
 }

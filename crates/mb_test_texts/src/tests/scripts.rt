@@ -86,7 +86,7 @@ fn is_event(event: &Event, said: &Said) -> bool {
             Said::Cut(c, t) => count == c && tear == t,
             _ => false,
         },
-        Event::Command { text, draw } => match said {
+        Event::Order { text, draw } => match said {
             Said::Command(t) => text.as_slice() == *t && *draw == [0; 32],
             Said::Long(length) => text.as_slice().len() == *length,
             _ => false,
@@ -135,7 +135,7 @@ fn lines_say_events(rt: HostRuntime) {
 /// Whether event `at` is a command with this draw.
 fn has_draw(events: &Events, at: usize, draw: [u8; 32]) -> bool {
     match events.as_slice().get(at) {
-        Some(Event::Command { text: _, draw: d }) => *d == draw,
+        Some(Event::Order { text: _, draw: d }) => *d == draw,
         _ => false,
     }
 }

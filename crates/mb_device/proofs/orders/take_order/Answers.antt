@@ -45,7 +45,7 @@ pub returns-in-Ok-clause-trees : goal.returns-in-Ok-clause-trees
 returns-in-Ok-clause-trees g c = trees_ordered {E = Off} (Ok (c.in-Ok.up, c.in-Ok.reply)) c.args.running.known c.obey.new.known c.args.text.now c.args.draw.now c.in-Ok.ensures.stays
 
 pub returns-in-Err-clause-trees : goal.returns-in-Err-clause-trees
-returns-in-Err-clause-trees g c = trees_go 0 (event.Command c.args.text.now c.args.draw.now) reply.Stopped (Some c.args.running.known.trees.value) None refl refl refl
+returns-in-Err-clause-trees g c = trees_go 0 (event.Order c.args.text.now c.args.draw.now) reply.Stopped (Some c.args.running.known.trees.value) None refl refl refl
 
 pub returns-in-Ok-clause-done : goal.returns-in-Ok-clause-done
 returns-in-Ok-clause-done g c = c.in-Ok.ensures.keeps

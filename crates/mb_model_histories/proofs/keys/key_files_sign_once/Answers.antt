@@ -5,6 +5,7 @@ pub returns : goal.returns
 returns c = record {
   sign = lemmas.signing_uses_up_its_index;
   countersign = lemmas.countersigning_uses_up_its_index;
+  cosign = lemmas.cosigning_signs_the_draft;
   unused = lemmas.nothing_is_signed_without_an_index;
   turn = lemmas.indices_in_turn_differ;
   old = lemmas.old_keys_sign_again;

@@ -820,40 +820,31 @@ const ARBITRARY: &[Row] = &[
     ),
 ];
 
+/// Whether the word spells the bytes in hexadecimal.
+fn is_spelled(alloc: Global, bytes: &[u8], word: &str) -> Result<bool, Fail> {
+    Ok(hex::decode(alloc, word)?.as_slice() == bytes)
+}
+
 /// Whether a run comes to this end.
 fn is_end(alloc: Global, end: &AppEnd, wanted: Wanted) -> Result<bool, Fail> {
-    match wanted {
-        Halted(wanted_steps, text) => {
-            let wanted_output = bytes_of(alloc, text)?;
-            Ok(match end {
-                AppEnd::Halted { steps, output } => {
-                    *steps == wanted_steps && output.as_slice() == wanted_output.as_slice()
-                }
-                _ => false,
-            })
+    match (end, wanted) {
+        (AppEnd::Halted { steps, output }, Halted(wanted_steps, word)) => {
+            Ok(*steps == wanted_steps && is_spelled(alloc, output.as_slice(), word)?)
         }
-        Stopped(wanted_cause, wanted_place, text) => {
-            let wanted_output = bytes_of(alloc, text)?;
-            Ok(match end {
-                AppEnd::Trap {
-                    cause,
-                    place,
-                    output,
-                } => {
-                    *cause == wanted_cause
-                        && *place == wanted_place
-                        && output.as_slice() == wanted_output.as_slice()
-                }
-                _ => false,
-            })
-        }
-        Out(text) => {
-            let wanted_output = bytes_of(alloc, text)?;
-            Ok(match end {
-                AppEnd::OutOfSteps { output } => output.as_slice() == wanted_output.as_slice(),
-                _ => false,
-            })
-        }
+        (
+            AppEnd::Trap {
+                cause,
+                place,
+                output,
+            },
+            Stopped(wanted_cause, wanted_place, word),
+        ) => Ok(
+            *cause == wanted_cause
+                && *place == wanted_place
+                && is_spelled(alloc, output.as_slice(), word)?,
+        ),
+        (AppEnd::OutOfSteps { output }, Out(word)) => is_spelled(alloc, output.as_slice(), word),
+        _ => Ok(false),
     }
 }
 

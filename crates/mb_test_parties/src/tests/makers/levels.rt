@@ -3,12 +3,14 @@
 ghost use Rattle.std.specs.Prelude.{◌<◌, ◌^◌};
 ghost use Rattle.mb_hss.specs.declared.limits.TheConstants.{LEVEL_LIMIT};
 
-use super::{endorse, key_of, maker_at, public_of, root_bytes};
+use super::{endorse, key_counted, maker_at, public_of, root_bytes};
 use hex::FromHex;
 use mb_hss::LEVEL_LIMIT;
 use mb_lms::key_bytes;
 use mb_model::KeySeed;
 use std::alloc::Global;
+use std::marker::Brand;
+use std::sync::ledger::Blank;
 use std::test::Fail;
 
 /// A level and a prefix, and the identifier and the seed of the key that the maker has there.
@@ -88,7 +90,8 @@ fn is_shown(
         identifier: <[u8; 16] as FromHex>::from_hex(identifier)?,
         seed: <[u8; 32] as FromHex>::from_hex(seed)?,
     };
-    Ok(shown_key(alloc, level, prefix)? == key_bytes(&key_of(alloc, &seed)))
+    let key = key_counted::<Brand>(alloc, &seed, Blank::new(1));
+    Ok(shown_key(alloc, level, prefix)? == key_bytes(&key))
 }
 
 #[test]

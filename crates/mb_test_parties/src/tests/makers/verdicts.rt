@@ -5,23 +5,42 @@ ghost use Rattle.std.specs.Prelude.{◌≡◌, ◌≤◌, IfOk};
 use super::endorsement::{ENDORSEMENT, KEY};
 use super::{HEAD, root_bytes};
 use crate::tests::pieces::bytes_of;
+use Change::{Byte, First, Longer, Nothing};
 use hex::FromHex;
 use mb_hss::{HssKey, parse, verify};
 use std::alloc::Global;
 use std::test::Fail;
 
-/// Offsets, and a byte there with which the endorsement does not verify. The first two change how many keys it signs.
-const OTHER_BYTES: &[(usize, u8)] = &[
-    (3, 0),
-    (3, 2),
-    (1299, 0x0a),
-    (1303, 0x00),
-    (1316, 0xea),
-    (1392, 0xbd),
-];
+/// What is changed in the endorsement.
+#[derive(Clone, Copy)]
+enum Change {
+    /// Nothing is changed.
+    Nothing,
+    /// A byte is appended.
+    Longer,
+    /// The endorsement ends after this many bytes.
+    First(usize),
+    /// The byte at this offset is this one.
+    Byte(usize, u8),
+}
 
-/// Lengths of prefixes of the endorsement that do not verify.
-const SHORTER: &[usize] = &[0, 3, 1296, 2803];
+/// What each row shows, the number of levels of the key, what is changed, and whether the endorsement then verifies.
+const VERDICTS: &[(&str, u8, Change, bool)] = &[
+    ("under two levels", 2, Nothing, true),
+    ("under three levels", 3, Nothing, false),
+    ("under one level", 1, Nothing, false),
+    ("a byte longer", 2, Longer, false),
+    ("no bytes", 2, First(0), false),
+    ("the first 3 bytes", 2, First(3), false),
+    ("the first 1,296 bytes", 2, First(1296), false),
+    ("the first 2,803 bytes", 2, First(2803), false),
+    ("no signed key", 2, Byte(3, 0), false),
+    ("two signed keys", 2, Byte(3, 2), false),
+    ("another byte at 1,299", 2, Byte(1299, 0x0a), false),
+    ("another byte at 1,303", 2, Byte(1303, 0x00), false),
+    ("another byte at 1,316", 2, Byte(1316, 0xea), false),
+    ("another byte at 1,392", 2, Byte(1392, 0xbd), false),
+];
 
 /// The key of the first level, in a key with this number of levels.
 fn key_of(levels: u8) -> Result<HssKey, Fail>
@@ -40,49 +59,36 @@ fn endorses(levels: u8, sig: &[u8]) -> Result<bool, Fail>
     Ok(verify(&key_of(levels)?, &HEAD, &root_bytes()?, sig))
 }
 
-/// Whether the endorsement does not verify with another byte at the offset.
-fn refuses_byte(alloc: Global, at: usize, byte: u8) -> Result<bool, Fail> {
-    let mut sig = bytes_of(alloc, ENDORSEMENT)?;
-    match sig.as_mut_slice().get_mut(at) {
-        Some(there) => *there = byte,
-        None => return Ok(false),
-    }
-    Ok(!endorses(2, &sig)?)
-}
-
-/// Whether the prefix of the endorsement is shorter, and does not verify.
-fn refuses_prefix(alloc: Global, length: usize) -> Result<bool, Fail> {
-    let mut sig = bytes_of(alloc, ENDORSEMENT)?;
-    if length >= sig.len() {
-        return Ok(false);
-    }
-    sig.truncate(length);
-    Ok(!endorses(2, &sig)?)
-}
-
-#[test]
-fn an_endorsement_verifies_under_its_number_of_levels(rt: HostRuntime) -> Result<(), Fail> {
-    let mut sig = bytes_of(rt.alloc(), ENDORSEMENT)?;
-    assert!(rt; endorses(2, &sig)?);
-    assert!(rt; !endorses(3, &sig)?);
-    assert!(rt; !endorses(1, &sig)?);
-    sig.push(0)?;
-    assert!(rt; !endorses(2, &sig)?);
-    Ok(())
-}
-
-#[test]
-fn shorter_endorsements(rt: HostRuntime) -> Result<(), Fail> {
-    for length in SHORTER {
-        assert!(rt; refuses_prefix(rt.alloc(), *length)?, "the first {length}");
+/// Changes the endorsement, if it has what is changed.
+fn apply(sig: &mut Vec<u8>, change: Change) -> Result<(), Fail> {
+    match change {
+        Nothing => (),
+        Longer => sig.push(0)?,
+        First(length) if length < sig.len() => sig.truncate(length),
+        First(_) => return Err("it is no longer")?,
+        Byte(at, byte) => {
+            let place = sig.get_mut(at).ok_or("no such byte")?;
+            *place = byte;
+        }
     }
     Ok(())
 }
 
+/// Whether the endorsement verifies under a key of 1 to 8 levels, once it is changed.
+fn verifies(alloc: Global, levels: u8, change: Change) -> Result<bool, Fail> {
+    if levels < 1 || levels > 8 {
+        return Err("no such key")?;
+    }
+    let mut sig = bytes_of(alloc, ENDORSEMENT)?;
+    apply(&mut sig, change)?;
+    endorses(levels, &sig)
+}
+
 #[test]
-fn other_bytes(rt: HostRuntime) -> Result<(), Fail> {
-    for (at, byte) in OTHER_BYTES {
-        assert!(rt; refuses_byte(rt.alloc(), *at, *byte)?, "at {at}");
+fn endorsements_verify_or_not(rt: HostRuntime) -> Result<(), Fail> {
+    for (shown, levels, change, expected) in VERDICTS {
+        let found = verifies(rt.alloc(), *levels, *change)?;
+        assert!(rt; found == *expected, "{shown}");
     }
     Ok(())
 }

@@ -1,20 +1,21 @@
 //! Policies, and what each comes to for a report of `reports`.
 
 use super::reports::Expected::{Allowed, Denied, Line};
-use super::reports::Whose::{Configured, Ended};
-use super::reports::{Expected, Whose, comes_to, report, report_on};
+use super::reports::Whose::{Configured, Ended, Living};
+use super::reports::{Expected, Whose, comes_to, report_on};
 use crate::tests::pieces::text_of;
 use mb_model::Report;
 use std::alloc::Global;
+use std::process::Abort;
 use std::test::Fail;
 
 /// Three sets: the first code of layer 1, the owner of layer 2, and the later code of all layers.
-const SETS: &str = "set one f191e625176e7514249870c60bc24622131b04927a418001d1969c9cecd260f1\n\
+pub const SETS: &str = "set one f191e625176e7514249870c60bc24622131b04927a418001d1969c9cecd260f1\n\
                     set two af4100871c517431c0e948ce1c92b19f2413ee26e0524ecdeed3495e34fc7430\n\
                     set abc ba7816bf8f01cfea414140de5dae2223b00361a396177a9cb410ff61f20015ad\n";
 
-/// Lines after the three sets, and what the policy comes to.
-const AFTER_SETS: &[(&str, Expected)] = &[
+/// Lines after the three sets, and what the policy comes to for the key that is alive.
+const OF_LIVING: &[(&str, Expected)] = &[
     ("allow r first\n", Denied(5, "default")),
     ("allow r last\n", Denied(4, "default")),
     ("allow r number 4 5\n", Denied(6, "default")),
@@ -60,15 +61,7 @@ const AFTER_SETS: &[(&str, Expected)] = &[
     ("allow r version 1 2 3 4\n", Line(4)),
 ];
 
-/// Nested tests after the three sets: this many of the first word, this many of `alive `, and the end of the line.
-const NESTED: &[(usize, &str, usize, &str, Expected)] = &[
-    (31, "not ", 0, "statement\n", Allowed),
-    (30, "not ", 0, "alive\n", Allowed),
-    (32, "not ", 0, "alive\n", Line(4)),
-    (31, "and ", 31, "alive\n", Allowed),
-];
-
-/// Whole policies, and what each comes to.
+/// Whole policies, and what each comes to for the key that is alive.
 const WHOLE: &[(&str, Expected)] = &[
     ("allow any kind epoch\n", Allowed),
     (
@@ -110,8 +103,9 @@ const WHOLE: &[(&str, Expected)] = &[
     ("permit a alive\n", Line(1)),
 ];
 
-/// Bad lines at other places: the words of a set, a set that stands after its use, and a name that only a rule has.
-const MORE: &[(&str, Expected)] = &[
+/// Whole policies with bad lines at other places: the words of a set, a set that stands after its use, and a name that
+/// only a rule has. And policies whose last line lacks its LF.
+const OTHER_LINES: &[(&str, Expected)] = &[
     ("allow a code 3 b\nset b 00\n", Line(1)),
     ("allow a alive\nallow b code 3 a\n", Line(2)),
     ("# first\n\nallow a alive\n\nallow a alive\n", Line(5)),
@@ -132,82 +126,72 @@ const MORE: &[(&str, Expected)] = &[
     ),
 ];
 
-/// Lines after the three sets, and what the policy comes to for the report on a key. By the definitions, what a test asks
-/// of a layer that is not listed is false, and so is what it asks of the code or the owner of a layer without; only the
-/// trust of a layer without an owner is one, `never`.
-const OTHER_REPORTS: &[(Whose, &str, Expected)] = &[
-    (Ended, "allow r alive\n", Denied(7, "default")),
-    (Ended, "allow r not alive\n", Allowed),
-    (Ended, "allow r kind epoch\n", Allowed),
-    (Ended, "allow r kind configuration\n", Denied(7, "default")),
-    (Ended, "allow r first\n", Denied(8, "default")),
-    (Ended, "deny r last\nallow s not alive\n", Denied(9, "r")),
-    (Ended, "allow r reliable 2\n", Denied(7, "default")),
-    (Ended, "allow r not reliable 2\n", Allowed),
-    (Ended, "allow r and reliable 1 reliable 3\n", Allowed),
-    (Ended, "allow r code 2 abc\n", Denied(8, "default")),
+/// Lines after the three sets, and what the policy comes to for the key that has ended. By the definitions, what a test
+/// asks of the code or the owner of a layer without is false; only the trust of a layer without an owner is one, `never`.
+const OF_ENDED: &[(&str, Expected)] = &[
+    ("allow r alive\n", Denied(7, "default")),
+    ("allow r not alive\n", Allowed),
+    ("allow r kind epoch\n", Allowed),
+    ("allow r kind configuration\n", Denied(7, "default")),
+    ("allow r first\n", Denied(8, "default")),
+    ("deny r last\nallow s not alive\n", Denied(9, "r")),
+    ("allow r reliable 2\n", Denied(7, "default")),
+    ("allow r not reliable 2\n", Allowed),
+    ("allow r and reliable 1 reliable 3\n", Allowed),
+    ("allow r code 2 abc\n", Denied(8, "default")),
     (
-        Ended,
         "deny r not code 2 abc\nallow s owner 2 two\n",
         Denied(8, "r"),
     ),
+    ("allow r version 2 0 4294967295\n", Denied(8, "default")),
+    ("allow r or version 2 1 1 number 8 9\n", Allowed),
+    ("allow r owner 2 two\n", Denied(9, "default")),
     (
-        Ended,
-        "allow r version 2 0 4294967295\n",
-        Denied(8, "default"),
-    ),
-    (Ended, "allow r or version 2 1 1 number 8 9\n", Allowed),
-    (Ended, "allow r owner 2 two\n", Denied(9, "default")),
-    (
-        Ended,
         "deny r not owner 2 two\nallow s not alive\n",
         Denied(9, "r"),
     ),
+    ("allow r trust 2 1 countersigned\n", Denied(9, "default")),
+    ("allow r trust 2 1 never\n", Denied(7, "default")),
     (
-        Ended,
-        "allow r trust 2 1 countersigned\n",
-        Denied(9, "default"),
-    ),
-    (Ended, "allow r trust 2 1 never\n", Denied(7, "default")),
-    (
-        Ended,
         "deny r trust 2 1 never\nallow s not statement\n",
         Denied(9, "r"),
     ),
-    (Configured, "allow r kind configuration\n", Allowed),
-    (Configured, "allow r kind epoch\n", Denied(5, "default")),
-    (Configured, "allow r and alive statement\n", Allowed),
-    (Configured, "allow r and first last\n", Allowed),
-    (Configured, "allow r number 5 5\n", Allowed),
-    (Configured, "allow r and reliable 1 reliable 2\n", Allowed),
-    (Configured, "allow r and code 1 abc owner 2 two\n", Allowed),
-    (Configured, "allow r reliable 3\n", Denied(5, "default")),
-    (Configured, "allow r not reliable 3\n", Allowed),
+];
+
+/// Lines after the three sets, and what the policy comes to for the configuration key. By the definitions, what a test
+/// asks of a layer that is not listed is false.
+const OF_CONFIGURED: &[(&str, Expected)] = &[
+    ("allow r kind configuration\n", Allowed),
+    ("allow r kind epoch\n", Denied(5, "default")),
+    ("allow r and alive statement\n", Allowed),
+    ("allow r and first last\n", Allowed),
+    ("allow r number 5 5\n", Allowed),
+    ("allow r and reliable 1 reliable 2\n", Allowed),
+    ("allow r and code 1 abc owner 2 two\n", Allowed),
+    ("allow r reliable 3\n", Denied(5, "default")),
+    ("allow r not reliable 3\n", Allowed),
+    ("allow r trust 3 1 never\n", Denied(5, "default")),
+    ("allow r not trust 3 1 never\n", Allowed),
     (
-        Configured,
-        "allow r trust 3 1 never\n",
-        Denied(5, "default"),
-    ),
-    (Configured, "allow r not trust 3 1 never\n", Allowed),
-    (
-        Configured,
         "deny r not trust 3 2 never\nallow s alive\n",
         Denied(5, "r"),
     ),
-    (
-        Configured,
-        "allow r version 3 0 4294967295\n",
-        Denied(5, "default"),
-    ),
-    (
-        Configured,
-        "allow r or owner 3 two code 3 abc\n",
-        Denied(5, "default"),
-    ),
+    ("allow r version 3 0 4294967295\n", Denied(5, "default")),
+    ("allow r or owner 3 two code 3 abc\n", Denied(5, "default")),
+];
+
+/// Policies that are judged for the report on a key: which key that is, the lines with which each begins, and its other
+/// lines.
+const POLICIES: &[(&str, Whose, &str, &[(&str, Expected)])] = &[
+    ("alive", Living, SETS, OF_LIVING),
+    ("alive", Living, "", WHOLE),
+    ("alive", Living, "", OTHER_LINES),
+    ("ended", Ended, SETS, OF_ENDED),
+    ("configuration", Configured, SETS, OF_CONFIGURED),
 ];
 
 /// Whether the policy of the pieces comes to this.
-fn is_policy(
+pub fn is_policy(
     alloc: Global,
     report: &Report,
     pieces: &[(&str, usize)],
@@ -217,61 +201,35 @@ fn is_policy(
     comes_to(alloc, report, text.as_slice(), expected)
 }
 
-#[test]
-fn tests_hold_as_expected(rt: HostRuntime) -> Result<(), Fail> {
-    let report = report(rt.alloc())?;
-    for (lines, expected) in AFTER_SETS {
-        let is = is_policy(rt.alloc(), &report, &[(SETS, 1), (*lines, 1)], *expected)?;
-        assert!(rt; is, "{lines}");
-    }
-    Ok(())
+/// Whether the policy of these lines after the lines `first` comes to this.
+fn is_after(
+    alloc: Global,
+    report: &Report,
+    first: &str,
+    lines: &str,
+    expected: Expected,
+) -> Result<bool, Fail> {
+    is_policy(alloc, report, &[(first, 1), (lines, 1)], expected)
 }
 
-/// Whether the policy of these lines after the three sets comes to this for the report on the key.
-fn is_on(alloc: Global, whose: Whose, lines: &str, expected: Expected) -> Result<bool, Fail> {
-    let report = report_on(alloc, whose)?;
-    is_policy(alloc, &report, &[(SETS, 1), (lines, 1)], expected)
-}
-
-#[test]
-fn other_reports_are_judged(rt: HostRuntime) -> Result<(), Fail> {
-    for (whose, lines, expected) in OTHER_REPORTS {
-        assert!(rt; is_on(rt.alloc(), *whose, lines, *expected)?, "{lines}");
-    }
-    Ok(())
-}
-
-#[test]
-fn tests_are_nested_32_deep(rt: HostRuntime) -> Result<(), Fail> {
-    let report = report(rt.alloc())?;
-    for (times, word, others, end, expected) in NESTED {
-        let pieces = [
-            (SETS, 1),
-            ("allow r ", 1),
-            (*word, *times),
-            ("alive ", *others),
-            (*end, 1),
-        ];
-        let is = is_policy(rt.alloc(), &report, &pieces, *expected)?;
-        assert!(rt; is, "{times} {word}");
+/// Each policy comes to what its row says, for the report on the key.
+fn expect_all(
+    rt: &impl Abort,
+    alloc: Global,
+    (key, whose, first, rows): &(&str, Whose, &str, &[(&str, Expected)]),
+) -> Result<(), Fail> {
+    let report = report_on(alloc, *whose)?;
+    for (lines, expected) in *rows {
+        let is_right = is_after(alloc, &report, first, lines, *expected)?;
+        assert!(rt; is_right, "{key}: {lines}");
     }
     Ok(())
 }
 
 #[test]
 fn policies_come_to_what_is_expected(rt: HostRuntime) -> Result<(), Fail> {
-    let report = report(rt.alloc())?;
-    for (text, expected) in WHOLE {
-        assert!(rt;
-            is_policy(rt.alloc(), &report, &[(*text, 1)], *expected)?,
-            "{text}"
-        );
-    }
-    for (text, expected) in MORE {
-        assert!(rt;
-            is_policy(rt.alloc(), &report, &[(*text, 1)], *expected)?,
-            "{text}"
-        );
+    for policies in POLICIES {
+        expect_all(&rt, rt.alloc(), policies)?;
     }
     Ok(())
 }

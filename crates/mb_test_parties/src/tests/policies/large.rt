@@ -1,8 +1,8 @@
 //! Policies at their limits.
 
+use super::judgements::{SETS, is_policy};
 use super::reports::Expected::{Allowed, Denied, Line};
 use super::reports::{Expected, comes_to, report};
-use crate::tests::pieces::text_of;
 use mb_model::Report;
 use std::alloc::Global;
 use std::test::Fail;
@@ -27,13 +27,6 @@ fn are_rules(alloc: Global, report: &Report, count: u32, expected: Expected) -> 
     comes_to(alloc, report, text.as_slice(), expected)
 }
 
-/// Whether a policy with a set of this many hashes comes to this.
-fn is_wide(alloc: Global, report: &Report, count: usize, expected: Expected) -> Result<bool, Fail> {
-    let pieces = [("set wide", 1), (HASH, count), ("\nallow a alive\n", 1)];
-    let text = text_of(alloc, &pieces)?;
-    comes_to(alloc, report, text.as_slice(), expected)
-}
-
 #[test]
 fn a_policy_has_256_lines(rt: HostRuntime) -> Result<(), Fail> {
     let report = report(rt.alloc())?;
@@ -42,37 +35,92 @@ fn a_policy_has_256_lines(rt: HostRuntime) -> Result<(), Fail> {
     Ok(())
 }
 
-#[test]
-fn a_set_has_64_hashes(rt: HostRuntime) -> Result<(), Fail> {
-    let report = report(rt.alloc())?;
-    assert!(rt; is_wide(rt.alloc(), &report, 64, Allowed)?);
-    assert!(rt; is_wide(rt.alloc(), &report, 65, Line(1))?);
-    Ok(())
-}
-
 /// A test of four tests of owners and codes.
 const FOUR: &str = "or or owner 1 a code 2 a or owner 2 a code 3 a ";
 
-/// Whether a policy comes to this. Its rule allows by an `or` of 64 tests of owners and codes, none of which holds, and
-/// a last test.
-fn is_joined(alloc: Global, report: &Report, last: &str, expected: Expected) -> Result<bool, Fail> {
-    let pieces = [
-        ("set a", 1),
-        (HASH, 64),
-        ("\nallow r ", 1),
-        ("or ", 16),
-        (FOUR, 16),
-        (last, 1),
-    ];
-    let text = text_of(alloc, &pieces)?;
-    comes_to(alloc, report, text.as_slice(), expected)
-}
+/// Large policies: what each has, its pieces, and what it comes to. The tests of the first are nested, after three sets.
+/// The rule of the last allows by an `or` of 64 tests of owners and codes, none of which holds, and a last test.
+const LARGE: &[(&str, &[(&str, usize)], Expected)] = &[
+    (
+        "31 words not, and a test that fails",
+        &[(SETS, 1), ("allow r ", 1), ("not ", 31), ("statement\n", 1)],
+        Allowed,
+    ),
+    (
+        "30 words not, and a test that holds",
+        &[(SETS, 1), ("allow r ", 1), ("not ", 30), ("alive\n", 1)],
+        Allowed,
+    ),
+    (
+        "32 words not",
+        &[(SETS, 1), ("allow r ", 1), ("not ", 32), ("alive\n", 1)],
+        Line(4),
+    ),
+    (
+        "31 words and",
+        &[
+            (SETS, 1),
+            ("allow r ", 1),
+            ("and ", 31),
+            ("alive ", 31),
+            ("alive\n", 1),
+        ],
+        Allowed,
+    ),
+    (
+        "a set of 64 hashes",
+        &[("set wide", 1), (HASH, 64), ("\nallow a alive\n", 1)],
+        Allowed,
+    ),
+    (
+        "a set of 65 hashes",
+        &[("set wide", 1), (HASH, 65), ("\nallow a alive\n", 1)],
+        Line(1),
+    ),
+    (
+        "64 tests, and a last that fails",
+        &[
+            ("set a", 1),
+            (HASH, 64),
+            ("\nallow r ", 1),
+            ("or ", 16),
+            (FOUR, 16),
+            ("statement\n", 1),
+        ],
+        Denied(4, "default"),
+    ),
+    (
+        "64 tests, and a last that holds first",
+        &[
+            ("set a", 1),
+            (HASH, 64),
+            ("\nallow r ", 1),
+            ("or ", 16),
+            (FOUR, 16),
+            ("first\n", 1),
+        ],
+        Denied(5, "default"),
+    ),
+    (
+        "64 tests, and a last that holds",
+        &[
+            ("set a", 1),
+            (HASH, 64),
+            ("\nallow r ", 1),
+            ("or ", 16),
+            (FOUR, 16),
+            ("alive\n", 1),
+        ],
+        Allowed,
+    ),
+];
 
 #[test]
-fn joined_tests_are_judged(rt: HostRuntime) -> Result<(), Fail> {
+fn large_policies_come_to_what_is_expected(rt: HostRuntime) -> Result<(), Fail> {
     let report = report(rt.alloc())?;
-    assert!(rt; is_joined(rt.alloc(), &report, "statement\n", Denied(4, "default"))?);
-    assert!(rt; is_joined(rt.alloc(), &report, "first\n", Denied(5, "default"))?);
-    assert!(rt; is_joined(rt.alloc(), &report, "alive\n", Allowed)?);
+    for (large, pieces, expected) in LARGE {
+        let is_right = is_policy(rt.alloc(), &report, pieces, *expected)?;
+        assert!(rt; is_right, "{large}");
+    }
     Ok(())
 }

@@ -63,7 +63,7 @@ fn configuration(number: u32, one: Layer) -> Result<Configuration, Fail> {
     })
 }
 
-/// The report on an epoch key of layer 3 that lived in configurations 4 to 6.
+/// The report on the key that is alive.
 pub fn report(alloc: Global) -> Result<Report, Fail> {
     let first = layer(OWNERS[0], FIRST_CODE, Trust::Always)?;
     let later = layer(OWNERS[0], CODE, Trust::Countersigned)?;
@@ -81,9 +81,11 @@ pub fn report(alloc: Global) -> Result<Report, Fail> {
     })
 }
 
-/// Another key with a report.
+/// A key with a report.
 #[derive(Clone, Copy)]
 pub enum Whose {
+    /// An epoch key of layer 3 that is alive, and lived in configurations 4 to 6.
+    Living,
     /// An epoch key of layer 3 that has ended. It lived in configuration 7, where layer 2 is not reliable, in 8, where
     /// that layer has no code, and in 9, where it has no owner either.
     Ended,
@@ -154,6 +156,7 @@ fn configured(alloc: Global) -> Result<Report, Fail> {
 /// The report on this key.
 pub fn report_on(alloc: Global, whose: Whose) -> Result<Report, Fail> {
     match whose {
+        Whose::Living => report(alloc),
         Whose::Ended => ended(alloc),
         Whose::Configured => configured(alloc),
     }

@@ -117,9 +117,7 @@ fn the_longest_text_is_given(rt: HostRuntime) -> Result<(), Fail> {
 
 #[test]
 fn a_longer_text_is_too_long(rt: HostRuntime) -> Result<(), Fail> {
-    match serve_long(rt.alloc(), 17_530)? {
-        Ok(_) => assert!(rt; false),
-        Err(end) => assert_eq!(rt; end, ServeEnd::TooLong),
-    }
+    let end = serve_long(rt.alloc(), 17_530)?.err();
+    assert_eq!(rt; end, Some(ServeEnd::TooLong));
     Ok(())
 }

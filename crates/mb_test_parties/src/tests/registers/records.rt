@@ -15,7 +15,7 @@ const GOOD: &str =
      1616161616161616161616161616161616161616161616161616161";
 
 /// Bytes that are no register, and the offset of the first field that fails.
-const BAD_REGISTERS: [(u32, &str); 14] = [
+const BAD_REGISTERS: &[(u32, &str)] = &[
     (0, ""),
     (0, "4d4246"),
     (0, "4d4246320000"),
@@ -80,7 +80,7 @@ const BAD_REGISTERS: [(u32, &str); 14] = [
 ];
 
 /// Bytes that are no items, and the offset of the first field that fails.
-const BAD_ITEMS: [(u32, &str); 13] = [
+const BAD_ITEMS: &[(u32, &str)] = &[
     (0, "00"),
     (0, "04"),
     (1, "01"),
@@ -142,7 +142,7 @@ fn a_register_is_read_and_written(rt: HostRuntime) -> Result<(), Fail> {
 #[test]
 fn other_bytes_are_no_register(rt: HostRuntime) -> Result<(), Fail> {
     for (at, word) in BAD_REGISTERS {
-        assert!(rt; is_no_register(rt.alloc(), at, word)?);
+        assert!(rt; is_no_register(rt.alloc(), *at, word)?, "{word}");
     }
     Ok(())
 }
@@ -150,7 +150,7 @@ fn other_bytes_are_no_register(rt: HostRuntime) -> Result<(), Fail> {
 #[test]
 fn other_bytes_are_no_items(rt: HostRuntime) -> Result<(), Fail> {
     for (at, word) in BAD_ITEMS {
-        assert!(rt; are_no_items(rt.alloc(), at, word)?);
+        assert!(rt; are_no_items(rt.alloc(), *at, word)?, "{word}");
     }
     Ok(())
 }

@@ -1,24 +1,28 @@
-use Rattle.std.proofs.Common.{refl}
-use Rattle.std.proofs.lemmas.Result.{err_from_is_err_and}
-use Rattle.mb_model_commands.specs.Inputs.{key_noise_input}
-use Rattle.mb_model_commands.specs.Keygen.{keygen}
+use Rattle.std.proofs.Common.{List, ℕ, refl, ap, ◌∙◌}
+use Rattle.mb_model.specs.signatures.Key.{key_bytes}
+use Rattle.mb_model.specs.signatures.Signing.{public_of}
+use Rattle.mb_model.specs.records.KeyFormat.{keyfile_format}
+use Rattle.mb_model_commands.specs.Keygen.{new_key, owner_text, keygen}
 use Rattle.mb_model_commands.specs.Commands.{at_first}
-use Rattle.mb_tools.specs.Names.{keygen_files}
-use Rattle.mb_console.proofs.CommandLemmas.{input_carried_out, read_on}
-use Rattle.mb_tools.proofs.KeygenLemmas.{made_carried_out}
+use Rattle.mb_console.specs.Outputs.{writes}
+use Rattle.mb_console.proofs.Leading.{begins, reads, stops_at_input, lacks_memory}
 use Rattle.mb_tools.proofs.keygen.keygen.Goals as goal
 
 pub returns-in_err-noise-clause-carried : goal.returns-in_err-noise-clause-carried
 unfolding keygen
-returns-in_err-noise-clause-carried g c = λ final.
-    let p = err_from_is_err_and c.from_residual.result c.from_residual.ensures.1 in
-    let outside = g.H.Host.outside in
-    rw (p.1, p.2) (input_carried_out (key_noise_input c.args.names.now.noise.now) _ at_first _ final (outside c.args.host.now) (outside c.read_as.new.host) c.in_err-noise.field-0.0 refl refl c.in_err-noise.ensures.err)
+returns-in_err-noise-clause-carried g c = λ final. stops_at_input _ _ _ begins c.from_residual.ensures.1 c.in_err-noise.ensures.err refl refl
+
+pub returns-in_default-clause-carried : goal.returns-in_default-clause-carried
+unfolding keygen
+returns-in_default-clause-carried g c = λ final. lacks_memory (reads begins c.in_ok-noise.ensures.read) tt refl refl
 
 pub returns-clause-carried : goal.returns-clause-carried
-unfolding keygen
+unfolding keygen writes new_key
 returns-clause-carried g c = λ final.
-    let outside = g.H.Host.outside in
-    let made = made_carried_out (keygen_files c.args.names.now) c.in_ok-noise.noise c.make_key.result (outside c.read_as.new.host) (outside c.write_key.new.host) c.write_key.result c.make_key.ensures c.write_key.ensures.carried in
-    read_on (key_noise_input c.args.names.now.noise.now) _ at_first _ final (outside c.args.host.now) (outside c.read_as.new.host) (outside c.write_key.new.host) c.in_ok-noise.noise
-    c.write_key.result c.in_ok-noise.ensures.read (made final)
+    let made = c.make_key-key.ensures in
+    let is_owner = c.public-owner.ensures.key ∙ ap (λ key. public_of key.seed) made in
+    let is_file = ◌∙◌ {A = List ℕ} c.write_keyfile-file.ensures (ap keyfile_format.spelling made) in
+    let is_public = ◌∙◌ {A = List ℕ} c.key_bytes-spelled.ensures (ap key_bytes is_owner) in
+    let is_text = ◌∙◌ {A = List ℕ} c.as_bytes.ensures.value (◌∙◌ {A = List ℕ} c.in-Ok.ensures (ap (λ owner. owner_text (key_bytes owner)) is_owner)) in
+    let carried = rw (is_file, is_public, is_text) at c.finish.ensures in
+    (reads begins c.in_ok-noise.ensures.read).lead _ _ (carried at_first final)

@@ -1,21 +1,21 @@
-use Rattle.std.proofs.Common.{refl}
-use Rattle.std.proofs.lemmas.Result.{err_from_is_err_and}
-use Rattle.mb_model_commands.specs.MigrateCommand.{old_image_input, migrate, write_migrated_image}
+use Rattle.std.proofs.Common.{List, ℕ, refl, ap, ◌∙◌}
+use Rattle.mb_model_commands.specs.MigrateCommand.{migrate, migrated_text}
 use Rattle.mb_model_commands.specs.Commands.{at_first}
-use Rattle.mb_tools.specs.Names.{migrate_files}
-use Rattle.mb_console.proofs.CommandLemmas.{input_carried_out}
-use Rattle.mb_tools.proofs.MigrateLemmas.{migrated_carried_out}
+use Rattle.mb_console.specs.Outputs.{writes}
+use Rattle.mb_console.proofs.Leading.{begins, reads, stops_at_input, lacks_memory}
 use Rattle.mb_tools.proofs.migrate.migrate.Goals as goal
 
 pub returns-in_err-image-clause-carried : goal.returns-in_err-image-clause-carried
 unfolding migrate
-returns-in_err-image-clause-carried g c = λ final.
-    let p = err_from_is_err_and c.from_residual.result c.from_residual.ensures.1 in
-    let outside = g.H.Host.outside in
-    rw (p.1, p.2) (input_carried_out (old_image_input c.args.names.now.image.now) (write_migrated_image (migrate_files c.args.names.now)) at_first _ final (outside c.args.host.now) (outside c.read_old_image.new.host) c.in_err-image.field-0.0 refl refl c.in_err-image.ensures.err)
+returns-in_err-image-clause-carried g c = λ final. stops_at_input _ _ _ begins c.from_residual.ensures.1 c.in_err-image.ensures.err refl refl
+
+pub returns-in_default-clause-carried : goal.returns-in_default-clause-carried
+unfolding migrate
+returns-in_default-clause-carried g c = λ final. lacks_memory (reads begins c.in_ok-image.ensures.read) tt refl refl
 
 pub returns-clause-carried : goal.returns-clause-carried
-returns-clause-carried g c =
-    let outside = g.H.Host.outside in
-    migrated_carried_out (migrate_files c.args.names.now) c.in_ok-image.image.items c.deref.result.now (outside c.args.host.now) (outside c.read_old_image.new.host) (outside c.write_migrated.new.host)
-    c.write_migrated.result c.deref.ensures.value c.in_ok-image.ensures.read c.write_migrated.ensures
+unfolding migrate writes
+returns-clause-carried g c = λ final.
+    let is_text = ◌∙◌ {A = List ℕ} c.as_bytes.ensures.value (◌∙◌ {A = List ℕ} c.in-Ok.ensures (ap migrated_text c.deref.ensures.value)) in
+    let carried = rw (c.deref-2.ensures.value, is_text) at c.finish.ensures in
+    (reads begins c.in_ok-image.ensures.read).lead _ _ (carried at_first final)

@@ -20,7 +20,7 @@ returns-in-Ok-clause-carried g c = λ final.
     let order = reads (reads begins c.in_ok-key.ensures.read) c.in_ok-order.ensures.read in
     let signed = c.in-Ok.ensures.signed in
     let can = λ (never : IsCountersignable c.in_ok-order.order c.args.names.now.layer → ⊥). never_both c.in-Ok.index (c.in-Ok.ensures.countersignable.1 never) in
-    key_signed _ _ _ _ _ _ c.in-Ok.index _ _ (chooses_second {mid = g.H.Host.outside c.read_as-2.new.host} order can) (λ spent. can (λ takes. never_both c.in-Ok.index (c.in-Ok.ensures.spent.1 (takes, spent)))) signed.1 signed.0 signed.2 c.write_signed.ensures
+    key_signed _ _ _ _ _ _ c.in-Ok.index _ _ (chooses_second {mid = g.H.Host.outside c.read_as-2.new.host} order can) (λ spent. can (λ takes. never_both c.in-Ok.index (c.in-Ok.ensures.spent.1 (takes, spent)))) signed.1 signed.0 signed.2 c.use_index.ensures
 
 pub returns-clause-carried : goal.returns-clause-carried
 unfolding countersign

@@ -17,7 +17,7 @@ unfolding sign
 returns-in-Ok-clause-carried g c = λ final.
     let order = reads (reads begins c.in_ok-key.ensures.read) c.in_ok-order.ensures.read in
     let signed = c.in-Ok.ensures.signed in
-    key_signed _ _ _ _ _ _ c.in-Ok.index _ _ order (λ spent. never_both c.in-Ok.index (c.in-Ok.ensures.spent.1 spent)) signed.1 signed.0 signed.2 c.write_signed.ensures
+    key_signed _ _ _ _ _ _ c.in-Ok.index _ _ order (λ spent. never_both c.in-Ok.index (c.in-Ok.ensures.spent.1 spent)) signed.1 signed.0 signed.2 c.use_index.ensures
 
 pub returns-clause-carried : goal.returns-clause-carried
 unfolding sign

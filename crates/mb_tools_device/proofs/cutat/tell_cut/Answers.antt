@@ -1,8 +1,7 @@
-use Rattle.std.proofs.Common.{◌≡◌, true, false, List, length, sym, ◌∙◌, ap, subst, arith, length-append}
+use Rattle.std.proofs.Common.{◌≡◌, true, false, List, sym, ◌∙◌, subst}
 use Rattle.mb_model.specs.declared.event.Answered.{Answered}
 use Rattle.mb_model.specs.outside.Board.{use_of}
 use Rattle.mb_tools_device.specs.CutCommand.{AnyLacksMemory, LastIsStopped}
-use Rattle.mb_tools_device.proofs.Buffers.{filled_whole}
 use Rattle.mb_tools_device.proofs.CutLemmas.{cut_lacks, cut_unstopped, cut_stopped}
 use Rattle.mb_tools_device.proofs.cutat.tell_cut.Goals as goal
 
@@ -24,13 +23,8 @@ returns-then-not-last_is_stopped-clause-carried g c = λ held left last.
 pub returns-clause-carried : goal.returns-clause-carried
 returns-clause-carried g c = λ held left last.
     let outside = g.H.Host.outside in
-    let board = c.args.board.now in
-    let memory = (g.B.Board.seen board).memory in
-    let ledger = (g.B.Board.seen board).ledger in
-    let sized : c.args.image.len ≡ length c.copy_image.new.out =
-    omega (arith, c.requires.room, c.args.image.ok, ap length c.copy_image.ensures, length-append memory.flash memory.bbram, c.requires.loaded.flash, c.requires.loaded.bbram) in
-    let filled = c.deref.ensures.value ∙ filled_whole c.args.image.len c.copy_image.new.out c.args.image.items sized ∙ c.copy_image.ensures in
+    let ledger = (g.B.Board.seen c.args.board.now).ledger in
     cut_stopped held ledger.standing (use_of ledger) (outside c.args.host.now) (outside c.tell_state.new.host) c.tell_state.result
     (λ lacks. let no : false ≡ true = sym c.if-wants_memory.false ∙ c.wants_memory.ensures.1 (subst (λ (l : List Answered). AnyLacksMemory l) (sym c.answered-answered.ensures) lacks) in cc)
     (subst LastIsStopped c.answered-answered.ensures (c.last_is_stopped.ensures.0 c.if-not-last_is_stopped.false))
-    (c.tell_state.ensures.carried held ledger.standing (use_of ledger) left (last c.deref.result.now filled))
+    (c.tell_state.ensures.carried held ledger.standing (use_of ledger) left (last c.deref.result.now (c.deref.ensures.value ∙ c.held_image-after.ensures)))

@@ -1,4 +1,4 @@
-use Rattle.std.proofs.Common.{◌≡◌, true, false, length, refl, sym, ◌∙◌, ap, subst, arith, length-append}
+use Rattle.std.proofs.Common.{◌≡◌, true, false, refl, sym, ◌∙◌, ap, subst}
 use Rattle.std.specs.Prelude.{Any}
 use Rattle.mb_model.specs.declared.reply.Reply.TheVariants as reply
 use Rattle.sha2.specs.Sha256.{sha256}
@@ -6,7 +6,6 @@ use Rattle.mb_model.specs.chains.Lines.{text_of}
 use Rattle.mb_model.specs.chains.Listing.{summary}
 use Rattle.mb_model.specs.outside.Board.{Memory, image_of, use_of}
 use Rattle.mb_model.specs.memories.Meaning.{StandsFor}
-use Rattle.mb_tools_device.proofs.Buffers.{filled_whole}
 use Rattle.mb_tools_device.proofs.GenerateLemmas.{summary_lacks, summary_told}
 use Rattle.mb_tools_device.proofs.generate.summarise.Goals as goal
 
@@ -23,9 +22,7 @@ returns g c = λ past same.
     let memory = (g.B.Board.seen board).memory in
     let final = (g.B.Board.seen board).ledger.standing in
     let answered = (g.B.Board.seen board).ledger.answered in
-    let sized : c.args.image.len ≡ length c.copy_image.new.out =
-    omega (arith, c.requires.room, c.args.image.ok, ap length c.copy_image.ensures, length-append memory.flash memory.bbram, c.requires.loaded.flash, c.requires.loaded.bbram) in
-    let filled = filled_whole c.args.image.len c.copy_image.new.out c.args.image.items sized ∙ c.copy_image.ensures in
+    let filled = c.held_image-held.ensures in
     let last = c.requires.shown.0 in
     let shown = c.requires.shown.1 in
     let stands = subst (λ (m : Memory). StandsFor m.flash m.bbram last.state) c.requires.answered shown.stands in

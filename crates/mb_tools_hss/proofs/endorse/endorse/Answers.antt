@@ -17,7 +17,7 @@ unfolding endorse
 returns-in-Ok-clause-carried g c = λ final.
     let root = reads (reads begins c.in_ok-maker.ensures.read) c.in_ok-root.ensures.read in
     let signs = signed_root c.in_ok-maker.maker c.sign.new.maker c.in_ok-root.root c.key_bytes-body.result c.new-signature.result c.sign.new.out c.key_bytes-body.ensures c.new-signature.ensures.items c.in-Ok.ensures.signed in
-    root_signed _ _ _ _ _ _ _ root signs (c.write_endorsement.ensures c.in_ok-maker.maker c.in_ok-root.root signs c.in-Ok.ensures.number)
+    root_signed _ _ _ _ _ _ _ root signs (c.use_number.ensures c.in_ok-maker.maker c.in_ok-root.root signs c.in-Ok.ensures.number)
 
 pub returns-in-Err-clause-carried : goal.returns-in-Err-clause-carried
 unfolding endorse

@@ -4,4 +4,4 @@ use Rattle.mb_top.proofs.command_line.usage.Goals as goal
 
 pub returns : goal.returns
 unfolding usage
-returns c = in_three_parts _ _ _ _ _ _ _ c.new-text.ensures c.put.ensures.items c.put_rows.ensures c.put-2.ensures.items
+returns c = in_three_parts _ _ _ _ _ _ _ c.new-text.ensures c.put.ensures.items c.put_groups.ensures c.put-2.ensures.items

@@ -1,12 +1,17 @@
 use Rattle.std.proofs.Common.{◌≤◌, ℕ, List, ap, sym, subst, arith}
 use Rattle.mb_script.specs.Reading.{IsFill}
-use Rattle.mb_top.proofs.Requests.{layer_of, rounds_of, levels_of, app_layer_of, count_of, fill_of}
+use Rattle.mb_top.proofs.Requests.{takes_layer, layer_of, rounds_of, levels_of, count_of, fill_of}
 use Rattle.mb_top.proofs.commands.carry_out.Goals as goal
 
 pub countersign-requires : goal.countersign-requires
 countersign-requires g c =
-    let within = layer_of c.requires.called.0 _ _ c.in-Countersign.is c.requires.called.1 in
+    let within = layer_of c.requires.called.0 _ _ (ap takes_layer c.in-Countersign.is) c.requires.called.1 in
     grind (arith, within, ap (λ names. names.layer) c.of-in-Countersign.ensures)
+
+pub cosign-requires : goal.cosign-requires
+cosign-requires g c =
+    let within = layer_of c.requires.called.0 _ _ (ap takes_layer c.in-Cosign.is) c.requires.called.1 in
+    grind (arith, within, ap (λ names. names.layer) c.of-in-Cosign.ensures)
 
 pub generate-requires-clause-rounds : goal.generate-requires-clause-rounds
 generate-requires-clause-rounds g c =
@@ -20,7 +25,7 @@ hsskeygen-requires g c =
 
 pub app-requires : goal.app-requires
 app-requires g c =
-    let within = app_layer_of c.requires.called.0 _ _ c.in-App.is c.requires.called.1 in
+    let within = layer_of c.requires.called.0 _ _ (ap takes_layer c.in-App.is) c.requires.called.1 in
     grind (arith, within, ap (λ names. names.layer) c.of-in-App.ensures)
 
 pub cutat-requires-clause-count : goal.cutat-requires-clause-count

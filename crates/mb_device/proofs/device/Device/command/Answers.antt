@@ -13,35 +13,35 @@ use Rattle.mb_device.proofs.device.Device.command.Goals as goal
 
 pub returns-in-Off-clause-steps : goal.returns-in-Off-clause-steps
 returns-in-Off-clause-steps g c = λ world sound.
-    refuses_as c.args.self (device.Off c.in-Off.off) _ world (event.Command c.args.text.now c.args.draw.now) c.reply.result PoweredOff c.in-Off.is c.reply.ensures sound
+    refuses_as c.args.self (device.Off c.in-Off.off) _ world (event.Order c.args.text.now c.args.draw.now) c.reply.result PoweredOff c.in-Off.is c.reply.ensures sound
     (λ fits. command_refused world _ _ PoweredOff (awake_off world fits))
 
 pub returns-in-Dead-clause-steps : goal.returns-in-Dead-clause-steps
 returns-in-Dead-clause-steps g c = λ world sound.
-    refuses_as c.args.self (device.Dead c.in-Dead.dead) _ world (event.Command c.args.text.now c.args.draw.now) c.reply-in-Dead.result Zeroised c.in-Dead.is c.reply-in-Dead.ensures sound
+    refuses_as c.args.self (device.Dead c.in-Dead.dead) _ world (event.Order c.args.text.now c.args.draw.now) c.reply-in-Dead.result Zeroised c.in-Dead.is c.reply-in-Dead.ensures sound
     (λ fits. command_refused world _ _ Zeroised (awake_dead world fits))
 
 pub returns-in-Two-clause-steps : goal.returns-in-Two-clause-steps
 returns-in-Two-clause-steps g c = λ world sound.
-    refuses_as c.args.self (device.Two c.in-Two.up c.in-Two.running) _ world (event.Command c.args.text.now c.args.draw.now) c.reply-in-Two.result WrongPhase c.in-Two.is c.reply-in-Two.ensures sound
+    refuses_as c.args.self (device.Two c.in-Two.up c.in-Two.running) _ world (event.Order c.args.text.now c.args.draw.now) c.reply-in-Two.result WrongPhase c.in-Two.is c.reply-in-Two.ensures sound
     (λ fits. command_past world _ _ 2 fits.state (omega arith) (awake_at world 2 fits.state fits.phase fits.live))
 
 pub returns-in-Three-clause-steps : goal.returns-in-Three-clause-steps
 returns-in-Three-clause-steps g c = λ world sound.
-    refuses_as c.args.self (device.Three c.in-Three.up c.in-Three.running) _ world (event.Command c.args.text.now c.args.draw.now) c.reply-in-Three.result WrongPhase c.in-Three.is c.reply-in-Three.ensures sound
+    refuses_as c.args.self (device.Three c.in-Three.up c.in-Three.running) _ world (event.Order c.args.text.now c.args.draw.now) c.reply-in-Three.result WrongPhase c.in-Three.is c.reply-in-Three.ensures sound
     (λ fits. command_past world _ _ 3 fits.state (omega arith) (awake_at world 3 fits.state fits.phase fits.live))
 
 pub returns-in-Off-clause-trees : goal.returns-in-Off-clause-trees
-returns-in-Off-clause-trees g c = trees_refused c.args.self (device.Off c.in-Off.off) (device.Off c.in-Off.off) (event.Command c.args.text.now c.args.draw.now) c.reply.result PoweredOff c.in-Off.is refl c.reply.ensures
+returns-in-Off-clause-trees g c = trees_refused c.args.self (device.Off c.in-Off.off) (device.Off c.in-Off.off) (event.Order c.args.text.now c.args.draw.now) c.reply.result PoweredOff c.in-Off.is refl c.reply.ensures
 
 pub returns-in-Dead-clause-trees : goal.returns-in-Dead-clause-trees
-returns-in-Dead-clause-trees g c = trees_refused c.args.self (device.Dead c.in-Dead.dead) (device.Dead c.in-Dead.dead) (event.Command c.args.text.now c.args.draw.now) c.reply-in-Dead.result Zeroised c.in-Dead.is refl c.reply-in-Dead.ensures
+returns-in-Dead-clause-trees g c = trees_refused c.args.self (device.Dead c.in-Dead.dead) (device.Dead c.in-Dead.dead) (event.Order c.args.text.now c.args.draw.now) c.reply-in-Dead.result Zeroised c.in-Dead.is refl c.reply-in-Dead.ensures
 
 pub returns-in-Two-clause-trees : goal.returns-in-Two-clause-trees
-returns-in-Two-clause-trees g c = trees_refused c.args.self (device.Two c.in-Two.up c.in-Two.running) (device.Two c.in-Two.up c.in-Two.running) (event.Command c.args.text.now c.args.draw.now) c.reply-in-Two.result WrongPhase c.in-Two.is refl c.reply-in-Two.ensures
+returns-in-Two-clause-trees g c = trees_refused c.args.self (device.Two c.in-Two.up c.in-Two.running) (device.Two c.in-Two.up c.in-Two.running) (event.Order c.args.text.now c.args.draw.now) c.reply-in-Two.result WrongPhase c.in-Two.is refl c.reply-in-Two.ensures
 
 pub returns-in-Three-clause-trees : goal.returns-in-Three-clause-trees
-returns-in-Three-clause-trees g c = trees_refused c.args.self (device.Three c.in-Three.up c.in-Three.running) (device.Three c.in-Three.up c.in-Three.running) (event.Command c.args.text.now c.args.draw.now) c.reply-in-Three.result WrongPhase c.in-Three.is refl c.reply-in-Three.ensures
+returns-in-Three-clause-trees g c = trees_refused c.args.self (device.Three c.in-Three.up c.in-Three.running) (device.Three c.in-Three.up c.in-Three.running) (event.Order c.args.text.now c.args.draw.now) c.reply-in-Three.result WrongPhase c.in-Three.is refl c.reply-in-Three.ensures
 
 pub returns-in-Off-clause-done : goal.returns-in-Off-clause-done
 returns-in-Off-clause-done g c = refused_undone_order (device.Off c.in-Off.off) c.args.text.now c.args.draw.now c.reply.result PoweredOff c.reply.ensures

@@ -69,8 +69,8 @@ returns-in-Status-clause-trees g c =
 pub returns-in-Boot-clause-again : goal.returns-in-Boot-clause-again
 returns-in-Boot-clause-again g c = λ own. absurd (subst (λ (e : Event). HasTreeFor c.args.self e) c.in-Boot.is own)
 
-pub returns-in-Command-clause-again : goal.returns-in-Command-clause-again
-returns-in-Command-clause-again g c = λ own. absurd (subst (λ (e : Event). HasTreeFor c.args.self e) c.in-Command.is own)
+pub returns-in-Order-clause-again : goal.returns-in-Order-clause-again
+returns-in-Order-clause-again g c = λ own. absurd (subst (λ (e : Event). HasTreeFor c.args.self e) c.in-Order.is own)
 
 pub returns-in-Boot-clause-order : goal.returns-in-Boot-clause-order
 returns-in-Boot-clause-order g c = λ before world keys sound same makes. absurd (subst (λ (e : Event). MakesKeysOf world e keys) c.in-Boot.is makes)
@@ -102,8 +102,8 @@ returns-in-Drop-clause-order g c = λ before world keys sound same makes. absurd
 pub returns-in-Sign-clause-order : goal.returns-in-Sign-clause-order
 returns-in-Sign-clause-order g c = λ before world keys sound same makes. absurd (subst (λ (e : Event). MakesKeysOf world e keys) c.in-Sign.is makes)
 
-pub returns-in-Command-clause-order : goal.returns-in-Command-clause-order
-returns-in-Command-clause-order g c = λ before world keys sound same makes.
-    let at : held_in (g.B.Board.seen c.args.b.now) ≡ before = subst (λ (e : Event). held_in (g.B.Board.seen c.args.b.now) ≡ taken e before) c.in-Command.is same in
+pub returns-in-Order-clause-order : goal.returns-in-Order-clause-order
+returns-in-Order-clause-order g c = λ before world keys sound same makes.
+    let at : held_in (g.B.Board.seen c.args.b.now) ≡ before = subst (λ (e : Event). held_in (g.B.Board.seen c.args.b.now) ≡ taken e before) c.in-Order.is same in
     let own : IsSoundDevice c.args.self (held_in (g.B.Board.seen c.args.b.now)) world = subst (λ (h : Held). IsSoundDevice c.args.self h world) (sym at) sound in
-    c.command.ensures.order world keys own (makes_with world keys _ _ _ _ c.in-Command.is c.as_slice.ensures makes)
+    c.command.ensures.order world keys own (makes_with world keys _ _ _ _ c.in-Order.is c.as_slice.ensures makes)

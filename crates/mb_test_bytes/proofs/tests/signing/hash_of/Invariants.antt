@@ -1,4 +1,0 @@
-use Rattle.mb_test_bytes.proofs.tests.signing.hash_of.Given as goal
-
-abbrev pub ghosts-hash_counted : goal.ghosts-hash_counted
-ghosts-hash_counted a = record { name = a.blank.name; parts = a.blank.parts }

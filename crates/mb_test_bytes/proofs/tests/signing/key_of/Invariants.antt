@@ -1,4 +1,0 @@
-use Rattle.mb_test_bytes.proofs.tests.signing.key_of.Given as goal
-
-abbrev pub ghosts-key_counted : goal.ghosts-key_counted
-ghosts-key_counted a = record { name = a.blank.name; parts = a.blank.parts }

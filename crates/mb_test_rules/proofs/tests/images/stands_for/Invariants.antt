@@ -1,4 +1,0 @@
-use Rattle.mb_test_rules.proofs.tests.images.stands_for.Given as goal
-
-abbrev pub ghosts-answer_counted : goal.ghosts-answer_counted
-ghosts-answer_counted a = record { name = a.blank.name; parts = a.blank.parts }

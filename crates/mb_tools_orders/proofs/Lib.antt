@@ -1,0 +1,4 @@
+pub mod Showing
+pub mod Telling
+pub mod AlikeOrders
+pub mod NamedSignatures
