@@ -38,7 +38,7 @@ def reports_of(reports):
     living = life(EPOCH, True, (4, (first, two, three)), (5, (one, two, three)), (6, (one, two, three)))
     ended = life(EPOCH, False, *((at, (one, m, three)) for at, m in zip((7, 8, 9), (unreliable, bare, Layer()))))
     configured = life(CONFIGURATION, True, (5, (one, two)))
-    return {"": (living, None), "Ended": (ended, None), "Configured": (configured, b"today")}
+    return {"Living": (living, None), "Ended": (ended, None), "Configured": (configured, b"today")}
 
 
 def come_to(report, text):
@@ -57,24 +57,29 @@ def come_to(report, text):
 
 def judgements(source):
     """The policies of the tables, and what each comes to for its report."""
-    reports = reports_of(Source(source.root, source.name.replace("judgements", "reports")))
-    sets = source.constant("SETS")
-
-    def compare(whose, text, expected):
-        source.compare(f"policy {text}", come_to(reports[whose], unescaped(text)), expected)
-
-    def rows(name, pattern):
+    reports, sets = judged_reports(source), source.constant("SETS")
+    ((listed,),) = source.rows(r"const POLICIES: .*? = &\[\n(.*?)\n\];")
+    for whose, begins, name in re.findall(r'\("\w+", (\w+), (SETS|""), (\w+)\)', listed):
         ((table,),) = source.rows(rf"const {name}: .*? = &\[\n(.*?)\n\];")
-        return re.findall(rf"\(\s*{pattern},\s*{EXPECTED},?\s*\)", table)
+        for lines, expected in re.findall(rf"\(\s*{TEXT},\s*{EXPECTED},?\s*\)", table):
+            text = (sets if begins == "SETS" else "") + lines
+            source.compare(f"policy {text}", come_to(reports[whose], unescaped(text)), expected)
 
-    for lines, expected in rows("AFTER_SETS", TEXT):
-        compare("", sets + lines, expected)
-    for whose, lines, expected in rows("OTHER_REPORTS", rf"(\w+),\s*{TEXT}"):
-        compare(whose, sets + lines, expected)
-    for times, word, others, end, expected in rows("NESTED", rf"(\d+),\s*{TEXT},\s*(\d+),\s*{TEXT}"):
-        compare("", f"{sets}allow r {word * int(times)}{'alive ' * int(others)}{end}", expected)
-    for text, expected in rows("WHOLE", TEXT) + rows("MORE", TEXT):
-        compare("", text, expected)
+
+def large_policies(source):
+    """The policies that stand in pieces, each so many times, and what each comes to for the key that is alive."""
+    judged = Source(source.root, source.name.replace("large", "judgements"))
+    living, sets = judged_reports(judged)["Living"], judged.constant("SETS")
+    ((listed,),) = source.rows(r"const LARGE: .*? = &\[\n(.*?)\n\];")
+    for name, pieces, expected in re.findall(rf"\(\s*{TEXT},\s*&\[(.*?)\],\s*{EXPECTED},\s*\)", listed, re.DOTALL):
+        text = ""
+        for piece, times in re.findall(r'\(("[^"]*"|\w+), (\d+)\)', pieces):
+            text += (sets if piece == "SETS" else source.argument(piece)) * int(times)
+        source.compare(f"a policy of {name}", come_to(living, unescaped(text)), expected)
+
+
+def judged_reports(source):
+    return reports_of(Source(source.root, source.name.replace("judgements", "reports")))
 
 
 # ---- registers

@@ -6,7 +6,7 @@ import chains
 import device
 from lms import PrivateKey, sha256, u8, u16, u32
 from officer import Officer, body, countersigned_text, order, signed_text
-from sources import HEX, line_of, unhex, verifies
+from sources import HEX, TEXT, line_of, unhex, verifies
 from workload import served, workload
 
 
@@ -46,35 +46,20 @@ def key_files(source):
 
 
 def officers_orders(source):
-    ((by, beside),) = source.rows(rf"fn signer\(\).*?{HEX}.*?fn countersigner\(\).*?{HEX}")
-    for test in source.text.split("#[test]")[1:]:
-        name = re.search(r"fn (\w+)", test)[1]
-        drafted = re.search(rf'drafted\([^"]*b"(.*?)",\s*{HEX}', test, re.DOTALL)
-        hashes = re.findall(r'signs\([^"]*"([0-9a-f]{64})"', test)
-        if not drafted or not hashes:
-            continue
-        source.seen.update([drafted[2], *hashes])
-        text = body(line_of(drafted[1]))
-        source.compare(f"{name}, body", text.hex(), drafted[2])
-        signature = Officer(*unhex(by)).sign(signed_text(text))
-        source.compare(f"{name}, signed", sha256(order(text, signature)).hex(), hashes[0])
-        if len(hashes) > 1:
+    """The bodies of drafts, and the hashes of their orders once these are signed, and once they are countersigned."""
+    by, beside = (source.constant(name) for name in ("SIGNER", "COUNTERSIGNER"))
+    hashes = [rf"{name}: (?:None|Some\(\s*{HEX},?\s*\))" for name in ("signed", "countersigned")]
+    rows = source.rows(rf"Row {{\s*draft: {TEXT},\s*body: {HEX},\s*{hashes[0]},\s*{hashes[1]},\s*}}")
+    for draft, wanted, signed, countersigned in rows:
+        text = body(line_of(draft))
+        source.compare(f"body of {draft}", text.hex(), wanted)
+        if signed:
+            signature = Officer(*unhex(by)).sign(signed_text(text))
+            source.compare(f"{draft}, signed", sha256(order(text, signature)).hex(), signed)
+        if countersigned:
             by_three = Officer(*unhex(beside)).sign(countersigned_text(3, text))
             found = sha256(order(text, signature, [(3, by_three)])).hex()
-            source.compare(f"{name}, countersigned", found, hashes[1])
-    drafts_with_trusts(source, by)
-
-
-def drafts_with_trusts(source, by):
-    """Drafts whose bodies stand beside them, and those that are signed by the hash of the order."""
-    ((rows,),) = source.rows(r"const BODIES: [^=]*= &\[(.*?)\n\];")
-    for draft, wanted in re.findall(rf'\(\s*"([^"]*)",\s*{HEX},?\s*\)', rows):
-        source.compare("body of a draft", body(line_of(draft)).hex(), wanted)
-        source.seen.add(wanted)
-    for draft, wanted in source.rows(rf'signs_draft\(\s*[^"]*"([^"]*)",\s*{HEX}'):
-        text = body(line_of(draft))
-        signature = Officer(*unhex(by)).sign(signed_text(text))
-        source.compare("order of a draft", sha256(order(text, signature)).hex(), wanted)
+            source.compare(f"{draft}, countersigned", found, countersigned)
 
 
 def workloads(source):
