@@ -71,7 +71,7 @@ to_stored names state code input past e runs stored empty (inl (ending, run, tol
 to_stored names state code input past e runs stored empty (inr wants) = inl (runs, inr wants)
 
 third : (names : AppNames) → names.layer ≡ 3 → names ≡ record names { layer = 3 }
-third names is = cc
+third names is = ap (λ (n : ℕ). record names { layer = n }) is
 
 pub appcode_runs_as_app : AppcodeRunsAsApp
 appcode_runs_as_app names state code input past e layer runs stored empty =

@@ -1,5 +1,5 @@
 -- The text of `devices` tells all but the hashes of entries.
-use Rattle.std.proofs.Common.{◌≡◌, ◌≢◌, ℕ, zero, suc, ◌+◌, ◌%◌, ◌<◌, ◌^◌, List, [], ◌∷◌, ◌++◌, length, map, Option, Some, None, true, false, true≢false, inl, inr, refl, sym, ap, subst, ◌∙◌, arith, append_assoc}
+use Rattle.std.proofs.Common.{◌≡◌, ◌≢◌, ℕ, zero, suc, ◌+◌, ◌%◌, ◌<◌, ◌^◌, List, [], ◌∷◌, ◌++◌, length, map, Option, Some, None, true, false, true≢false, inl, inr, refl, sym, ap, subst, ◌∙◌, arith, rules, append_assoc}
 use Rattle.std.specs.Prelude.{codes}
 use Rattle.std.specs.Fmt.{decimal}
 use Rattle.std.specs.List.{AllByRecursion}
@@ -104,7 +104,7 @@ lf_apart : IsApart 10
 lf_apart = (refl, λ e. omega (arith, e))
 
 same_code : (a b : CodeHashes) → a.one ≡ b.one → a.two ≡ b.two → a.three ≡ b.three → a ≡ b
-same_code a b one two three = cc
+same_code a b one two three = search (rules, one, two, three)
 
 same_shown : (row other : Row) → row.serial ≡ other.serial → length row.hashes ≡ length other.hashes → row.number ≡ other.number → row.code ≡ other.code
     → shown_of row ≡ shown_of other
@@ -212,8 +212,8 @@ count_then n text = refl
 told : (first second : List ℕ) (rows others : List Row) → IsBytes first → IsBytes second → Spells register_format first rows → Spells register_format second others
     → text_of (devices_lines rows) ≡ text_of (devices_lines others) → map shown_of rows ≡ map shown_of others
 told first second rows others are that spelled other e =
-    let begun = append_cancel_left (codes "devices ") _ _ (sym (count_then (length rows) (text_of (map row_line rows))) ∙ sym (line_then _ (map row_line rows)) ∙ e
-        ∙ line_then _ (map row_line others) ∙ count_then (length others) (text_of (map row_line others))) in
+    let begun = append_cancel_left (codes "devices ") _ _ (sym (count_then (length rows) (text_of (map row_line rows))) ∙ sym (line_then (spaced_words (codes "devices" ∷ decimal (length rows) ∷ [])) (map row_line rows)) ∙ e
+        ∙ line_then (spaced_words (codes "devices" ∷ decimal (length others) ∷ [])) (map row_line others) ∙ count_then (length others) (text_of (map row_line others))) in
     let parts = first_same 10 (decimal (length rows)) (decimal (length others)) _ _ (decimal_without (length rows) (few_rows first rows spelled)) (decimal_without (length others) (few_rows second others other)) begun in
     rows_same rows others (register_told first rows are spelled) (register_told second others that other) parts.1
 

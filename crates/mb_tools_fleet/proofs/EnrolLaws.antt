@@ -249,7 +249,7 @@ one_ends names files shown e seen (inr (root, root_read, (maker, root_is, inr (r
 one_ends names files shown e seen (inr (root, root_read, (maker, root_is, inr (register, register_read, (rows, register_is, inr (chain, chain_read, (whole, chain_is, inr wants))))))) =
     absurd (never_lacks at_first (late e) seen.complete wants)
 one_ends names files shown e seen (inr (root, root_read, (maker, root_is, inr (register, register_read, (rows, register_is, inr (chain, chain_read, (whole, chain_is, inl (done, answered, ends)))))))) =
-    let late_seen : IsSeen files shown (late e) = record { complete = seen.complete; well = seen.well; files_are = seen.files_are; shown_is = seen.shown_is } in
+    let late_seen : IsSeen files shown (late e) = record { complete = seen.complete; well = record { read = seen.well.read; write = seen.well.write }; files_are = seen.files_are; shown_is = seen.shown_is } in
     let tells = answer_tells names.register rows done.after files shown at_first (late e) done.answer late_seen ends (answer_changes maker rows whole done.answer done.after answered) in
     shown_item names files shown e maker rows root register chain whole done (root_read.held files seen.files_are) (register_read.held files seen.files_are)
     (chain_read.held files seen.files_are) root_is register_is chain_is answered

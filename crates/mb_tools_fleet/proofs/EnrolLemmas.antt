@@ -1,5 +1,5 @@
 -- What carries out `enrol`, `register` and `devices`.
-use Rattle.std.proofs.Common.{◌≡◌, ℕ, ◌⊎◌, inl, inr, List, [], ◌∷◌, false, Option, Some, Result, Err, refl, sym, ap, subst, ◌∙◌}
+use Rattle.std.proofs.Common.{◌≡◌, ℕ, ◌⊎◌, inl, inr, List, [], ◌∷◌, codes, false, Option, Some, Result, Err, refl, sym, ap, subst, ◌∙◌}
 use Rattle.std.proofs.lemmas.Option.{same_Some}
 use Rattle.mb_model.specs.outside.Board.{Held, Used, not_used}
 use Rattle.mb_model.specs.outside.Texts.{line_with_lf}
@@ -63,9 +63,9 @@ pub chain_not_taken : {used : Used} {final : Held} {whole : Command} {past : Pas
 chain_not_taken after (fleet.Chain refusal) why leads (reason, is, answered) tells none kept =
     chain_refused_so after (chain_refusal_of refusal) reason why leads is answered tells kept
 chain_not_taken after (fleet.Older serial have) why leads answered tells none kept =
-    refused_or_lacks why _ serial have leads (λ refuses. is_refused (finds leads (record { answer = older serial have; after = after }) answered) kept why refuses) tells none kept
+    refused_or_lacks why (codes "refused 31 older") serial have leads (λ refuses. is_refused (finds leads (record { answer = older serial have; after = after }) answered) kept why refuses) tells none kept
 chain_not_taken after (fleet.Fork serial place) why leads answered tells none kept =
-    refused_or_lacks why _ serial place leads (λ refuses. is_refused (finds leads (record { answer = forked serial place; after = after }) answered) kept why refuses) tells none kept
+    refused_or_lacks why (codes "refused 30 fork") serial place leads (λ refuses. is_refused (finds leads (record { answer = forked serial place; after = after }) answered) kept why refuses) tells none kept
 chain_not_taken after fleet.Full why leads answered tells none kept =
     is_refused (finds leads (record { answer = full; after = after }) answered) kept why tells
 chain_not_taken after fleet.NoMemory why leads answered tells none kept = lacks_so why leads tells none kept
@@ -82,6 +82,14 @@ pub same_told : (line text : List ℕ) (before now : Outside) (result : Result (
 unfolding writes
 same_told line text before now result is carried = λ final.
     (subst (λ (t : List ℕ). CarriesOutAfter (print t) before result now) is carried) at_first final
+
+-- the answer `same` is told without a write
+pub same_added : (name : List ℕ) (after : List Row) (added : Added) (serial : List ℕ) (n : ℕ) (text : List ℕ) (before now : Outside) (result : Result (Unit {0}) End)
+    → added ≡ shown.Same serial n → text ≡ line_with_lf (answer_line (answer_of added)) → CarriesOutAfter (writes [] (print text)) before result now
+    → CarriesOut (tell_answer name after (answer_of added)) before result now
+same_added name after added serial n text before now result is text_is carried =
+    subst (λ (a : Added). CarriesOut (tell_answer name after (answer_of a)) before result now) (sym is)
+    (same_told (answer_line (answer_of (shown.Same serial n))) text before now result (text_is ∙ ap (λ (a : Added). line_with_lf (answer_line (answer_of a))) is) carried)
 
 abbrev pub register_output : List ℕ → List Row → Output
 register_output name after = record { role = role.Register; name = name; bytes = register_format.spelling after }
