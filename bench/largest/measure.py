@@ -419,7 +419,7 @@ def measure(calls, command, what, most, made):
 def commands_of(program):
     """The names of the commands that the program has."""
     told = subprocess.run([program, "--help"], capture_output=True, text=True, check=True).stdout
-    return {line.split(" ")[3] for line in told.splitlines() if line.startswith("  miniboot ")}
+    return {line.split(" ")[3] for line in told.splitlines() if line.startswith("  miniboot ") and " --" not in line}
 
 
 def main(program, folder, *wanted):

@@ -213,7 +213,7 @@ told : (first second : List ℕ) (rows others : List Row) → IsBytes first → 
     → text_of (devices_lines rows) ≡ text_of (devices_lines others) → map shown_of rows ≡ map shown_of others
 told first second rows others are that spelled other e =
     let begun = append_cancel_left (codes "devices ") _ _ (sym (count_then (length rows) (text_of (map row_line rows))) ∙ sym (line_then (spaced_words (codes "devices" ∷ decimal (length rows) ∷ [])) (map row_line rows)) ∙ e
-        ∙ line_then (spaced_words (codes "devices" ∷ decimal (length others) ∷ [])) (map row_line others) ∙ count_then (length others) (text_of (map row_line others))) in
+    ∙ line_then (spaced_words (codes "devices" ∷ decimal (length others) ∷ [])) (map row_line others) ∙ count_then (length others) (text_of (map row_line others))) in
     let parts = first_same 10 (decimal (length rows)) (decimal (length others)) _ _ (decimal_without (length rows) (few_rows first rows spelled)) (decimal_without (length others) (few_rows second others other)) begun in
     rows_same rows others (register_told first rows are spelled) (register_told second others that other) parts.1
 

@@ -136,12 +136,15 @@ written_tells name line rows after files shown e mid writes prints files_are is 
     let left = writes.others files files_are in
     record {
       printed = line_shown line shown mid e.after prints (ap (λ (o : Outside). o.printed) writes.stays ∙ is);
-      kept = inr (other, record {
-        left = left.0;
-        files_are = files_stay line mid e.after prints ∙ left.1;
-        written = writes.holds left.0 left.1;
-        others = left.2;
-      });
+      kept = inr (
+        other,
+        record {
+          left = left.0;
+          files_are = files_stay line mid e.after prints ∙ left.1;
+          written = writes.holds left.0 left.1;
+          others = left.2;
+        },
+      );
     }
 
 print_tells : (name line : List ℕ) (rows after : List Row) (files : List ℕ → Option (List ℕ)) (shown : List ℕ) (past : Past) (e : Ended) → IsComplete e

@@ -31,11 +31,7 @@ impl<'a> RegisterNames<'a> {
 }
 
 /// Writes a register without devices, and prints what it shows.
-pub fn register<H: Host>(
-    alloc: Global,
-    names: &RegisterNames<'_>,
-    host: &mut H,
-) -> Result<(), End>
+pub fn register<H: Host>(alloc: Global, names: &RegisterNames<'_>, host: &mut H) -> Result<(), End>
     ensures { CarriesOut (register (register_files names.now)) (H.outside host.old) result (H.outside host.new) }
 {
     let fleet = Fleet::new(alloc);

@@ -3,9 +3,7 @@
 
 use super::births::{owned, owned_device_goes_through};
 use super::fleet::{FILES, REGISTER, REGISTER_FIELDS};
-use super::{
-    A_NEW_DEVICE, A_WHOLE_LIFE, Part, Play, ShortFile, Step, Told, go_on, perform, store,
-};
+use super::{A_NEW_DEVICE, A_WHOLE_LIFE, Part, Play, ShortFile, Step, Told, go_on, perform, store};
 use std::alloc::Global;
 use std::test::Fail;
 
@@ -37,7 +35,11 @@ const EXTENDED_AND_OLDER: &[Step] = &[
         ba7816bf8f01cfea414140de5dae2223b00361a396177a9cb410ff61f20015ad \
         cb8379ac2098aa165029e3938a51da0bcecfc008fd6795f401178647f96c5b34\n",
     ),
-    Step::Ends("enrol public0 register six", 0, "same c10b471ceff881272aa5ed819fd9a0e0 6\n"),
+    Step::Ends(
+        "enrol public0 register six",
+        0,
+        "same c10b471ceff881272aa5ed819fd9a0e0 6\n",
+    ),
     Step::Ends(
         "enrol public0 register chain",
         0,
@@ -244,7 +246,8 @@ const FIELDS_ARE_MISSING: &[Play] = &[Play {
 
 /// What stands after the serial of each device: no code, and one entry.
 const A_ROW: [u8; 41] = [
-    0, 0, 0, 0, 0, 0, 0, 0, 1, 7, 7, 7, 7, 7, 7, 7, 7, 7, 7, 7, 7, 7, 7, 7, 7, 7, 7, 7, 7, 7, 7, 7, 7, 7, 7, 7, 7, 7, 7, 7, 7,
+    0, 0, 0, 0, 0, 0, 0, 0, 1, 7, 7, 7, 7, 7, 7, 7, 7, 7, 7, 7, 7, 7, 7, 7, 7, 7, 7, 7, 7, 7, 7, 7,
+    7, 7, 7, 7, 7, 7, 7, 7, 7,
 ];
 
 /// A register of as many devices as there can be.

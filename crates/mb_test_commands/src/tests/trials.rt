@@ -77,11 +77,7 @@ const ENDS: &[Step] = &[
     Step::Ends("appcode asks nothing 1000", 0, "halted 5 ff\n"),
     Step::Ends("appcode beneath nothing 1000", 7, "trap 6 10 -\n"),
     Step::Ends("appcode many nine 12290", 7, "trap 7 5 41414141*\n"),
-    Step::Ends(
-        "appcode many nine 12289",
-        7,
-        "out of steps 41414141*\n",
-    ),
+    Step::Ends("appcode many nine 12289", 7, "out of steps 41414141*\n"),
     Step::Ends("appcode nothing nothing 1", 7, "trap 1 0 -\n"),
     Step::Ends("appcode halts nothing 1", 0, "halted 1 -\n"),
 ];
