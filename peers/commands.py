@@ -417,7 +417,17 @@ def app(call, image, layer, input_, steps):
         raise Ended(7, "refused 4 layer")
     regions = [m for m in range(at, 4) if machine.standing(state.judged, m) == "runnable"]
     secrets = {m: {name: value for name, value, _ in state.region(m).secrets} for m in regions}
-    line, is_halted = applications.run(state.codes[at - 1], given, secrets, most)
+    return told_end(state.codes[at - 1], given, secrets, most)
+
+
+def appcode(call, code, input_, steps):
+    most = number(steps, 1, MOST_STEPS)
+    return told_end(call.code(code), call.read("input", input_), {3: {}}, most)
+
+
+def told_end(code, given, secrets, most):
+    """The line of a run, which is a refusal if the run does not halt."""
+    line, is_halted = applications.run(code, given, secrets, most)
     if not is_halted:
         raise Ended(7, line)
     return [line]
@@ -468,7 +478,11 @@ COMMANDS = {
     "endorsed": (endorsed, 3),
     "trust": (policies.trust, 4),
     "fleet": (fleet.fleet, 3),
+    "register": (fleet.register, 1),
+    "enrol": (fleet.enrol, 3),
+    "devices": (fleet.devices, 1),
     "app": (app, 4),
+    "appcode": (appcode, 3),
     "asm": (asm, 2),
     "disasm": (disasm, 2),
 }

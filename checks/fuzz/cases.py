@@ -48,7 +48,11 @@ SHARES = {
     "endorsed": 8,
     "trust": 9,
     "fleet": 8,
+    "register": 1,
+    "enrol": 6,
+    "devices": 3,
     "app": 10,
+    "appcode": 5,
     "asm": 5,
     "disasm": 5,
 }

@@ -40,7 +40,7 @@ LINES = [
     *(f"read failed {role}" for role in INPUTS),
     *(f"write failed {role}" for role in OUTPUTS),
     *(f"refused {code} N" for code in (20, 21, 22, 23)),
-    *(f"refused {code}" for code in (24, 25, 26, 27, 28)),
+    *(f"refused {code}" for code in (24, 25, 26, 27, 28, 30, 31, 32)),
     *("refused 4 layer", "denied N RULE", "out of steps", *(f"trap {cause} N" for cause in range(1, 9))),
     *("zeroised", "differs", "has statement", "not countersignable", "spent"),
 ]
@@ -211,7 +211,7 @@ class Counts:
             self.lines[kind_of_line(line)] += 1
         elif case.command == "run":
             self.replies.update(map(kind_of_reply, printed.splitlines()))
-        elif case.command == "fleet":
+        elif case.command in ("fleet", "enrol"):
             self.answers.update(filter(None, map(kind_of_answer, printed.splitlines())))
         elif case.command == "cutat":
             self.verdicts.update(printed.splitlines())
@@ -241,13 +241,14 @@ class Counts:
 def kind_of_line(line):
     """A line with N for its numbers, without the bytes that a code emits."""
     line = re.sub(r"^(refused 2[0-3]|input \S+ at|input \S+ line) \d+$", r"\1 N", line)
+    line = re.sub(r"^(refused 3[0-2]) .*", r"\1", line)
     line = re.sub(r"^denied \d+ .*", "denied N RULE", line)
     line = re.sub(r"^(trap \d) \d+ .*", r"\1 N", line)
     return re.sub(r"^out of steps .*", "out of steps", line)
 
 
 def kind_of_answer(line):
-    """The kind of an answer of `fleet`, or None of a line that goes on with one."""
+    """The kind of an answer of a register, or None of a line that goes on with one."""
     words = line.split(" ")
     if words[0] == "refused":
         return " ".join(words[:2])

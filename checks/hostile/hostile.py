@@ -114,10 +114,19 @@ FLEET = Command(
     (("root", "root"), ("register", "register"), ("items", "items")),
     (("register", "register"),),
 )
+REGISTER = Command("register out", (), (("out", "out"),))
+ENROL = Command(
+    "enrol root register chain",
+    (("root", "root"), ("register", "register"), ("chain", "chain")),
+    (("register", "register"),),
+)
+DEVICES = Command("devices register", (("register", "register"),))
+APPCODE = Command("appcode halting input 100", (("code", "halting"), ("input", "input")))
 LEAST_NOISE = {RUN: 32, REHEARSE: 0, CUTAT: 32, FACTORY: 48, KEYGEN: 32, HSSKEYGEN: 32}
 # those whose short inputs end as peers/commands.py predicts
 PREDICTED = (
-    *(HSSKEYGEN, ENDORSE, ENDORSED, TRUST, APP, ASM, DISASM, FLEET),
+    *(HSSKEYGEN, ENDORSE, ENDORSED, TRUST, APP, APPCODE, ASM, DISASM),
+    *(FLEET, REGISTER, ENROL, DEVICES),
     *(COSIGN, SHOWORDER, ORDERED, SHOWKEY, SHOWMAKER),
 )
 COMMANDS = (
@@ -173,6 +182,7 @@ def tools_files(files):
         "endorsement": maker.endorse(32, root),
         "policy": f"# a policy\nset known {code} {code}\nallow all and kind epoch not code 1 known\n".encode(),
         "coded": coded(files["image"]),
+        "halting": CODE,
         "input": b"what the code is given",
         "text": text.encode(),
         "register": fleet.spelled({bytes(16): fleet.Row(3, (bytes(32), None, None), (bytes(32), bytes(32)))}),
@@ -217,8 +227,10 @@ def calls_fail(files):
         for role, name in command.reads:
             for what in "gone", "folder":
                 yield Trial(command, ((name, what),), (4, f"read failed {role}\n"))
-        # before the shortest of these outputs, no more room
+        # no more room than before the shortest of these outputs ends, but room for the outputs before it
         room = {"key": 10, "image": 1_000, "out": 100, "register": 100}
+        if len(command.writes) == 1:
+            room = dict.fromkeys(room, 5)
         for number, (role, name) in enumerate(command.writes):
             wanted = 5, f"write failed {role}\n"
             if (role, name) not in command.reads:

@@ -109,6 +109,13 @@ impl Fleet {
         self.indexes.codes(alloc, layer)
     }
 
+    /// The rows, in ascending serials.
+    pub fn rows(&self) -> &[Row]
+        ensures { result.now ≡ self.now }
+    {
+        self.rows.as_slice()
+    }
+
     /// Takes a row, if it is new or extends the one of its device.
     fn meet(&mut self, alloc: Global, row: Row) -> Result<Added, FleetEnd>
         requires { HasFewEntries row }

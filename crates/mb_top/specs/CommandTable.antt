@@ -78,6 +78,12 @@ commands =
     ∷ row command.Trust (codes "trust") (a_file ∷ a_file ∷ a_number 0 4294967295 ∷ a_file ∷ [])
     -- endorsed PUBLIC ROOT ENDORSEMENT
     ∷ row command.Endorsed (codes "endorsed") (a_file ∷ a_file ∷ a_file ∷ [])
+    -- register OUT
+    ∷ row command.Register (codes "register") (a_file ∷ [])
+    -- enrol ROOT REGISTER CHAIN
+    ∷ row command.Enrol (codes "enrol") (a_file ∷ a_file ∷ a_file ∷ [])
+    -- devices REGISTER
+    ∷ row command.Devices (codes "devices") (a_file ∷ [])
     -- fleet ROOT REGISTER ITEMS
     ∷ row command.Fleet (codes "fleet") (a_file ∷ a_file ∷ a_file ∷ [])
     -- ---- to write applications
@@ -85,6 +91,8 @@ commands =
     ∷ row command.Asm (codes "asm") (a_file ∷ a_file ∷ [])
     -- disasm CODE OUT
     ∷ row command.Disasm (codes "disasm") (a_file ∷ a_file ∷ [])
+    -- appcode CODE INPUT STEPS
+    ∷ row command.Appcode (codes "appcode") (a_file ∷ a_file ∷ a_number 1 10000000 ∷ [])
     -- app IMAGE LAYER INPUT STEPS
     ∷ row command.App (codes "app") (a_file ∷ a_number 2 3 ∷ a_file ∷ a_number 1 10000000 ∷ [])
     ∷ []

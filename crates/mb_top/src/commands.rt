@@ -22,13 +22,17 @@ use mb_tools::migrate::{MigrateNames, migrate};
 use mb_tools::sign::{CountersignNames, SignNames, countersign, sign};
 use mb_tools::verify::{VerifyNames, verify};
 use mb_tools_app::app::{AppNames, app};
+use mb_tools_app::appcode::{AppcodeNames, appcode};
 use mb_tools_app::asm::{AsmNames, asm};
 use mb_tools_app::disasm::{DisasmNames, disasm};
 use mb_tools_device::cutat::{CutNames, cutat};
 use mb_tools_device::generate::{GenerateNames, generate};
 use mb_tools_device::rehearse::rehearse;
 use mb_tools_device::run::{RunNames, run};
+use mb_tools_fleet::devices::{DevicesNames, devices};
+use mb_tools_fleet::enrol::{EnrolNames, enrol};
 use mb_tools_fleet::fleet::{FleetNames, fleet};
+use mb_tools_fleet::register::{RegisterNames, register};
 use mb_tools_hss::endorse::{EndorseNames, endorse};
 use mb_tools_hss::endorsed::{EndorsedNames, endorsed};
 use mb_tools_hss::hsskeygen::{HsskeygenNames, hsskeygen};
@@ -118,6 +122,9 @@ fn carry_out<H: Host, B: Board, L: Ledger>(
         Command::Chain => chain(alloc, &ChainNames::of(given), host, hashes),
         Command::Attach => attach(alloc, &AttachNames::of(given), host),
         Command::Fleet => fleet(alloc, &FleetNames::of(given), host),
+        Command::Register => register(alloc, &RegisterNames::of(given), host),
+        Command::Enrol => enrol(alloc, &EnrolNames::of(given), host),
+        Command::Devices => devices(alloc, &DevicesNames::of(given), host),
         Command::Factory => factory(alloc, &FactoryNames::of(given), host, hashes),
         Command::Keygen => keygen(alloc, &KeygenNames::of(given), host, hashes),
         Command::Showkey => showkey(alloc, &ShowKeyNames::of(given), host, hashes),
@@ -132,6 +139,7 @@ fn carry_out<H: Host, B: Board, L: Ledger>(
         Command::Endorsed => endorsed(alloc, &EndorsedNames::of(given), host),
         Command::Migrate => migrate(alloc, &MigrateNames::of(given), host, hashes),
         Command::App => app(alloc, &AppNames::of(given), host, hashes),
+        Command::Appcode => appcode(alloc, &AppcodeNames::of(given), host),
         Command::Asm => asm(alloc, &AsmNames::of(given), host),
         Command::Disasm => disasm(alloc, &DisasmNames::of(given), host),
         Command::Generate => generate(alloc, &GenerateNames::of(given), host, board, hashes),

@@ -38,9 +38,13 @@ pub enum Command {
     Audit,
     Trust,
     Endorsed,
+    Register,
+    Enrol,
+    Devices,
     Fleet,
     Asm,
     Disasm,
+    Appcode,
     App,
 }
 
@@ -345,6 +349,28 @@ pub const GROUPS: [Group; 5] = [
       verifies the endorsement of the public key in ROOT under the public key of a maker's HSS key",
             ),
             (
+                Command::Register,
+                "register",
+                &[OUT],
+                "
+      writes a register of no devices, and prints how many that has",
+            ),
+            (
+                Command::Enrol,
+                "enrol",
+                &[ROOT, REGISTER, CHAIN],
+                "
+      shows a register of the maker's devices one chain, writes the register if it changes, and prints the
+      answer",
+            ),
+            (
+                Command::Devices,
+                "devices",
+                &[REGISTER],
+                "
+      lists the devices of a register, with what each has shown last",
+            ),
+            (
                 Command::Fleet,
                 "fleet",
                 &[ROOT, REGISTER, ITEMS],
@@ -370,6 +396,14 @@ pub const GROUPS: [Group; 5] = [
                 &[CODE, OUT],
                 "
       lists the code, writes its text, and prints how many lines that has",
+            ),
+            (
+                Command::Appcode,
+                "appcode",
+                &[CODE, INPUT, STEPS],
+                "
+      runs the code on the bytes of INPUT for at most STEPS steps, 1 to 10,000,000, as layer 3 of a device
+      without secrets, and prints how it ends",
             ),
             (
                 Command::App,

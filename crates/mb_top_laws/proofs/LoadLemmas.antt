@@ -38,10 +38,16 @@ use Rattle.mb_tools_hss.specs.Names.{hsskeygen_given, showmaker_given, endorse_g
 use Rattle.mb_tools_policy.specs.TrustCommand.{TrustNames, trust, tell_judgement, judge_verdict}
 use Rattle.mb_tools_policy.specs.Names.{trust_given}
 use Rattle.mb_tools_app.specs.AppCommand.{AppNames, app, run_stored_code, tell_end}
+use Rattle.mb_tools_app.specs.AppcodeCommand.{AppcodeNames, appcode}
 use Rattle.mb_tools_app.specs.AssemblyCommands.{AsmNames, DisasmNames, asm, disasm}
-use Rattle.mb_tools_app.specs.Names.{app_given, asm_given, disasm_given}
+use Rattle.mb_tools_app.specs.Names.{app_given, appcode_given, asm_given, disasm_given}
+use Rattle.mb_fleet.specs.declared.row.Row.{Row}
+use Rattle.mb_fleet.specs.Showing as answers
+use Rattle.mb_fleet.specs.Showing.{Answer}
+use Rattle.mb_tools_fleet.specs.EnrolCommand.{EnrolNames, enrol, tell_answer}
+use Rattle.mb_tools_fleet.specs.RegisterCommands.{RegisterNames, DevicesNames, register, devices}
 use Rattle.mb_tools_fleet.specs.FleetCommand.{FleetNames, FleetOutcome, all_served, text_too_long, keep_register, fleet}
-use Rattle.mb_tools_fleet.specs.FleetWords.{fleet_given}
+use Rattle.mb_tools_fleet.specs.FleetWords.{fleet_given, register_given, enrol_given, devices_given}
 use Rattle.mb_tools_shown.specs.HistoryCommand.{HistoryNames, Finding, has_history, is_untold, history, tell_history}
 use Rattle.mb_tools_shown.specs.ShowimageCommand.{ShowimageNames, showimage, show_device}
 use Rattle.mb_tools_shown.specs.Names.{history_given, showimage_given}
@@ -253,6 +259,32 @@ never_history : (names : HistoryNames) → NeverLoads (history names)
 unfolding history NeverLoads
 never_history names = λ maker bytes finding. never_history_told finding
 
+never_register : (names : RegisterNames) → NeverLoads (register names)
+unfolding register NeverLoads
+never_register names = tt
+
+never_told : (name : List ℕ) (after : List Row) (answer : Answer) → NeverLoads (tell_answer name after answer)
+unfolding NeverLoads
+never_told name after (answers.newly_added serial n) = tt
+never_told name after (answers.same serial n) = tt
+never_told name after (answers.extended serial n) = tt
+never_told name after (answers.chain_refused why) = tt
+never_told name after (answers.older serial have) = tt
+never_told name after (answers.forked serial place) = tt
+never_told name after answers.full = tt
+
+never_enrol : (names : EnrolNames) → NeverLoads (enrol names)
+unfolding enrol NeverLoads
+never_enrol names = λ maker rows chain enrolment. never_told names.register enrolment.after enrolment.answer
+
+never_devices : (names : DevicesNames) → NeverLoads (devices names)
+unfolding devices NeverLoads
+never_devices names = λ rows. tt
+
+never_appcode : (names : AppcodeNames) → NeverLoads (appcode names)
+unfolding appcode NeverLoads
+never_appcode names = λ code input ending. never_ended ending
+
 pub all_load_nothing : (e : Ended) → NothingIsLoaded e
 all_load_nothing e command.Run given is ends = absurd (grind (arith, is))
 all_load_nothing e command.Rehearse given is ends = absurd (grind (arith, is))
@@ -266,6 +298,9 @@ all_load_nothing e command.Trust given is ends = nothing_is_loaded (trust (trust
 all_load_nothing e command.Chain given is ends = nothing_is_loaded (chain (chain_given given)) at_first e (never_chain (chain_given given)) ends
 all_load_nothing e command.Attach given is ends = nothing_is_loaded (attach (attach_given given)) at_first e (never_attach (attach_given given)) ends
 all_load_nothing e command.Fleet given is ends = nothing_is_loaded (fleet (fleet_given given)) at_first e (never_fleet (fleet_given given)) ends
+all_load_nothing e command.Register given is ends = nothing_is_loaded (register (register_given given)) at_first e (never_register (register_given given)) ends
+all_load_nothing e command.Enrol given is ends = nothing_is_loaded (enrol (enrol_given given)) at_first e (never_enrol (enrol_given given)) ends
+all_load_nothing e command.Devices given is ends = nothing_is_loaded (devices (devices_given given)) at_first e (never_devices (devices_given given)) ends
 all_load_nothing e command.Factory given is ends = nothing_is_loaded (factory (factory_given given)) at_first e (never_factory (factory_given given)) ends
 all_load_nothing e command.Keygen given is ends = nothing_is_loaded (keygen (keygen_given given)) at_first e (never_keygen (keygen_given given)) ends
 all_load_nothing e command.Sign given is ends = nothing_is_loaded (sign (sign_given given)) at_first e (never_sign (sign_given given)) ends
@@ -280,6 +315,7 @@ all_load_nothing e command.Endorse given is ends = nothing_is_loaded (endorse (e
 all_load_nothing e command.Endorsed given is ends = nothing_is_loaded (endorsed (endorsed_given given)) at_first e (never_endorsed (endorsed_given given)) ends
 all_load_nothing e command.Migrate given is ends = nothing_is_loaded (migrate (migrate_given given)) at_first e (never_migrate (migrate_given given)) ends
 all_load_nothing e command.App given is ends = nothing_is_loaded (app (app_given given)) at_first e (never_app (app_given given)) ends
+all_load_nothing e command.Appcode given is ends = nothing_is_loaded (appcode (appcode_given given)) at_first e (never_appcode (appcode_given given)) ends
 all_load_nothing e command.Asm given is ends = nothing_is_loaded (asm (asm_given given)) at_first e (never_asm (asm_given given)) ends
 all_load_nothing e command.Disasm given is ends = nothing_is_loaded (disasm (disasm_given given)) at_first e (never_disasm (disasm_given given)) ends
 

@@ -69,6 +69,10 @@ pub const TOOLS_ARE_MADE: &[Step] = &[
         &[Part::Text("label a\npush 65\nemit\njump a\nget token\n")],
     ),
     Step::Ends("asm text assembled", 0, "bytes 16\n"),
+    Step::Gives(Given {
+        name: "halts",
+        content: Content::Hex("01000000414200"),
+    }),
     Step::Writes("register", &[Part::Text("MBF1\0\0")]),
     Step::Gives(Given {
         name: "shows",
@@ -243,6 +247,30 @@ const COMMANDS: &[Access] = &[
             ("items", "items"),
         ],
         writes: &[("register", "register")],
+    },
+    Access {
+        words: "register new",
+        reads: &[],
+        writes: &[("out", "new")],
+    },
+    Access {
+        words: "enrol public0 register chain",
+        reads: &[
+            ("root", "public0"),
+            ("register", "register"),
+            ("chain", "chain"),
+        ],
+        writes: &[("register", "register")],
+    },
+    Access {
+        words: "devices register",
+        reads: &[("register", "register")],
+        writes: &[],
+    },
+    Access {
+        words: "appcode halts nothing 10",
+        reads: &[("code", "halts"), ("input", "nothing")],
+        writes: &[],
     },
 ];
 

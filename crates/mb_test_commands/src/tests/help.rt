@@ -77,6 +77,13 @@ to verify what a device says of itself:
       verifies the chain, and then judges by the policy each configuration that could have used the key
   miniboot endorsed PUBLIC ROOT ENDORSEMENT
       verifies the endorsement of the public key in ROOT under the public key of a maker's HSS key
+  miniboot register OUT
+      writes a register of no devices, and prints how many that has
+  miniboot enrol ROOT REGISTER CHAIN
+      shows a register of the maker's devices one chain, writes the register if it changes, and prints the
+      answer
+  miniboot devices REGISTER
+      lists the devices of a register, with what each has shown last
   miniboot fleet ROOT REGISTER ITEMS
       serves the items, chains and questions, over a register of the maker's devices, writes the register,
       and prints the answers
@@ -86,6 +93,9 @@ to write applications:
       assembles the text, writes its code, and prints how many bytes that has
   miniboot disasm CODE OUT
       lists the code, writes its text, and prints how many lines that has
+  miniboot appcode CODE INPUT STEPS
+      runs the code on the bytes of INPUT for at most STEPS steps, 1 to 10,000,000, as layer 3 of a device
+      without secrets, and prints how it ends
   miniboot app IMAGE LAYER INPUT STEPS
       runs the code of layer 2 or 3 of the device of IMAGE on the bytes of INPUT for at most STEPS steps,
       1 to 10,000,000, and prints how it ends

@@ -517,8 +517,8 @@ const ENDORSEMENT: &[usize] = &[
     4_596, 4_755,
 ];
 
-/// Inputs of the commands on makers' keys, policies and the code of applications end early. Those of `fleet` stand
-/// beside its registers.
+/// Inputs of the commands on makers' keys, policies, the code of applications and single chains end early. Those of
+/// `fleet` and of `devices` stand beside their registers.
 const TOOLS_ARE_SHORT: &[ShortFile] = &[
     ShortFile {
         words: "hsskeygen noise0 1 out out",
@@ -568,6 +568,27 @@ const TOOLS_ARE_SHORT: &[ShortFile] = &[
         status: 7,
         told: Told::Line("refused 28\n"),
         offsets: ENDORSEMENT,
+    },
+    ShortFile {
+        words: "enrol public0 register chain",
+        name: "public0",
+        status: 3,
+        told: Told::Offset("input root at"),
+        offsets: PUBLIC,
+    },
+    ShortFile {
+        words: "enrol public0 register chain",
+        name: "register",
+        status: 3,
+        told: Told::Offset("input register at"),
+        offsets: &[0, 4],
+    },
+    ShortFile {
+        words: "enrol public0 register chain",
+        name: "chain",
+        status: 7,
+        told: Told::Offset("refused 20"),
+        offsets: CHAIN_FIELDS,
     },
     ShortFile {
         words: "trust public0 chain 1 policy",
