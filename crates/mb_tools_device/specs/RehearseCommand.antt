@@ -13,7 +13,7 @@ use Rattle.mb_model.specs.chains.Script.{IsScript}
 use Rattle.mb_script.specs.Reading.{IsLineOf}
 use Rattle.mb_model_commands.specs.declared.role.Role.TheVariants as role
 use Rattle.mb_model_commands.specs.Commands.{Input, Command, read, find, either_command, load, serve, print, refuse}
-use Rattle.mb_model_commands.specs.Inputs.{Image, image_input, script_input, draws_input}
+use Rattle.mb_model_commands.specs.Inputs.{image_input, script_input, draws_input}
 use Rattle.mb_model_commands.specs.RunCommand.{RunNames, IsServed}
 
 -- ---- the script
@@ -84,15 +84,13 @@ tell_rehearsal text answered =
     either_command (AllObeyed answered) (print (veiled_text answered))
     (find (IsFirstUnobeyed text answered) (λ first. refuse (veiled_text answered ++ first_line first)))
 
--- the image is loaded, the events are served, and it is told how they were answered
-abbrev pub serve_rehearsal : Image → List ℕ → List Event → Command
-serve_rehearsal image text events =
-    load image.bytes (serve (IsServed image events) (λ answered final. tell_rehearsal text answered))
-
--- image, script and noise are read, and the events are served on the board alone
+-- Image, script and noise are read, the image is loaded, and the events of the script are served with their draws, as
+-- `run` does. No file is written.
 unfoldable pub rehearsal : RunNames → Command
 rehearsal names =
     read (image_input names.image) (λ image.
     read (whole_script_input names.script) (λ script.
     read (draws_input script.events names.noise) (λ events.
-    serve_rehearsal image script.text events)))
+    load image.bytes
+    (serve (IsServed image events) (λ answered final.
+    tell_rehearsal script.text answered)))))

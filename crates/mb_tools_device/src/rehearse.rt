@@ -1,13 +1,10 @@
 //! The command `rehearse`.
 
-ghost use Rattle.std.specs.Prelude.{◌+◌, ◌*◌, ◌≡◌, ◌≤◌, [], ◌++◌, length, All, IfOk, MatchOption, Option, OnOk, false};
-ghost use Rattle.mb_model.specs.declared.limits.TheConstants.{EVENT_LIMIT, FILE_LIMIT};
-ghost use Rattle.mb_model.specs.declared.state.State.{State};
+ghost use Rattle.std.specs.Prelude.{◌+◌, ◌*◌, ◌≡◌, ◌≤◌, [], ◌++◌, length, IfOk, MatchOption, OnOk, false};
+ghost use Rattle.mb_model.specs.declared.limits.TheConstants.{FILE_LIMIT};
 ghost use Rattle.mb_model.specs.outside.Board.{use_of};
 ghost use Rattle.mb_model.specs.outside.Texts.{line_with_lf};
-ghost use Rattle.mb_model.specs.memories.Meaning.{IsWellFormed};
 ghost use Rattle.mb_model.specs.chains.Replies.{reply_line};
-ghost use Rattle.mb_model.specs.chains.Script.{IsScriptEvent};
 ghost use Rattle.mb_console.specs.Ending.{CarriesOutRest};
 ghost use Rattle.mb_device.specs.declared.step.TheConstants.{STEP_HASHES};
 ghost use Rattle.mb_image.specs.declared.image.TheConstants.{IMAGE_HASHES};
@@ -15,17 +12,17 @@ ghost use Rattle.mb_tools_device.specs.Boards.{IsFresh, CarriesOutOn};
 ghost use Rattle.mb_tools_device.specs.Holding.{EndsHolding, IsDone};
 ghost use Rattle.mb_tools_device.specs.Names.{run_files};
 ghost use Rattle.mb_tools_device.specs.RehearseCommand.{veiled, veiled_text, is_unobeyed, AllObeyed, first_line};
-ghost use Rattle.mb_tools_device.specs.RehearseCommand.{tell_rehearsal, serve_rehearsal, rehearsal};
+ghost use Rattle.mb_tools_device.specs.RehearseCommand.{tell_rehearsal, rehearsal};
 ghost use Rattle.mb_tools_device.specs.Rehearsing.{IsUnobeyedAt, TellsUnobeyed};
 
 use crate::run::RunNames;
 use crate::scripts::{WholeScriptForm, read_draws};
+use crate::serving::serve_events;
 use mb_board::Board;
 use mb_console::{End, LongLine, print_text, read_as};
-use mb_device::Device;
 use mb_host::Host;
 use mb_lms::HashCount;
-use mb_model::{Answered, Bytes, Events, NoMemory, Reply};
+use mb_model::{Answered, Bytes, NoMemory, Reply};
 use mb_model_commands::Role;
 use mb_script::{line_of, write_reply};
 use mb_tools::read_image;
@@ -49,46 +46,16 @@ pub fn rehearse<H: Host, B: Board, L: Ledger>(
 {
     let image = read_image(alloc, host, names.image, hashes)?;
     let script = read_as(alloc, host, Role::Script, names.script, WholeScriptForm)?;
-    let drawn = read_draws(alloc, host, names.noise, script.events)?;
-    serve(alloc, &image.bytes, &script.text, drawn, host, board, hashes)
-}
-
-/// Loads the board, serves the events, and tells how they were answered.
-fn serve<H: Host, B: Board, L: Ledger>(
-    alloc: Global,
-    image: &[u8],
-    script: &[u8],
-    events: Events,
-    host: &mut H,
-    board: &mut B,
-    hashes: &mut HashCount<L>,
-) -> Result<(), End>
-    requires fresh { IsFresh (B.seen board.old) }
-    requires image { (state : Option State) × IsWellFormed image.now state }
-    requires script { length script.now ≤ FILE_LIMIT }
-    requires count { length events ≤ EVENT_LIMIT }
-    requires events { All IsScriptEvent events }
-    ensures carried { (state : Option State) → IsWellFormed image.now state
-        → CarriesOutOn (serve_rehearsal (record { bytes = image.now; state = state }) script.now events) (B.seen board.new) (H.outside host.old)
-        result (H.outside host.new) }
-    ensures stays { EndsHolding (IsDone result) ⊥ (B.seen board.old) (B.seen board.new) }
-    ensures cost { hashes.new ≤ hashes.old + STEP_HASHES * length (B.seen board.new).ledger.answered }
-{
-    match board.load(alloc, image, events) {
-        Ok(()) => {}
+    let events = read_draws(alloc, host, names.noise, script.events)?;
+    match serve_events(alloc, &image, events, board, hashes) {
+        Ok(_device) => {}
         Err(_) => return Err(End::NoMemory),
     }
-    let _device = Device::start(board).serve(alloc, board, hashes);
-    tell(alloc, script, host, board)
+    tell(alloc, &script.text, host, board)
 }
 
 /// Prints the replies, veiled. Refuses with them and one line more if an event was not obeyed.
-fn tell<H: Host, B: Board>(
-    alloc: Global,
-    script: &[u8],
-    host: &mut H,
-    board: &B,
-) -> Result<(), End>
+fn tell<H: Host, B: Board>(alloc: Global, script: &[u8], host: &mut H, board: &B) -> Result<(), End>
     requires { length script.now ≤ FILE_LIMIT }
     ensures { CarriesOutRest (tell_rehearsal script.now (B.seen board.now).ledger.answered)
         (record { used = use_of (B.seen board.now).ledger; wrote = false }) (use_of (B.seen board.now).ledger) (B.seen board.now).ledger.standing

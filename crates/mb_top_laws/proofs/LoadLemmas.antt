@@ -45,7 +45,7 @@ use Rattle.mb_tools_fleet.specs.FleetWords.{fleet_given}
 use Rattle.mb_tools_shown.specs.HistoryCommand.{HistoryNames, Finding, has_history, is_untold, history, tell_history}
 use Rattle.mb_tools_shown.specs.ShowimageCommand.{ShowimageNames, showimage, show_device}
 use Rattle.mb_tools_shown.specs.Names.{history_given, showimage_given}
-use Rattle.mb_tools_device.specs.RehearseCommand.{WholeScript, whole_script_input, tell_rehearsal, serve_rehearsal, rehearsal}
+use Rattle.mb_tools_device.specs.RehearseCommand.{rehearsal}
 use Rattle.mb_tools_device.specs.CutCommand.{CutNames, CutRun, AnyLacksMemory, IsCutRun, IsRehearsed, IsCutServed, cutat, tell_cut}
 use Rattle.mb_tools_device.specs.Names.{run_given, cut_given, generate_given}
 use Rattle.mb_top.specs.declared.table.Command.TheVariants as command
@@ -371,28 +371,10 @@ run_loads names e ends =
 
 -- ---- `rehearse`
 
-rehearsal_goes_on : (image : Image) (text : List ℕ) (events : List Event) → GoesOn (serve (IsServed image events) (λ answered final. tell_rehearsal text answered))
-unfolding GoesOn
-rehearsal_goes_on image text events = λ answered held. (tt, λ first. tt)
-
-rehearsal_noise_read : (names : RunNames) (image : Image) (script : WholeScript) (e : Ended)
-    → CommandEnds (read (draws_input script.events names.noise) (λ events. serve_rehearsal image script.text events)) at_first e → EndsAfterLoads (e.used.loads ≡ 1) e
-unfolding CommandEnds
-rehearsal_noise_read names image script e (inl ends) = input_ended (draws_input script.events names.noise) e ends
-rehearsal_noise_read names image script e (inr it) =
-    loaded_ended image.bytes (serve (IsServed image it.2.0) (λ answered final. tell_rehearsal script.text answered)) (end_seen_from (read_once e.before) e) (rehearsal_goes_on image script.text it.2.0) it.2.2
-
-rehearsal_script_read : (names : RunNames) (image : Image) (e : Ended)
-    → CommandEnds (read (whole_script_input names.script) (λ script. read (draws_input script.events names.noise) (λ events. serve_rehearsal image script.text events))) at_first e
-    → EndsAfterLoads (e.used.loads ≡ 1) e
-unfolding CommandEnds
-rehearsal_script_read names image e (inl ends) = input_ended (whole_script_input names.script) e ends
-rehearsal_script_read names image e (inr it) = rehearsal_noise_read names image it.2.0 (end_seen_from (read_once e.before) e) it.2.2
-
 rehearse_loads : (names : RunNames) (e : Ended) → CommandEnds (rehearsal names) at_first e → EndsAfterLoads (e.used.loads ≡ 1) e
-unfolding rehearsal CommandEnds
-rehearse_loads names e (inl ends) = input_ended (image_input names.image) e ends
-rehearse_loads names e (inr it) = rehearsal_script_read names it.2.0 (end_seen_from (read_once e.before) e) it.2.2
+unfolding rehearsal GoesOn
+rehearse_loads names e ends =
+    read_ended OnceLoaded _ _ e (λ image e. read_ended OnceLoaded _ _ e (λ script e. read_ended OnceLoaded _ _ e (λ events e. loaded_ended image.bytes _ e (λ answered held. (tt, λ first. tt))))) ends
 
 -- ---- `generate`
 
