@@ -1,7 +1,7 @@
 -- What is found of a chain, the text that tells its history, and what carries out `history`.
-use Rattle.std.proofs.Common.{◌≡◌, ◌≢◌, ℕ, ◌+◌, ◌<◌, ◌≤◌, List, [], ◌∷◌, ◌++◌, length, take, get_or, Option, None, Some, Result, Err, false, refl, sym, ◌∙◌, ap, subst, inl, inr}
+use Rattle.std.proofs.Common.{◌≡◌, ◌≢◌, ℕ, Bool, ◌+◌, ◌<◌, ◌≤◌, List, [], ◌∷◌, ◌++◌, length, take, get_or, Option, None, Some, Err, false, refl, sym, ◌∙◌, ap, subst, inl, inr, append_assoc}
 use Rattle.std.specs.Prelude.{flat_map, IfSome, unwrap_or}
-use Rattle.std.proofs.lemmas.List.{map-append, take-append-drop}
+use Rattle.std.proofs.lemmas.List.{append-nil}
 use Rattle.mb_format.specs.Format.{IsBytes, Spells, IsClearWhole}
 use Rattle.mb_format.proofs.Whole.{IsClearWhole-from_exact}
 use Rattle.mb_model.proofs.EntryFormatLaws.{chain_exact}
@@ -15,15 +15,15 @@ use Rattle.mb_model.specs.declared.order.KeyKind.{KeyKind}
 use Rattle.mb_model.specs.declared.state.Report.{Report}
 use Rattle.mb_model.specs.outside.Board.{Held, Used}
 use Rattle.mb_model.specs.outside.Texts.{line_with_lf}
-use Rattle.mb_model.specs.owners.Log.{entries_of, number_of, serial_of, RuledLog}
+use Rattle.mb_model.specs.owners.Log.{entries_of, serial_of, RuledLog}
 use Rattle.mb_model.specs.chains.Acceptance.{ChainRefusal, bad_form, bad_signature, bad_order, breaks_rules, key_unknown, bad_statement, wrong_number, key_ended, KeyEntry, key_of, is_alive, AreGood, IsStated, IfStatement, IsCurrent, report_of, Accepts, IsGoodFor, IsRefused}
 use Rattle.mb_model.specs.chains.Lines.{text_of}
 use Rattle.mb_model.specs.records.ChainFormat.{chain_format}
 use Rattle.mb_model_commands.specs.Outside.{Outside}
-use Rattle.mb_model_commands.specs.Commands.{Command, Past, find, at_first}
+use Rattle.mb_model_commands.specs.Commands.{Command, Past, find}
 use Rattle.mb_model_lemmas.proofs.ChainLemmas.{good_is_ruled}
+use Rattle.mb_model_lemmas.proofs.LogLemmas.{entries_more}
 use Rattle.mb_console.specs.declared.end.End.{End}
-use Rattle.mb_console.specs.declared.end.End.TheVariants as end
 use Rattle.mb_console.specs.Ending.{CarriesOutRest, LeadsTo}
 use Rattle.mb_console.proofs.Leading.{finds, is_refused, lacks_memory}
 use Rattle.mb_log.specs.declared.life.Life.{Life}
@@ -31,13 +31,13 @@ use Rattle.mb_log.specs.KeyLife.{IsLifeOf}
 use Rattle.mb_tools.specs.Chains.{TellsRefusal}
 use Rattle.mb_verifier.specs.Checked.{IsBadStatement}
 use Rattle.mb_verifier.specs.Entries.{IsOfEntries, IsEntriesRefused}
-use Rattle.mb_verifier.specs.Signers.{IsSigner, HasSigned, IsStatementRefused, is_unsigned, is_refused_for}
+use Rattle.mb_verifier.specs.Signers.{IsSigner, IsStatementRefused, is_unsigned, is_refused_for}
 use Rattle.mb_verifier.proofs.SignerLemmas.{named_at}
-use Rattle.mb_tools_shown.specs.HistoryCommand.{Finding, has_history, is_untold, IsSignedByKey, IsGoodChain, HasBadStatement, IsFinding, tell_history}
+use Rattle.mb_tools_shown.specs.HistoryCommand.{is_untold, IsSignedByKey, IsGoodChain, IsFinding, tell_history}
 use Rattle.mb_tools_shown.specs.HistoryLaws.{IsRefusedToo, SignersAreAccepted, RefusalsAreThoseOfVerify}
 use Rattle.mb_tools_shown.specs.HistoryShown.{life_line, life_lines, signed_lines, entry_lines, history_shown}
 use Rattle.mb_tools_shown.specs.StateShown.{serial_shown}
-use Rattle.mb_tools_shown.proofs.TextLemmas.{one_line, more_lines}
+use Rattle.mb_tools_shown.proofs.TextLemmas.{one_line, more_lines, lines_pushed}
 
 -- ---- what is found
 
@@ -74,13 +74,48 @@ history_put chain signer log serial entries lives all same is_serial is_entries 
     let c = signed_lines chain.statement signer in
     more_lines [] serial all (first ∷ []) (a ++ (b ++ c)) (one_line [] serial first is_serial)
     (more_lines serial entries all a (b ++ c) is_entries (more_lines entries lives all b c is_lives is_all))
-    ∙ ap (λ (l : List SignedEntry). text_of (serial_shown (unwrap_or (serial_of (entries_of l)) []) ∷ flat_map entry_lines (entries_of l) ++ (flat_map (life_lines (entries_of l)) (entries_of l) ++ c))) same
+    ∙ ap text_of (sym (append_assoc (first ∷ a) b c))
+    ∙ ap (λ (l : List SignedEntry). text_of (((serial_shown (unwrap_or (serial_of (entries_of l)) []) ∷ flat_map entry_lines (entries_of l)) ++ flat_map (life_lines (entries_of l)) (entries_of l)) ++ c)) same
 
 -- the key of an entry is alive if its life says so
 pub life_told : (log : List SignedEntry) (i : ℕ) (d : SignedEntry) (position number n layer : ℕ) (kind : KeyKind) (key : PublicKey) (life : Life) → i < length log → RuledLog (entries_of log)
     → (get_or log i d).entry ≡ NewKey position number n layer kind key → IsLifeOf (entries_of log) n life → life.alive ≡ is_alive (entries_of log) n layer
 life_told log i d position number n layer kind key life within ruled is of =
     of.alive (record { layer = layer; kind = kind; key = key }) (named_at log i d position number n layer kind key within ruled is)
+
+-- the line of the key that an entry makes stands after those of the entries before it
+pub life_put : (log : List SignedEntry) (i : ℕ) (d : SignedEntry) (position number n layer : ℕ) (kind : KeyKind) (key : PublicKey) (life : Life) (start before after : List ℕ) → i < length log → RuledLog (entries_of log)
+    → (get_or log i d).entry ≡ NewKey position number n layer kind key → IsLifeOf (entries_of log) n life
+    → before ≡ start ++ text_of (flat_map (life_lines (entries_of log)) (entries_of (take i log))) → after ≡ before ++ line_with_lf (life_line n kind layer life.alive)
+    → after ≡ start ++ text_of (flat_map (life_lines (entries_of log)) (entries_of (take (i + 1) log)))
+life_put log i d position number n layer kind key life start before after within ruled is of was put =
+    let es = entries_of log in
+    let entry = (get_or log i d).entry in
+    let own : after ≡ before ++ text_of (life_lines es entry) =
+    one_line before after (life_line n kind layer life.alive) put
+    ∙ ap (λ (b : Bool). before ++ text_of (life_line n kind layer b ∷ [])) (life_told log i d position number n layer kind key life within ruled is of)
+    ∙ ap (λ (e : Entry). before ++ text_of (life_lines es e)) (sym is) in
+    lines_pushed (life_lines es) (entries_of (take i log)) entry start before after was own
+    ∙ ap (λ (entries : List Entry). start ++ text_of (flat_map (life_lines es) entries)) (sym (entries_more log i d within))
+
+no_lines : (log : List Entry) (entry : Entry) → ((position number key_number layer : ℕ) (kind : KeyKind) (key : PublicKey) → entry ≡ NewKey position number key_number layer kind key → ⊥)
+    → life_lines log entry ≡ []
+no_lines log (Birth version serial device layers) not = refl
+no_lines log (Change version position number kind layer cosigned layers kept next) not = refl
+no_lines log (NewKey position number key_number layer kind key) not = absurd (not position number key_number layer kind key refl)
+no_lines log (Succession position device) not = refl
+
+-- an entry that makes no key has no such line
+pub no_life_put : (log : List SignedEntry) (i : ℕ) (d : SignedEntry) (start before : List ℕ) → i < length log
+    → ((position number key_number layer : ℕ) (kind : KeyKind) (key : PublicKey) → (get_or log i d).entry ≡ NewKey position number key_number layer kind key → ⊥)
+    → before ≡ start ++ text_of (flat_map (life_lines (entries_of log)) (entries_of (take i log)))
+    → before ≡ start ++ text_of (flat_map (life_lines (entries_of log)) (entries_of (take (i + 1) log)))
+no_life_put log i d start before within not was =
+    let es = entries_of log in
+    let entry = (get_or log i d).entry in
+    let own : before ≡ before ++ text_of (life_lines es entry) = sym (ap (λ (lines : List (List ℕ)). before ++ text_of lines) (no_lines es entry not) ∙ append-nil before) in
+    lines_pushed (life_lines es) (entries_of (take i log)) entry start before before was own
+    ∙ ap (λ (entries : List Entry). start ++ text_of (flat_map (life_lines es) entries)) (sym (entries_more log i d within))
 
 -- ---- the command
 

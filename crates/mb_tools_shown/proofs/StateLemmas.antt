@@ -1,12 +1,13 @@
 -- What is shown of a device, and what carries out `showimage`.
-use Rattle.std.proofs.Common.{◌≡◌, ℕ, ◌^◌, ◌<◌, Bool, List, [], ◌∷◌, ◌++◌, codes, length, is_some, Option, None, Some, Result, Err, false, refl, sym, ◌∙◌, ap, subst, append_assoc}
+use Rattle.std.proofs.Common.{◌≡◌, ℕ, Bool, List, [], ◌∷◌, ◌++◌, codes, length, is_some, Option, None, Some, Result, Err, refl, sym, ◌∙◌, ap, subst, append_assoc}
 use Rattle.std.specs.Prelude.{map}
 use Rattle.std.specs.Fmt.{decimal}
 use Rattle.std.specs.List.{AllZip}
 use Rattle.std.proofs.lemmas.Fmt.{decimal_injective}
 use Rattle.std.proofs.lemmas.List.{append_cancel_left}
 use Rattle.mb_format.specs.Format.{IsBytes}
-use Rattle.mb_model.specs.declared.region.Region.{Region}
+use Rattle.mb_model.specs.declared.entry.SignedEntry.{SignedEntry}
+use Rattle.mb_model.specs.declared.layer.Layers.{Layers}
 use Rattle.mb_model.specs.declared.region.RegionKey.{RegionKey}
 use Rattle.mb_model.specs.declared.region.Secret.{Secret}
 use Rattle.mb_model.specs.declared.state.State.{State}
@@ -28,7 +29,7 @@ use Rattle.mb_console.specs.Outputs.{writes}
 use Rattle.mb_console.proofs.CommandLemmas.{memory_unprinted}
 use Rattle.mb_console.proofs.Leading.{finds, is_refused}
 use Rattle.mb_tools_shown.specs.ShowimageCommand.{TellsOfWork, show_device}
-use Rattle.mb_tools_shown.specs.ShownLaws.{DifferInValue, DifferInSeed, HoldAlikeSecrets, DifferInSecrets, ShowsImage, SecretsAreNotShown, LengthsAreShown}
+use Rattle.mb_tools_shown.specs.ShownLaws.{DifferInValue, DifferInSeed, DifferInSecrets, SecretsAreNotShown, LengthsAreShown}
 use Rattle.mb_tools_shown.specs.StateShown.{counts_shown, device_shown, length_shown, number_shown, pending_shown, secret_shown, serial_shown, key_shown, state_shown}
 use Rattle.mb_tools_shown.specs.LayersShown.{layers_shown}
 use Rattle.mb_tools_shown.proofs.TextLemmas.{one_line, more_lines, three_lines}
@@ -60,6 +61,10 @@ state_put pending state counts layers two three keys all is_counts is_layers is_
     (more_lines layers two all c (d ++ (e ++ f)) is_two
     (more_lines two three all d (e ++ f) is_three
     (more_lines three keys all e f is_keys is_all))))
+    ∙ ap text_of (regroup a b c d e f)
+  where
+    regroup : (a b c d e f : List (List ℕ)) → a ++ (b ++ (c ++ (d ++ (e ++ f)))) ≡ ((((a ++ b) ++ c) ++ d) ++ e) ++ f
+    regroup a b c d e f = sym (simp append_assoc)
 
 -- ---- the command
 
@@ -126,14 +131,30 @@ value_hidden region a b alike = rw (alike.name, alike.count) refl
 seed_hidden : (region : ℕ) (a b : RegionKey) → DifferInSeed a b → key_shown region a ≡ key_shown region b
 seed_hidden region a b alike = rw (alike.number, alike.kind, alike.uses) refl
 
+-- the lines that show a state, by what is shown of it
+abbrev parts_shown : Bool → List ℕ → List SignedEntry → ℕ → Layers → List (List ℕ) → List (List ℕ) → List (List ℕ) → List (List ℕ) → List (List ℕ)
+parts_shown pending serial log uses layers two three keys more =
+    (serial_shown serial ∷ number_shown log ∷ length_shown log ∷ pending_shown pending ∷ device_shown uses ∷ []) ++ layers_shown layers ++ two ++ three ++ keys ++ more
+
 states_alike : (pending : Bool) (one other : State) → DifferInSecrets one other → state_shown pending one ≡ state_shown pending other
 unfolding state_shown
 states_alike pending one other alike =
     let two = same_lines DifferInValue (secret_shown 2) (value_hidden 2) one.two.secrets other.two.secrets alike.two.secrets in
     let three = same_lines DifferInValue (secret_shown 3) (value_hidden 3) one.three.secrets other.three.secrets alike.three.secrets in
-    let keys_two = same_lines DifferInSeed (key_shown 2) (seed_hidden 2) one.two.keys other.two.keys alike.two.keys in
-    let keys_three = same_lines DifferInSeed (key_shown 3) (seed_hidden 3) one.three.keys other.three.keys alike.three.keys in
-    rw (alike.serial, alike.layers, alike.log, alike.uses, two, three, keys_two, keys_three) refl
+    let keys = same_lines DifferInSeed (key_shown 2) (seed_hidden 2) one.two.keys other.two.keys alike.two.keys in
+    let more = same_lines DifferInSeed (key_shown 3) (seed_hidden 3) one.three.keys other.three.keys alike.three.keys in
+    let a = map (secret_shown 2) one.two.secrets in
+    let b = map (secret_shown 3) one.three.secrets in
+    let c = map (key_shown 2) one.two.keys in
+    let d = map (key_shown 3) one.three.keys in
+    ap (λ (serial : List ℕ). parts_shown pending serial one.log one.uses one.layers a b c d) alike.serial
+    ∙ ap (λ (log : List SignedEntry). parts_shown pending other.serial log one.uses one.layers a b c d) alike.log
+    ∙ ap (λ (uses : ℕ). parts_shown pending other.serial other.log uses one.layers a b c d) alike.uses
+    ∙ ap (λ (layers : Layers). parts_shown pending other.serial other.log other.uses layers a b c d) alike.layers
+    ∙ ap (λ (lines : List (List ℕ)). parts_shown pending other.serial other.log other.uses other.layers lines b c d) two
+    ∙ ap (λ (lines : List (List ℕ)). parts_shown pending other.serial other.log other.uses other.layers (map (secret_shown 2) other.two.secrets) lines c d) three
+    ∙ ap (λ (lines : List (List ℕ)). parts_shown pending other.serial other.log other.uses other.layers (map (secret_shown 2) other.two.secrets) (map (secret_shown 3) other.three.secrets) lines d) keys
+    ∙ ap (λ (lines : List (List ℕ)). parts_shown pending other.serial other.log other.uses other.layers (map (secret_shown 2) other.two.secrets) (map (secret_shown 3) other.three.secrets) (map (key_shown 2) other.two.keys) lines) more
 
 pub secrets_not_shown : SecretsAreNotShown
 secrets_not_shown image changed text line one other pending are also shows shown alike tells told =

@@ -14,7 +14,7 @@ use Rattle.mb_model.specs.owners.Layers.{layer_of}
 use Rattle.mb_model.specs.owners.Log.{entries_of, layers_in}
 use Rattle.mb_model.specs.chains.Acceptance.{ChainRefusal, bad_statement, Accepts, IsRefused}
 use Rattle.mb_model.specs.chains.Lines.{text_of}
-use Rattle.mb_tools_shown.specs.HistoryCommand.{has_history, is_untold, IsGoodChain, IsFinding}
+use Rattle.mb_tools_shown.specs.HistoryCommand.{has_history, is_untold, IsFinding}
 use Rattle.mb_tools_shown.specs.HistoryShown.{history_shown}
 
 -- ---- entries

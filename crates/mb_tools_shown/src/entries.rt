@@ -83,9 +83,9 @@ fn change_line(
     let word = change_word(kind);
     let by = pair_word(cosigned);
     let regions = pair_word(kept);
-    Ok(
-        format!(in alloc; "entry {position} {word} {layer} configuration {number} countersigned {by} kept {regions}\n")?,
-    )
+    Ok(format!(in alloc;
+        "entry {position} {word} {layer} configuration {number} countersigned {by} kept {regions}\n"
+    )?)
 }
 
 /// The line of a new key, with its LF.

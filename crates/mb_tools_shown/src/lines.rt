@@ -17,11 +17,7 @@ pub(crate) fn put(text: &str, out: &mut Vec<u8>) -> Result<(), NoMemory>
 }
 
 /// Appends the lines of the three layers.
-pub(crate) fn put_layers(
-    alloc: Global,
-    layers: &Layers,
-    out: &mut Vec<u8>,
-) -> Result<(), NoMemory>
+pub(crate) fn put_layers(alloc: Global, layers: &Layers, out: &mut Vec<u8>) -> Result<(), NoMemory>
     ensures { OnOk result (out.new.items ≡ out.old.items ++ text_of (layers_shown layers.now)) }
 {
     let one = layer_line(alloc, 1, &layers.one)?;

@@ -113,12 +113,7 @@ fn put_secrets(
 }
 
 /// Appends the line of a secret: its name, and how many bytes its value has.
-fn put_secret(
-    alloc: Global,
-    region: u8,
-    secret: &Secret,
-    out: &mut Vec<u8>,
-) -> Result<(), NoMemory>
+fn put_secret(alloc: Global, region: u8, secret: &Secret, out: &mut Vec<u8>) -> Result<(), NoMemory>
     ensures { OnOk result (out.new.items ≡ out.old.items ++ line_with_lf (secret_shown region secret.now)) }
 {
     let count = secret.value.as_slice().len();
