@@ -66,7 +66,9 @@ fn signer_in(log: &[SignedEntry], entry: &Entry, statement: &Statement) -> Optio
         (MakesSigner (entries_of log.now) statement.now entry.now) }
 {
     let Entry::NewKey {
-        key_number, key, ..
+        key_number,
+        key,
+        ..
     } = entry
     else {
         return None;

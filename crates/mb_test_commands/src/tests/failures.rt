@@ -13,10 +13,7 @@ pub const FILES_ARE_MADE: &[Step] = &[
         "events",
         &[Part::Text("boot\nput 2 pin 35363738\ncommand 00\noff\n")],
     ),
-    Step::Writes(
-        "obeyed",
-        &[Part::Text("boot\nput 2 pin 35363738\noff\n")],
-    ),
+    Step::Writes("obeyed", &[Part::Text("boot\nput 2 pin 35363738\noff\n")]),
     Step::Writes(
         "every",
         &[Part::Text(
