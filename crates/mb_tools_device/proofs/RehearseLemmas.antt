@@ -1,13 +1,13 @@
 -- What carries out `rehearse`.
-use Rattle.std.proofs.Common.{◌≡◌, ℕ, ◌+◌, ◌-◌, ◌<◌, ◌≤◌, true, false, true≢false, List, [], ◌∷◌, ◌++◌, length, take, drop, get_or, Result, Err, refl, sym, ◌∙◌, ap, subst, inl, inr, arith, append_assoc, length-append, length-drop}
-use Rattle.std.specs.Prelude.{All, suc}
+use Rattle.std.proofs.Common.{◌≡◌, ℕ, ◌+◌, ◌-◌, ◌<◌, ◌≤◌, true, false, true≢false, List, [], ◌∷◌, ◌++◌, length, take, drop, get_or, Result, Ok, Err, refl, sym, ◌∙◌, ap, subst, inl, inr, arith, append_assoc, length-append, length-drop}
+use Rattle.std.specs.Prelude.{All, IfOk, suc}
 use Rattle.std.proofs.Math.Seq.{drop-cons}
 use Rattle.std.proofs.lemmas.List.{take_at, take_more, take_all, take-append-drop}
 use Rattle.std.proofs.lemmas.List.Elements.{All-nil, All-head, All-push}
 use Rattle.mb_model.specs.declared.event.Answered.{Answered}
 use Rattle.mb_model.specs.outside.Board.{Held, Used}
 use Rattle.mb_model_commands.specs.Outside.{Outside}
-use Rattle.mb_model_commands.specs.Commands.{print, refuse}
+use Rattle.mb_model_commands.specs.Commands.{Past, print, refuse}
 use Rattle.mb_model_lemmas.proofs.ListLemmas.{All-back}
 use Rattle.mb_console.specs.declared.end.End.{End}
 use Rattle.mb_console.specs.declared.end.End.TheVariants as end
@@ -100,7 +100,7 @@ pub rehearsal_refused : (text lines : List ℕ) (answered : List Answered) (used
     → TellsUnobeyed text lines answered why
     → CarriesOutRest (tell_rehearsal text answered) (record { used = used; wrote = false }) used final before (Err why) before
 rehearsal_refused text lines answered used final before why is (inl (first, at, refuses)) =
-    let past = record { used = used; wrote = false } in
+    let past : Past = record { used = used; wrote = false } in
     let whole = ap (λ (t : List ℕ). t ++ first_line first) is in
     goes_second (AllObeyed answered) _ _ past used final before before _ (not_all answered text first at)
     (finds (IsFirstUnobeyed text answered) (λ f. refuse (veiled_text answered ++ first_line f)) past used final before before first _ at
@@ -112,10 +112,12 @@ rehearsal_refused text lines answered used final before why is (inr lacks) =
 -- ---- the text
 
 -- the lines of the replies, and the line of the first event that was not obeyed, without the last LF
-pub last_taken : (text words whole lines : List ℕ) (reply : List ℕ) → whole ≡ ((text ++ words) ++ (reply ++ 10 ∷ [])) → lines ≡ take (length whole - 1) whole → lines ≡ text ++ (words ++ reply)
-last_taken text words whole lines reply is taken =
+pub last_taken : (text words whole lines reply : List ℕ) (n : ℕ) → whole ≡ (text ++ words) ++ (reply ++ 10 ∷ []) → n ≡ length whole → lines ≡ take (n - 1) whole → lines ≡ text ++ (words ++ reply)
+last_taken text words whole lines reply n is sized taken =
     let front : whole ≡ (text ++ (words ++ reply)) ++ 10 ∷ [] = is ∙ simp append_assoc in
-    taken ∙ ap (λ (t : List ℕ). take (length t - 1) t) front ∙ all_but_last (text ++ (words ++ reply)) 10
-  where
-    all_but_last : (xs : List ℕ) (x : ℕ) → take (length (xs ++ x ∷ []) - 1) (xs ++ x ∷ []) ≡ xs
-    all_but_last xs x = take_at xs (x ∷ []) (length (xs ++ x ∷ []) - 1) (omega (arith, length-append xs (x ∷ [])))
+    taken ∙ ap (λ (t : List ℕ). take (n - 1) t) front
+    ∙ take_at (text ++ (words ++ reply)) (10 ∷ []) (n - 1) (omega (arith, sized, ap length front, length-append (text ++ (words ++ reply)) (10 ∷ [])))
+
+pub same_lines : {E : Type 0} (result : Result (List ℕ) E) (one other : List ℕ) → one ≡ other → IfOk result (λ lines. lines ≡ one) → IfOk result (λ lines. lines ≡ other)
+same_lines (Ok lines) one other same is = is ∙ same
+same_lines (Err error) one other same is = is
