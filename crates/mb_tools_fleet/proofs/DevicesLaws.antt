@@ -14,7 +14,7 @@ use Rattle.mb_format.specs.Combinators.{raw, optional, items}
 use Rattle.mb_format.proofs.Exact.{IsBytes-drop, IsBytes-spelled}
 use Rattle.mb_model.specs.outside.Texts.{IsHex, line_with_lf}
 use Rattle.mb_model.specs.chains.Lines.{spaced_words, hex_word, text_of}
-use Rattle.mb_model_lemmas.proofs.LineLemmas.{Without, isnt, first_same, cons_same, cons_none}
+use Rattle.mb_model_lemmas.proofs.LineLemmas.{Without, isnt, first_same, cons_none}
 use Rattle.mb_model_lemmas.proofs.WordLemmas.{number_front, IsHex-same, hex_word-read}
 use Rattle.mb_fleet.specs.declared.row.Row.{Row}
 use Rattle.mb_fleet.specs.declared.row.CodeHashes.{CodeHashes}

@@ -1,5 +1,5 @@
 -- Enrolments, one after another and each by itself.
-use Rattle.std.proofs.Common.{◌≡◌, ◌≢◌, ℕ, ◌<◌, ◌≤◌, ◌⊎◌, ◌↔◌, inl, inr, List, [], ◌∷◌, ◌++◌, length, map, Option, Some, true, refl, sym, ap, subst, ◌∙◌, arith, length-append, append-nil}
+use Rattle.std.proofs.Common.{◌≡◌, ◌≢◌, ℕ, ◌<◌, ◌⊎◌, ◌↔◌, inl, inr, List, [], ◌∷◌, ◌++◌, length, map, Option, Some, true, refl, sym, ap, subst, ◌∙◌, arith, length-append, append-nil}
 use Rattle.std.proofs.lemmas.List.{append_cancel_left, nil_from_length}
 use Rattle.std.proofs.lemmas.List.Concat.{flat_map-cons}
 use Rattle.mb_model.specs.declared.key.PublicKey.{PublicKey}
@@ -18,7 +18,7 @@ use Rattle.mb_fleet.specs.Showing.{Answer, IsShorter, Meets, is_added, is_full, 
 use Rattle.mb_model_commands.specs.Inputs.{root_input, chain_bytes_input}
 use Rattle.mb_fleet.specs.Laws.{register_input}
 use Rattle.mb_tools_fleet.specs.EnrolCommand.{EnrolNames, Enrolment, ComesToEnrolment, write_register, tell_answer, enrol}
-use Rattle.mb_tools_fleet.specs.FleetLaws.{AreEnrolled, IsChange, IsToldEnrolment, IsRegisterWritten, IsServedAsOneItem, EnrolmentsAreARun}
+use Rattle.mb_tools_fleet.specs.FleetLaws.{AreEnrolled, IsChange, IsRegisterWritten, IsServedAsOneItem, EnrolmentsAreARun}
 
 -- ---- one after another
 

@@ -1,20 +1,17 @@
 -- What carries out `enrol`, `register` and `devices`.
-use Rattle.std.proofs.Common.{◌≡◌, ℕ, ◌⊎◌, inl, inr, List, [], ◌∷◌, codes, false, Option, Some, Result, Err, refl, sym, ap, subst, ◌∙◌}
-use Rattle.std.proofs.lemmas.Option.{same_Some}
-use Rattle.mb_model.specs.outside.Board.{Held, Used, not_used}
+use Rattle.std.proofs.Common.{◌≡◌, ℕ, inl, inr, List, [], ◌∷◌, codes, false, Option, Some, Result, Err, refl, sym, ap, subst, ◌∙◌}
+use Rattle.mb_model.specs.outside.Board.{Held, Used}
 use Rattle.mb_model.specs.outside.Texts.{line_with_lf}
 use Rattle.mb_model.specs.declared.key.PublicKey.{PublicKey}
 use Rattle.mb_model.specs.chains.Acceptance.{ChainRefusal}
 use Rattle.mb_model_commands.specs.declared.role.Role.TheVariants as role
 use Rattle.mb_model_commands.specs.Outside.{Outside}
 use Rattle.mb_model_commands.specs.Commands.{Command, Past, Output, find, print, at_first}
-use Rattle.mb_model_commands.specs.VerifyCommand.{chain_refusal_line}
 use Rattle.mb_console.specs.declared.end.End.{End}
 use Rattle.mb_console.specs.declared.end.End.TheVariants as end
 use Rattle.mb_console.specs.Ending.{RefusesWith, CarriesOut, CarriesOutAfter, CarriesOutRest, LeadsTo}
 use Rattle.mb_console.specs.Outputs.{writes}
 use Rattle.mb_console.proofs.Leading.{begins, finds, lacks_memory, is_refused}
-use Rattle.mb_verifier.specs.declared.refusal.ChainRefusal as verifier
 use Rattle.mb_verifier.specs.Ends.{chain_refusal_of}
 use Rattle.mb_fleet.specs.declared.row.Row.{Row}
 use Rattle.mb_fleet.specs.declared.end.Added.{Added}
@@ -24,7 +21,7 @@ use Rattle.mb_fleet.specs.declared.end.FleetEnd.TheVariants as fleet
 use Rattle.mb_fleet.specs.Ends.{answer_of, AnswersChain}
 use Rattle.mb_fleet.specs.RegisterFormat.{register_format}
 use Rattle.mb_fleet.specs.Serving.{answer_line, device_line}
-use Rattle.mb_fleet.specs.Showing.{Answer, chain_refused, older, forked, full, IsChainAnswered}
+use Rattle.mb_fleet.specs.Showing.{chain_refused, older, forked, full, IsChainAnswered}
 use Rattle.mb_tools.specs.Chains.{TellsRefusal}
 use Rattle.mb_tools_fleet.specs.EnrolCommand.{ComesToEnrolment, write_register, tell_answer, tell_enrolment}
 use Rattle.mb_tools_fleet.specs.Refusals.{TellsDevice, RefusesChain}

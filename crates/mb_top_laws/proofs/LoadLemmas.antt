@@ -263,19 +263,19 @@ never_register : (names : RegisterNames) → NeverLoads (register names)
 unfolding register NeverLoads
 never_register names = tt
 
-never_told : (name : List ℕ) (after : List Row) (answer : Answer) → NeverLoads (tell_answer name after answer)
+never_answered : (name : List ℕ) (after : List Row) (answer : Answer) → NeverLoads (tell_answer name after answer)
 unfolding NeverLoads
-never_told name after (answers.newly_added serial n) = tt
-never_told name after (answers.same serial n) = tt
-never_told name after (answers.extended serial n) = tt
-never_told name after (answers.chain_refused why) = tt
-never_told name after (answers.older serial have) = tt
-never_told name after (answers.forked serial place) = tt
-never_told name after answers.full = tt
+never_answered name after (answers.newly_added serial n) = tt
+never_answered name after (answers.same serial n) = tt
+never_answered name after (answers.extended serial n) = tt
+never_answered name after (answers.chain_refused why) = tt
+never_answered name after (answers.older serial have) = tt
+never_answered name after (answers.forked serial place) = tt
+never_answered name after answers.full = tt
 
 never_enrol : (names : EnrolNames) → NeverLoads (enrol names)
 unfolding enrol NeverLoads
-never_enrol names = λ maker rows chain enrolment. never_told names.register enrolment.after enrolment.answer
+never_enrol names = λ maker rows chain enrolment. never_answered names.register enrolment.after enrolment.answer
 
 never_devices : (names : DevicesNames) → NeverLoads (devices names)
 unfolding devices NeverLoads
