@@ -1,5 +1,5 @@
 -- What the program does, by its words: which command they call, and how it ends.
-use Rattle.std.specs.Prelude.{◌≡◌, ◌⊎◌, List, ℕ, codes, Result}
+use Rattle.std.specs.Prelude.{◌≡◌, List, ℕ, codes, Result}
 use Rattle.mb_model.specs.outside.Board.{Used}
 use Rattle.mb_model.specs.outside.Board.{Held}
 use Rattle.mb_model_commands.specs.Outside.{Outside}
