@@ -167,6 +167,16 @@ def verify(entries):
     return "verify root chain 1", files, "key 1 "
 
 
+def history(entries):
+    made, _, statement = grown(entries)
+    files = {"root": made.maker.public(), "chain": made.chain()[:-1] + u8(1) + statement}
+    return "history root chain", files, "serial "
+
+
+def showimage(entries):
+    return "showimage image", {"image": grown(entries)[1]}, "serial "
+
+
 def audit(entries):
     made, image, _ = grown(entries)
     return "audit image root chain 1", {"image": image, "root": made.maker.public(), "chain": made.chain()}, "agrees\n"
@@ -187,13 +197,13 @@ def script(lines, count):
     return "".join(line + "\n" for line in ["boot", *middle, "off"]).encode()
 
 
-def served(starts, *lines):
-    """A run over a full device with a script of these lines, again and again."""
+def served(starts, *lines, command="run"):
+    """A run, or a rehearsal, over a full device with a script of these lines, again and again."""
 
     def run(count):
         events = script(list(lines), count)
         files = {"image": full()[1], "script": events, "noise": bytes(32 * events.count(b"command"))}
-        return "run image script noise", files, f"booted\n{starts}"
+        return f"{command} image script noise", files, f"booted\n{starts}"
 
     return run
 
@@ -359,6 +369,7 @@ ROWS = (
     ("sign", "bytes of code", MOST_CODE, sign),
     ("countersign", "bytes of code", MOST_CODE, countersign),
     ("cosign", "bytes of code", MOST_CODE, cosign),
+    ("showimage", "entries", ENTRIES, showimage),
     ("run", "events `status`", EVENTS, served("status ", "status")),
     ("run", "events `go`", EVENTS, served("at 2\n", "go")),
     ("run", "events `get`", EVENTS, served("value ", "get 2 name-00")),
@@ -371,12 +382,15 @@ ROWS = (
     ("run", "orders that are none", EVENTS, served("refused 10 ", "command 00")),
     ("run", "orders of 32,768 bytes of code", MOST_ORDERS, run_orders),
     ("run", "such orders, refused", MOST_ORDERS, run_refused),
+    ("rehearse", "events `get`", EVENTS, served("value -\n", "get 2 name-00", command="rehearse")),
+    ("rehearse", "events `off` and `boot`", EVENTS, served("off\nbooted\n", "off", "boot", command="rehearse")),
     ("cutat", "events `status`", EVENTS_OF_A_CUT, cutat),
     ("chain", "entries", ENTRIES, chain),
     ("attach", "entries", ENTRIES, attach),
     ("migrate", "entries", ENTRIES, migrate),
     ("generate", "rounds", WORKLOAD, generate),
     ("verify", "entries", ENTRIES, verify),
+    ("history", "entries", ENTRIES, history),
     ("audit", "entries", ENTRIES, audit),
     ("trust", "bytes of `or code 1 s0`", LONGEST, trust("", "or", "code 1 s0")),
     ("trust", "bytes of `and alive`", LONGEST, trust("not ", "and", "alive")),
