@@ -173,7 +173,7 @@ def wrong_in_rehearsal(case, rehearsed, status, printed, after):
             return "the last line does not end"
         return devices_shown.wrong_in_rehearsal(rehearsed, status, printed.splitlines())
     # the status of a refusal is kept if its lines cannot be printed
-    refused = commands.first_unobeyed(rehearsed.numbers, only_replies(rehearsed))
+    refused = devices_shown.first_unobeyed(rehearsed.numbers, only_replies(rehearsed))
     wanted = 7 if refused else 5 if rehearsed.events else 0
     return None if status == wanted else f"status {status}, and not {wanted}"
 
