@@ -117,6 +117,7 @@ const TRIALS: &[Step] = &[
 
 /// Scripts that a device does not obey to their ends.
 const UNOBEYED_TRIALS: &[Step] = &[
+    Step::Writes("image", &[Part::File("keyed")]),
     Step::Writes(
         "trial",
         &[Part::Text(
