@@ -1,12 +1,13 @@
 #!/usr/bin/env bash
 # Measures the library, outside the gate: bench/library.sh [FOLDER..], each as library/build.sh has built it, or else
 # library/out, which checks/library.sh leaves. It prints the processor and the load of the machine; in processor time,
-# verification from C by the library, beside a plain verifier in C over OpenSSL's SHA-256 and beside Bouncy Castle, which
-# bench/library/measure.py has take turns; and of each archive the bytes of code and constants, the stack of each call,
-# painted before, and the allocations and the most memory of those that take any. OpenSSL has code of its own for each
-# kind of processor, and is measured with the processor's SHA instructions, with AVX2, with SSSE3 and with neither, as
-# far as the processor has these. If it has no SHA instructions, or if OpenSSL's headers, Java or its library (Debian's
-# libbcprov-java, or JAR) are missing, the script says so. ROUNDS may name how many rounds the least time is taken of.
+# verification from C by each archive that this processor runs, beside a plain verifier in C over OpenSSL's SHA-256 and
+# beside Bouncy Castle, which bench/library/measure.py has take turns; and of each archive the bytes of code and
+# constants, the stack of each call, painted before, and the allocations and the most memory of those that take any.
+# OpenSSL has code of its own for each kind of processor, and is measured with the processor's SHA instructions, with
+# AVX2, with SSSE3 and with neither, as far as the processor has these. If it has no SHA instructions, or if OpenSSL's
+# headers, Java or its library (Debian's libbcprov-java, or JAR) are missing, the script says so. ROUNDS may name how
+# many rounds the least time is taken of.
 set -euo pipefail
 export LC_ALL=C
 
@@ -19,22 +20,37 @@ jar=${JAR:-/usr/share/java/bcprov.jar}
 work=$(mktemp -d)
 trap 'rm -rf "$work"' EXIT
 
-folders=()
-for folder in "${@:-$here/../library/out}"; do
-    folders+=("$(realpath -m -- "$folder")")
-    if [ ! -r "${folders[-1]}/lib/libmb_library.a" ]; then
-        echo "${folders[-1]}/lib/libmb_library.a is not there: library/build.sh builds it" >&2
-        exit 1
-    fi
-done
-
-compile() {
-    gcc -std=c11 -O2 -Wall -Wextra -Wno-deprecated-declarations "$@"
-}
-
 # Whether the processor says that it has this.
 has() {
     grep -m 1 '^flags' /proc/cpuinfo | grep -qw "$1"
+}
+
+archives=()
+for folder in "${@:-$here/../library/out}"; do
+    folder=$(realpath -m -- "$folder")
+    if [ ! -r "$folder/lib/libmb_library.a" ]; then
+        echo "$folder/lib/libmb_library.a is not there: library/build.sh builds it" >&2
+        exit 1
+    fi
+    for archive in "$folder"/lib/libmb_library*.a; do
+        if grep -q '^flags .*--cpu x86-64-v3' "${archive%.a}.txt" && ! { has avx2 && has bmi2 && has fma; }; then
+            echo "This processor does not run code for x86-64-v3, so $archive was not measured"
+        else
+            archives+=("$archive")
+        fi
+    done
+done
+
+# The archive's name, with its folder's if there are more folders: name_of ARCHIVE COUNT
+name_of() {
+    local name=${1##*/lib} folder=${1%/lib/*}
+    name=${name%.a}
+    if [ "$2" -gt 1 ]; then name=$name:${folder##*/}; fi
+    echo "$name"
+}
+
+compile() {
+    gcc -std=c11 -O2 -Wall -Wextra -Wno-deprecated-declarations "$@"
 }
 
 programs=()
@@ -86,10 +102,9 @@ grep -h '^1 ' "$work/vectors/lms.txt" "$work/vectors/hss.txt" >"$work/rows"
 
 grep -m 1 '^model name' /proc/cpuinfo || uname -m
 uptime | sed 's/.*load average/load average/'
-for folder in "${folders[@]}"; do
-    compile -I "$folder/include" "$here/library/measure.c" "$folder/lib/libmb_library.a" \
-        -o "$work/library-${#programs[@]}"
-    add "library/${folder##*/}" "$work/library-${#programs[@]}"
+for archive in "${archives[@]}"; do
+    compile -I "${archive%/*/*}/include" "$here/library/measure.c" "$archive" -o "$work/library-${#programs[@]}"
+    add "$(name_of "$archive" $#)" "$work/library-${#programs[@]}"
 done
 if echo '#include <openssl/sha.h>' | gcc -fsyntax-only -x c - 2>/dev/null; then
     add_openssl
@@ -105,14 +120,14 @@ else
 fi
 python3 -B "$here/library/measure.py" "$work/rows" "${programs[@]}"
 
-for folder in "${folders[@]}"; do
-    archive=$folder/lib/libmb_library.a
-    echo "library/${folder##*/}:"
+for archive in "${archives[@]}"; do
+    include=${archive%/*/*}/include
+    echo "$(name_of "$archive" $#), $(grep '^flags' "${archive%.a}.txt"):"
     size "$archive" | awk 'NR == 2 { print "code and constants: " $1 " bytes, data: " $2 + $3 " bytes" }'
     stat -c 'archive: %s bytes' "$archive"
     # what is bound at its first call would take stack there
-    compile -I "$folder/include" "$here/library/stack.c" "$archive" -Wl,-z,now -lpthread -o "$work/stack"
+    compile -I "$include" "$here/library/stack.c" "$archive" -Wl,-z,now -lpthread -o "$work/stack"
     "$work/stack" "$work/vectors"
-    compile -I "$folder/include" "$here/../checks/library/failing.c" "$archive" -o "$work/failing"
+    compile -I "$include" "$here/../checks/library/failing.c" "$archive" -o "$work/failing"
     "$work/failing" "$vectors/maker" "$vectors/chain"
 done

@@ -1,14 +1,14 @@
 #!/usr/bin/env bash
-# The library of crates/mb_library as programs get it, which no proof sees: builds the archive over what `rt ci` has left,
-# by both compilers; compares what each defines and needs with checks/library/symbols.txt; compiles the header in old and
-# new C; links the archive into programs without a C library; and calls it from C (also with sanitizers on the caller),
-# C++, Python and Rust on values of another program in checks/library/vectors: a signature of each of the twenty pairs of
-# types, HSS, a chain, and policies, with changed bits; and with each allocation failing in turn. The callers that
-# docs/use/library.md shows are run as they stand there. The archive by Rattle's own compiler, of which that page says
-# so, has to answer also if interrupts are served on its stack. checks/library.sh [FOLDER] takes a library that
-# library/build.sh has built there in place of both. The archive by LLVM stays in library/out, for examples/library. Prints
-# a line for each thing that was tried, and tells on standard error what was not, since a tool is not there, and what was
-# wrong; ends with status 1 if anything was.
+# The library of crates/mb_library as programs get it, which no proof sees: builds its archives over what `rt ci` has
+# left, by LLVM for x86-64-v2 and for x86-64-v3, and by Rattle's own compiler; compares what each defines and needs with
+# checks/library/symbols.txt; compiles the header in old and new C; links each archive into programs without a C library;
+# and calls it from C (also with sanitizers on the caller), C++, Python and Rust on values of another program in
+# checks/library/vectors: a signature of each of the twenty pairs of types, HSS, a chain, and policies, with changed
+# bits; and with each allocation failing in turn. The callers that docs/use/library.md shows are run as they stand there.
+# The archive by Rattle's own compiler, of which that page says so, has to answer also if interrupts are served on its
+# stack. checks/library.sh [FOLDER] takes a library that library/build.sh has built there in place of these. The archives
+# by LLVM stay in library/out, for examples/library. Prints a line for each thing that was tried, and tells on standard
+# error what was not, since a tool or a processor is not there, and what was wrong; ends with status 1 if anything was.
 set -u
 export LC_ALL=C
 cd "$(dirname "$0")/.." || exit 2
@@ -109,10 +109,18 @@ call_python() {
         python3 -B "$here/caller.py" "$work/libmb_library.so" "$vectors"
 }
 
+# Calls cargo with these words, for the processor of the archive, and looks that the crate took that archive.
+cargo_for_archive() {
+    local flags=''
+    [ "$library" != mb_library_v3 ] || flags='-C target-cpu=x86-64-v3'
+    MB_LIBRARY=$folder MB_VECTORS=$vectors CARGO_TARGET_DIR=$work/target-$library RUSTFLAGS=$flags \
+        cargo "$1" --offline --quiet "${@:2}" &&
+        grep -qx "cargo:rustc-link-lib=static=$library" "$work/target-$library"/debug/build/mb_library-*/output
+}
+
 call_rust() {
-    cp -r library/rust "$work/rust" &&
-        (cd "$work/rust" && MB_LIBRARY=$folder MB_VECTORS=$vectors CARGO_TARGET_DIR=$work/target \
-            cargo test --offline --quiet) && echo "each function, and eight threads"
+    rm -rf "$work/rust" && cp -r library/rust "$work/rust" &&
+        (cd "$work/rust" && cargo_for_archive test) && echo "each function, and eight threads"
 }
 
 # The first block in this language of the page on the library.
@@ -134,7 +142,7 @@ leave_files() {
 page_c() {
     local flags
     block c >"$work/page/update.c" && leave_files lms.txt &&
-        read -ra flags < <(PKG_CONFIG_PATH=$folder/lib/pkgconfig pkg-config --cflags --libs mb_library) &&
+        read -ra flags < <(PKG_CONFIG_PATH=$folder/lib/pkgconfig pkg-config --cflags --libs "$library") &&
         (cd "$work/page" && "$1" update.c "${flags[@]}" && ./a.out key text signature && ! ./a.out key key signature) &&
         echo "as the page has it"
 }
@@ -143,61 +151,85 @@ page_rust() {
     mkdir -p "$work/page/src" && block rust >"$work/page/src/main.rs" && (
         printf '[package]\nname = "page"\nedition = "2021"\n\n[dependencies]\nmb_library = { path = "%s" }\n' \
             "$PWD/library/rust" >"$work/page/Cargo.toml"
-        cd "$work/page" && MB_LIBRARY=$folder CARGO_TARGET_DIR=$work/target cargo run --offline --quiet -- \
-            "$vectors/maker" "$vectors/chain" | diff - "$vectors/listing"
+        cd "$work/page" && cargo_for_archive run -- "$vectors/maker" "$vectors/chain" >listing &&
+            diff listing "$vectors/listing"
     ) && echo "as the page has it"
 }
 
 page_python() {
     block python >"$work/page/page.py" && leave_files hss.txt && (
         cd "$work/page" && "$1" -shared -o libmb_library.so \
-            -Wl,--whole-archive "$folder/lib/libmb_library.a" -Wl,--no-whole-archive &&
+            -Wl,--whole-archive "$archive" -Wl,--no-whole-archive &&
             [ "$(python3 -B page.py key text signature)" = verifies ] &&
             [ "$(python3 -B page.py key key signature)" = 'does not verify' ]
     ) && echo "as the page has it"
 }
 
-# Tries the library in `folder`, under this name.
-try_library() {
-    local name=$1 compiler='' tool
-    archive=$folder/lib/libmb_library.a
+# Whether this processor runs code for x86-64-v3.
+has_v3() {
+    local word
+    for word in avx avx2 bmi1 bmi2 f16c fma abm movbe; do
+        grep -m 1 '^flags' /proc/cpuinfo | grep -qw "$word" || return
+    done
+}
+
+# Tries the archive of this name in `folder`: try_archive COMPILER NAME TITLE
+try_archive() {
+    local compiler=$1 title=$3 tool
+    library=$2
+    archive=$folder/lib/lib$library.a
     backend=llvm
-    if grep -q '^flags .*--backend rattle' "$folder/lib/libmb_library.txt"; then backend=rattle; fi
+    if grep -q '^flags .*--backend rattle' "$folder/lib/lib$library.txt"; then backend=rattle; fi
     rm -rf "$work/page" && mkdir "$work/page"
+    if has nm; then try "$title, symbols" symbols; fi
+    if grep -q '^flags .*--cpu x86-64-v3' "$folder/lib/lib$library.txt" && ! has_v3; then
+        echo "this processor does not run code for x86-64-v3: skipped what runs $title" >&2
+        return
+    fi
     for tool in gcc clang; do
-        if has "$tool"; then
-            [ -n "$compiler" ] || compiler=$tool
-            try "$name, the header by $tool" compile_header "$tool"
-            try "$name, C by $tool" call_c "$tool" -O2
-        fi
+        if has "$tool"; then try "$title, C by $tool" call_c "$tool" -O2; fi
     done
-    if [ -z "$compiler" ]; then return; fi
-    if has nm; then try "$name, symbols" symbols; fi
-    if has clang; then try "$name, C with sanitizers" call_c clang -O1 -fsanitize=address,undefined -fno-sanitize-recover=all; fi
+    if has clang; then try "$title, C with sanitizers" call_c clang -O1 -fsanitize=address,undefined -fno-sanitize-recover=all; fi
     for tool in g++ clang++; do
-        if has "$tool"; then try "$name, C++ by $tool" call_cpp "$tool"; fi
+        if has "$tool"; then try "$title, C++ by $tool" call_cpp "$tool"; fi
     done
-    try "$name, failing allocations" fail_allocations "$compiler"
+    try "$title, failing allocations" fail_allocations "$compiler"
     if [ "$(uname -sm)" = 'Linux x86_64' ]; then
-        try "$name, without a C library" run_alone "$compiler"
+        try "$title, without a C library" run_alone "$compiler"
         # the other compiler puts all code into one section, and keeps nothing below the stack pointer
         if [ "$backend" = rattle ]; then
-            try "$name, interrupts on its stack" serve_interrupts "$compiler"
+            try "$title, interrupts on its stack" serve_interrupts "$compiler"
         else
-            try "$name, without a C library and a heap" run_signatures_alone "$compiler"
+            try "$title, without a C library and a heap" run_signatures_alone "$compiler"
         fi
     else
         echo "this is not Linux on x86-64: skipped programs without a C library, and interrupts" >&2
     fi
-    if has pkg-config; then try "$name, the page's caller in C" page_c "$compiler"; fi
+    if has pkg-config; then try "$title, the page's caller in C" page_c "$compiler"; fi
     if has python3; then
-        try "$name, Python" call_python "$compiler"
-        try "$name, the page's caller in Python" page_python "$compiler"
+        try "$title, Python" call_python "$compiler"
+        try "$title, the page's caller in Python" page_python "$compiler"
     fi
     if has cargo; then
-        try "$name, Rust" call_rust
-        try "$name, the page's caller in Rust" page_rust
+        try "$title, Rust" call_rust
+        try "$title, the page's caller in Rust" page_rust
     fi
+}
+
+# Tries the library in `folder`, under this name.
+try_library() {
+    local name=$1 compiler='' tool file
+    for tool in gcc clang; do
+        if has "$tool"; then
+            [ -n "$compiler" ] || compiler=$tool
+            try "$name, the header by $tool" compile_header "$tool"
+        fi
+    done
+    if [ -z "$compiler" ]; then return; fi
+    for file in "$folder"/lib/lib*.a; do
+        file=${file##*/lib}
+        try_archive "$compiler" "${file%.a}" "$name, ${file%.a}"
+    done
 }
 
 if [ $# -gt 0 ]; then
@@ -206,8 +238,9 @@ if [ $# -gt 0 ]; then
 elif has rt; then
     for name in llvm rattle; do
         folder=$work/$name
-        [ "$name" = rattle ] || folder=$PWD/library/out
-        if library/build.sh --over-gate "$folder" --backend "$name"; then
+        flags=(--backend rattle)
+        if [ "$name" = llvm ]; then folder=$PWD/library/out flags=(); fi
+        if library/build.sh --over-gate "$folder" "${flags[@]}"; then
             try_library "$name"
         else
             failed=$((failed + 1))

@@ -48,16 +48,41 @@ draft() {
     echo "  $name.draft: $(paste -s -d ';' "$name.draft" | sed 's/;/; /g')"
 }
 
-# Gives a device these events, and shows each beside its reply. An order is given by the name of its file.
-serve() {
-    local image=$1 event
-    shift
+# Writes the script of these events. An order is given by the name of its file.
+write_script() {
+    local event
     for event; do
         if [ -f "$event" ]; then cat "$event"; else echo "$event"; fi
     done >script
+}
+
+# Shows each of these events beside the line of `printed` in its place.
+beside() {
+    printf '%s\n' "$@" | paste -d '|' - <(head -n $# printed) |
+        sed -E ':a; s/^([^|]{1,20})\|/\1 |/; ta; s/^([^|]*)\|/    \1  /'
+}
+
+# Gives a device these events, and shows each beside its reply. An order is given by the name of its file.
+serve() {
+    local image=$1
+    shift
+    write_script "$@"
     miniboot run "$image" script noise
     echo "  \$ miniboot run $image script noise"
-    printf '%s\n' "$@" | paste -d '|' - printed | sed -E ':a; s/^([^|]{1,20})\|/\1 |/; ta; s/^([^|]*)\|/    \1  /'
+    beside "$@"
+}
+
+# Rehearses these events on a device, and shows each beside its reply, the line of the first that is not obeyed, and the
+# status where it is not 0.
+rehearse() {
+    local image=$1 status=0
+    shift
+    write_script "$@"
+    "$program" rehearse "$image" script noise >printed || status=$?
+    echo "  \$ miniboot rehearse $image script noise"
+    beside "$@"
+    tail -n "+$(($# + 1))" printed | sed 's/^/    /'
+    [ "$status" -eq 0 ] || echo "    status $status"
 }
 
 # The statement that was printed last, as a file for `attach`.

@@ -3,7 +3,7 @@ _miniboot() {
     local word=${COMP_WORDS[COMP_CWORD]} words=()
     COMPREPLY=()
     if [ "$COMP_CWORD" -eq 1 ]; then
-        mapfile -t COMPREPLY < <(compgen -W "keygen showkey factory hsskeygen showmaker endorse showorder ordered sign countersign cosign run cutat chain attach migrate generate verify audit trust endorsed fleet asm disasm app --help --version" -- "$word")
+        mapfile -t COMPREPLY < <(compgen -W "keygen showkey factory hsskeygen showmaker endorse showorder ordered sign countersign cosign showimage run rehearse cutat chain attach migrate generate verify history audit trust endorsed register enrol devices fleet asm disasm appcode app --help --version" -- "$word")
         return
     fi
     case ${COMP_WORDS[1]} in
@@ -18,19 +18,26 @@ _miniboot() {
     sign) words=(KEY DRAFT OUT) ;;
     countersign) words=(KEY LAYER ORDER OUT) ;;
     cosign) words=(KEY LAYER ORDER DRAFT OUT) ;;
+    showimage) words=(IMAGE) ;;
     run) words=(IMAGE SCRIPT NOISE) ;;
+    rehearse) words=(IMAGE SCRIPT NOISE) ;;
     cutat) words=(IMAGE SCRIPT NOISE COUNT FILL) ;;
     chain) words=(IMAGE OUT) ;;
     attach) words=(CHAIN STATEMENT OUT) ;;
     migrate) words=(IMAGE OUT) ;;
     generate) words=(NUMBER ROUNDS IMAGE SCRIPT NOISE) ;;
     verify) words=(ROOT CHAIN KEYNUMBER) ;;
+    history) words=(ROOT CHAIN) ;;
     audit) words=(IMAGE ROOT CHAIN KEYNUMBER) ;;
     trust) words=(ROOT CHAIN KEYNUMBER POLICY) ;;
     endorsed) words=(PUBLIC ROOT ENDORSEMENT) ;;
+    register) words=(OUT) ;;
+    enrol) words=(ROOT REGISTER CHAIN) ;;
+    devices) words=(REGISTER) ;;
     fleet) words=(ROOT REGISTER ITEMS) ;;
     asm) words=(TEXT OUT) ;;
     disasm) words=(CODE OUT) ;;
+    appcode) words=(CODE INPUT STEPS) ;;
     app) words=(IMAGE LAYER INPUT STEPS) ;;
     esac
     case ${words[COMP_CWORD - 2]-} in

@@ -3,6 +3,7 @@
 import re
 
 import applications
+import commands
 from applications import BadLine, NoInstruction
 
 TRAPS = dict(NoInstruction=1, TooFewValues=2, TooManyValues=3, BadAddress=4, DivisionByZero=5, BadRegion=6)
@@ -49,3 +50,17 @@ def app_texts(source):
         except NoInstruction as none:
             found = "At", str(none.at)
         source.compare(f"code {code[:40]}", found, (end, word))
+
+
+def app_trials(source):
+    """The codes that are tried, each with its input, its steps and its end."""
+    kinds = {"Hex": bytes.fromhex, "Text": unescaped, "Sevens": lambda count: b"\7" * int(count.replace("_", ""))}
+    files = {}
+    for name, kind, word in source.rows(r'name: "(\w+)",\s*content: Content::(Hex|Text|Sevens)\("?([^")]*)"?\)'):
+        files[name] = kinds[kind](word)
+    for name, count in source.rows(r'name: "(\w+)",\s*content: Content::Laid\(&\[\("", ([\d_]+), 0\)\]\)'):
+        files[name] = bytes(int(count.replace("_", "")))
+    for words, status, line in source.rows(r'Step::Ends\(\s*"(appcode [^"]*)",\s*(\d),\s*"([^"]+)",?\s*\)'):
+        found, wanted = commands.answer(words.split(" "), commands.Folder(files)), unescaped(line).decode()
+        fits = found.text.startswith(wanted[:-2]) if wanted.endswith("*\n") else found.text == wanted
+        source.compare(words, (found.status, fits or found.text), (int(status), True))

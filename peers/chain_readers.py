@@ -10,11 +10,12 @@ import re
 import types
 
 import chains
+import devices_shown  # noqa: F401, among the commands of chains.py from here on
 import fleet
 import images
-import policies  # noqa: F401, among the commands of chains.py from here on
+import policies  # noqa: F401, likewise
 from life import Living
-from lms import sha256, u8, u16
+from lms import sha256, u8, u16, u32
 from officer import body, order, order_line, unhex
 from sources import BIRTHS, HEX, Source
 from top_readers import Host, private_key
@@ -23,6 +24,7 @@ TOKEN = re.compile(r'"(?:[^"\\]|\\.)*"|[A-Za-z_][\w:]*|0x[0-9A-F]+|\d[\d_]*|[()\
 LIFE = "crates/mb_test_plays/src/lives.rt"
 CHAINS = "crates/mb_test_lives/src/tests/chains.rt"
 FAILURES = "crates/mb_test_commands/src/tests/failures.rt"
+FLEET = "crates/mb_test_commands/src/tests/fleet.rt"
 # the tables that lead to a new device with its first orders, and to one whose layers have code
 A_NEW_DEVICE = "MADE", "FIRST_ORDERS"
 LAYERS_OWNED = *A_NEW_DEVICE, "ORDERS_OF_A_LIFE", "LAYERS_ARE_GIVEN"
@@ -348,20 +350,46 @@ def fleet_tests(source):
     source.text, plays = source.text.split("/// A maker's key, a register of two devices")
     chains_tests(source, tests=plays)
     source.text = plays
+    register_plays(source, registers_given(source), ("REGISTER", "ANSWERS"))
+
+
+def registers_given(source):
+    """The files of the plays on registers."""
     files = {"long": b"\7" * 4_194_305, "nothing": b""}
     for name, content in source.rows(r'name: "(\w+)",\s*content: Content::Hex\(\s*("[^"]*"|[A-Z_]+),?\s*\)'):
         word = source.argument(content)
         source.seen.add(word)
         files[name] = bytes.fromhex(word)
-    constants = {name: source.constant(name).replace("\\n", "\n") for name in ("REGISTER", "ANSWERS")}
+    return files
+
+
+def register_plays(source, files, constants):
+    """The play on inputs, and the registers and items that end early."""
     ((table,),) = source.rows(r"const INPUTS: .*?steps: &\[(.*?)\],\s*}\];")
-    for constant, value in constants.items():
-        table = re.sub(rf"\b{constant}\b", lambda _, value=value: repr(value).replace("'", '"'), table)
+    for name in constants:
+        value = source.owner(name).constant(name).replace("\\n", "\n")
+        table = re.sub(rf"\b{name}\b", lambda _, value=value: repr(value).replace("'", '"'), table)
     world = World(files)
     for step in values(table):
         follow(source, world, step)
+    listed = r"const REGISTER_FIELDS: &\[usize\] = (&\[.*?\]);"
+    fields = re.search(listed, source.owner("REGISTER_FIELDS").text, re.DOTALL)[1]
+    source.text = source.text.replace("offsets: REGISTER_FIELDS", f"offsets: {fields}")
     for _, *short in tables(source, {})["SHORT"]:
         compare_short(source, world, *short)
+
+
+def enrolments_tests(source):
+    """The tables that lead devices before registers one by one, and the plays in which no call of the host fails."""
+    steps, start = tables(Source(source.root, LIFE), {}) | tables(source, {}), born(source)
+    rows = (u32(0) * 3 + u32(at) + bytes(8) + b"\1" + b"\7" * 32 for at in range(fleet.DEVICES))
+    start.files["full"] = b"MBF1" + u16(fleet.DEVICES) + b"".join(rows)
+    for names in ("A_NEW_DEVICE", "A_WHOLE_LIFE", "EXTENDED_AND_OLDER"), ("A_COPY_IS_CAUGHT",), ("NO_ROOM",):
+        world = copy.deepcopy(start)
+        for name in names:
+            for step in steps[name]:
+                follow(source, world, step)
+    register_plays(source, registers_given(Source(source.root, FLEET)), ("REGISTER", "SHOWN"))
 
 
 def shared_life(source):

@@ -3,9 +3,9 @@
     answer(words, folder)    the answer of a command that is given these words, over a folder of files
 
 Nothing here is taken from the program. What is printed at status 0 and the bytes that are written are predicted
-exactly, but for two commands. The image of `run` is predicted by what it means, and its replies follow from those
-before if a power loss is armed. For `cutat` each line that may come is given, since nothing here counts the writes of
-an event.
+exactly, but for three commands. The image of `run` is predicted by what it means, and its replies follow from those
+before if a power loss is armed, as do those of `rehearse`, and with them its status. For `cutat` each line that may come
+is given, since nothing here counts the writes of an event.
 """
 
 import dataclasses
@@ -14,6 +14,7 @@ import re
 
 import applications
 import chains
+import devices_shown
 import fleet
 import hss
 import images
@@ -55,8 +56,8 @@ class Folder:
 
 @dataclasses.dataclass
 class Answer:
-    """How a command ends. `text` is what it prints, or None if `run` serves events; then `served` says what is
-    known of its replies and its image. `others` are texts that may come in place of `text`."""
+    """How a command ends. `text` is what it prints, or None if it serves events; then `served` says what is known of
+    the replies, and of the image after `run`. `others` are texts that may come in place of `text`."""
 
     status: int
     text: str | None
@@ -307,17 +308,9 @@ def migrate(call, image, out):
     return [f"migrated {sha256(bytes_).hex()}"]
 
 
-def with_draw(event, noise, at):
-    return dataclasses.replace(event, bytes=(event.bytes, noise[32 * at : 32 * at + 32]))
-
-
 def drawn(call, noise, events):
     """The events, each order with its draw."""
-    commands = [at for at, event in enumerate(events) if event.word == "command"]
-    bytes_ = call.noise(noise, 32 * len(commands))
-    for number_, at in enumerate(commands):
-        events[at] = with_draw(events[at], bytes_, number_)
-    return events
+    return machine.with_draws(events, call.noise(noise, machine.length_of_draws(events)))
 
 
 def run(call, image, script, noise):
@@ -424,7 +417,17 @@ def app(call, image, layer, input_, steps):
         raise Ended(7, "refused 4 layer")
     regions = [m for m in range(at, 4) if machine.standing(state.judged, m) == "runnable"]
     secrets = {m: {name: value for name, value, _ in state.region(m).secrets} for m in regions}
-    line, is_halted = applications.run(state.codes[at - 1], given, secrets, most)
+    return told_end(state.codes[at - 1], given, secrets, most)
+
+
+def appcode(call, code, input_, steps):
+    most = number(steps, 1, MOST_STEPS)
+    return told_end(call.code(code), call.read("input", input_), {3: {}}, most)
+
+
+def told_end(code, given, secrets, most):
+    """The line of a run, which is a refusal if the run does not halt."""
+    line, is_halted = applications.run(code, given, secrets, most)
     if not is_halted:
         raise Ended(7, line)
     return [line]
@@ -451,6 +454,9 @@ def disasm(call, code, out):
 
 COMMANDS = {
     "run": (run, 3),
+    "rehearse": (devices_shown.rehearsed, 3),
+    "showimage": (devices_shown.showimage, 1),
+    "history": (devices_shown.history, 2),
     "cutat": (cutat, 5),
     "verify": (verify, 3),
     "audit": (audit, 4),
@@ -472,7 +478,11 @@ COMMANDS = {
     "endorsed": (endorsed, 3),
     "trust": (policies.trust, 4),
     "fleet": (fleet.fleet, 3),
+    "register": (fleet.register, 1),
+    "enrol": (fleet.enrol, 3),
+    "devices": (fleet.devices, 1),
     "app": (app, 4),
+    "appcode": (appcode, 3),
     "asm": (asm, 2),
     "disasm": (disasm, 2),
 }
@@ -493,7 +503,7 @@ def answer(words, folder, workloads=None):
         lines = command(call, *words[1:])
     except Ended as ended:
         return Answer(ended.status, ended.line + "\n", call.written)
-    if isinstance(lines, Served):
+    if isinstance(lines, Served | devices_shown.Rehearsed):
         return Answer(0, None, served=lines)
     if isinstance(lines, OneOf):
         text, *others = (line + "\n" for line in lines.lines)

@@ -1,10 +1,13 @@
 #!/usr/bin/env python3
-"""What examples/device-life, examples/outbound, examples/policy, examples/fleet, examples/orders and
-examples/endorsement show: their scripts are followed line by line, over files that are all made here.
+"""What examples/device-life, examples/rehearsal, examples/outbound, examples/policy, examples/fleet, examples/operator,
+examples/orders and examples/endorsement show: their scripts are followed line by line, over files that are all made
+here.
 
     examples.py device-life >examples/device-life/expected.txt
+    examples.py rehearsal >examples/rehearsal/expected.txt
     examples.py outbound >examples/outbound/expected.txt
     examples.py fleet >examples/fleet/expected.txt
+    examples.py operator >examples/operator/expected.txt
     examples.py policy >examples/policy/expected.txt
     examples.py orders >examples/orders/expected.txt
     examples.py endorsement >examples/endorsement/expected.txt
@@ -178,6 +181,15 @@ class Steps(World):
         rows = zip(events, self.printed.splitlines(), strict=True)
         self.show("    ", "".join(f"{event:21}  {reply}\n" for event, reply in rows))
 
+    def rehearse(self, text):
+        image, *events = self.words(text)
+        self.files["script"] = self.script_of(events).encode()
+        self.show("  ", f"$ miniboot rehearse {image} script noise")
+        status = self.miniboot(f"rehearse {image} script noise")
+        lines = self.printed.splitlines()
+        self.show("    ", "".join(f"{event:21}  {reply}\n" for event, reply in zip(events, lines)))
+        self.show("    ", "\n".join(lines[len(events) :] + ([f"status {status}"] if status else [])))
+
     def cut_each_write(self, order):
         """What is found if the order has not happened, and if it has."""
         for before in ([], [order]):
@@ -189,6 +201,18 @@ class Steps(World):
     def keep_statement(self, name):
         self.files[name] = re.findall(r"^signed \d+ \d+ (.*\n)", self.printed, re.MULTILINE)[-1].encode()
         self.hash_of(name, name)
+
+    def enrolled(self, names):
+        for name in names.split():
+            self.miniboot(f"chain {name} chain")
+            self.ask("enrol maker.public register chain")
+
+    def table_of_codes(self):
+        """How many devices have which code of layer 2."""
+        self.miniboot("devices register")
+        self.show("  ", "$ tail -n +2 devices | cut -d ' ' -f 6 | sort | uniq -c")
+        codes = [line.split(" ")[5] for line in self.printed.splitlines()[1:]]
+        self.show("    ", "".join(f"{codes.count(code)} {code}\n" for code in sorted(set(codes))))
 
     def hash_of(self, name, file):
         self.show("  ", f"{name}  SHA-256 {sha256(self.content(file)).hex()}")
@@ -254,8 +278,11 @@ FORMS = [
     (r"signed (.*)", Steps.signed),
     (r"order_hash (\w+)", Steps.order_hash),
     (r"serve (.*)", Steps.serve),
+    (r"rehearse (.*)", Steps.rehearse),
     (r"cut_each_write (\w+)", Steps.cut_each_write),
     (r"keep_statement (\w+)", Steps.keep_statement),
+    (r"enrolled ([\w ]+)", Steps.enrolled),
+    (r"table_of_codes", Steps.table_of_codes),
     (r"hash_of ([\w.]+) ([\w.]+)", Steps.hash_of),
     (r"ask (.*)", Steps.ask),
     (r"miniboot (.*)", Steps.miniboot),
@@ -287,12 +314,20 @@ def compare_shown(source, steps):
         source.compare("all lines", found, wanted)
 
 
+def rehearsal(source):
+    compare_shown(source, followed(source.root, "rehearsal"))
+
+
 def outbound(source):
     compare_shown(source, followed(source.root, "outbound"))
 
 
 def fleet_of_devices(source):
     compare_shown(source, followed(source.root, "fleet"))
+
+
+def operator(source):
+    compare_shown(source, followed(source.root, "operator"))
 
 
 def orders(source):

@@ -1,7 +1,8 @@
 #!/usr/bin/env python3
 """A register of what devices have shown, kept and queried by the formats, the rules of the log and RFC 8554 alone.
 
-    fleet.py ROOT REGISTER ITEMS    as `miniboot fleet` does, with the words and statuses of docs/use/commands.md
+    fleet.py fleet ROOT REGISTER ITEMS    as `miniboot fleet` does, with the words and statuses of docs/use/commands.md
+    fleet.py register OUT                 and so on for the other commands on registers
 
 A register is a dictionary of rows by serials here, and each question looks through all of its rows.
 """
@@ -155,11 +156,42 @@ def fleet(files, root, register, items):
     return lines
 
 
-COMMANDS = {"fleet": (fleet, 3)}
+def register(files, out):
+    files.write("out", out, spelled({}))
+    return devices_of({})
+
+
+def enrol(files, root, register, chain):
+    maker = files.record("root", root, Reader.key)
+    rows = files.record("register", register, register_at)
+    before = spelled(rows)
+    try:
+        line = shown(rows, maker, files.read("chain", chain))
+    except Refused as refused:
+        raise Ended(7, refused.line) from None
+    if spelled(rows) != before:
+        files.write("register", register, spelled(rows))
+    return [line]
+
+
+def devices(files, register):
+    return devices_of(files.record("register", register, register_at))
+
+
+def devices_of(rows):
+    """The lines for a register."""
+    lines = [f"devices {len(rows)}"]
+    for serial, row in sorted(rows.items()):
+        codes = ("-" if code is None else code.hex() for code in row.codes)
+        lines.append(" ".join(("device", serial.hex(), str(len(row.hashes)), str(row.number), *codes)))
+    return lines
+
+
+COMMANDS = {"fleet": (fleet, 3), "register": (register, 1), "enrol": (enrol, 3), "devices": (devices, 1)}
 
 
 def main(words):
-    status, printed, written = chains.answer(["fleet", *words], chains.content_of, COMMANDS)
+    status, printed, written = chains.answer(words, chains.content_of, COMMANDS)
     for name, bytes_ in written.items():
         pathlib.Path(name).write_bytes(bytes_)
     print(printed, end="")

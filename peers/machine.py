@@ -363,12 +363,30 @@ def outcomes(world, event):
             yield "stopped", stopped
 
 
-def follow(worlds, event, reply):
-    """The worlds in which a device can be that gave this reply, and the replies that could have come."""
+def follow(worlds, event, reply, shown=str):
+    """The worlds in which a device can be that gave this reply, as it is shown, and the replies that could have
+    come."""
     found, possible = [], []
     for world in worlds:
         for told, after in outcomes(world, event):
             possible.append(told)
-            if told == reply and after not in found:
+            if shown(told) == reply and after not in found:
                 found.append(after)
     return found, possible
+
+
+def orders_at(events):
+    return [at for at, event in enumerate(events) if event.word == "command"]
+
+
+def length_of_draws(events):
+    """How many bytes of noise the orders among the events draw."""
+    return 32 * len(orders_at(events))
+
+
+def with_draws(events, noise):
+    """The events, each order with its draw."""
+    drawn = list(events)
+    for number, at in enumerate(orders_at(events)):
+        drawn[at] = dataclasses.replace(drawn[at], bytes=(drawn[at].bytes, noise[32 * number : 32 * number + 32]))
+    return drawn

@@ -38,7 +38,7 @@ def reports_of(reports):
     living = life(EPOCH, True, (4, (first, two, three)), (5, (one, two, three)), (6, (one, two, three)))
     ended = life(EPOCH, False, *((at, (one, m, three)) for at, m in zip((7, 8, 9), (unreliable, bare, Layer()))))
     configured = life(CONFIGURATION, True, (5, (one, two)))
-    return {"": (living, None), "Ended": (ended, None), "Configured": (configured, b"today")}
+    return {"Living": (living, None), "Ended": (ended, None), "Configured": (configured, b"today")}
 
 
 def come_to(report, text):
@@ -55,26 +55,35 @@ def come_to(report, text):
     return "Allowed"
 
 
+def compare_policy(source, report, text, expected):
+    source.compare(f"policy {text}", come_to(report, unescaped(text)), expected)
+
+
+def table_of(source, name):
+    """The text of the rows of a table."""
+    ((table,),) = source.rows(rf"const {name}: [^=]*= &\[\n(.*?)\n\];")
+    return table
+
+
 def judgements(source):
-    """The policies of the tables, and what each comes to for its report."""
+    """The policies of the tables, each after its first lines, and what it comes to for its report."""
     reports = reports_of(Source(source.root, source.name.replace("judgements", "reports")))
-    sets = source.constant("SETS")
+    row = r'\(\s*"[^"]*",\s*(\w+),\s*(\w+|"[^"]*"),\s*(\w+),?\s*\)'
+    for whose, first, name in re.findall(row, table_of(source, "POLICIES")):
+        lines_before = source.argument(first)
+        for lines, expected in re.findall(rf"\(\s*{TEXT},\s*{EXPECTED},?\s*\)", table_of(source, name)):
+            compare_policy(source, reports[whose], lines_before + lines, expected)
 
-    def compare(whose, text, expected):
-        source.compare(f"policy {text}", come_to(reports[whose], unescaped(text)), expected)
 
-    def rows(name, pattern):
-        ((table,),) = source.rows(rf"const {name}: .*? = &\[\n(.*?)\n\];")
-        return re.findall(rf"\(\s*{pattern},\s*{EXPECTED},?\s*\)", table)
-
-    for lines, expected in rows("AFTER_SETS", TEXT):
-        compare("", sets + lines, expected)
-    for whose, lines, expected in rows("OTHER_REPORTS", rf"(\w+),\s*{TEXT}"):
-        compare(whose, sets + lines, expected)
-    for times, word, others, end, expected in rows("NESTED", rf"(\d+),\s*{TEXT},\s*(\d+),\s*{TEXT}"):
-        compare("", f"{sets}allow r {word * int(times)}{'alive ' * int(others)}{end}", expected)
-    for text, expected in rows("WHOLE", TEXT) + rows("MORE", TEXT):
-        compare("", text, expected)
+def large_policies(source):
+    """The large policies, put together of their pieces, and what each comes to for the key that is alive."""
+    report = reports_of(Source(source.root, source.name.replace("large", "reports")))["Living"]
+    row = rf'"[^"]*",\s*&\[(.*?)\],\s*{EXPECTED}'
+    for pieces, expected in re.findall(row, table_of(source, "LARGE"), re.DOTALL):
+        text = "".join(
+            source.argument(word) * int(times) for word, times in re.findall(r'\((\w+|"[^"]*"), (\d+)\)', pieces)
+        )
+        compare_policy(source, report, text, expected)
 
 
 # ---- registers

@@ -46,35 +46,20 @@ def key_files(source):
 
 
 def officers_orders(source):
-    ((by, beside),) = source.rows(rf"fn signer\(\).*?{HEX}.*?fn countersigner\(\).*?{HEX}")
-    for test in source.text.split("#[test]")[1:]:
-        name = re.search(r"fn (\w+)", test)[1]
-        drafted = re.search(rf'drafted\([^"]*b"(.*?)",\s*{HEX}', test, re.DOTALL)
-        hashes = re.findall(r'signs\([^"]*"([0-9a-f]{64})"', test)
-        if not drafted or not hashes:
-            continue
-        source.seen.update([drafted[2], *hashes])
-        text = body(line_of(drafted[1]))
-        source.compare(f"{name}, body", text.hex(), drafted[2])
-        signature = Officer(*unhex(by)).sign(signed_text(text))
-        source.compare(f"{name}, signed", sha256(order(text, signature)).hex(), hashes[0])
-        if len(hashes) > 1:
-            by_three = Officer(*unhex(beside)).sign(countersigned_text(3, text))
-            found = sha256(order(text, signature, [(3, by_three)])).hex()
-            source.compare(f"{name}, countersigned", found, hashes[1])
-    drafts_with_trusts(source, by)
-
-
-def drafts_with_trusts(source, by):
-    """Drafts whose bodies stand beside them, and those that are signed by the hash of the order."""
-    ((rows,),) = source.rows(r"const BODIES: [^=]*= &\[(.*?)\n\];")
-    for draft, wanted in re.findall(rf'\(\s*"([^"]*)",\s*{HEX},?\s*\)', rows):
-        source.compare("body of a draft", body(line_of(draft)).hex(), wanted)
-        source.seen.add(wanted)
-    for draft, wanted in source.rows(rf'signs_draft\(\s*[^"]*"([^"]*)",\s*{HEX}'):
+    """Drafts, the bodies of their orders, and the hashes of the orders once they are signed, and countersigned too."""
+    by, beside = (unhex(source.constant(name)) for name in ("SIGNER", "COUNTERSIGNER"))
+    hash_ = rf"(?:None|Some\({HEX}\))"
+    rows = rf'draft: "([^"]*)",\s*body: {HEX},\s*signed: {hash_},\s*countersigned: {hash_},'
+    for draft, wanted, signed, countersigned in source.rows(rows):
         text = body(line_of(draft))
-        signature = Officer(*unhex(by)).sign(signed_text(text))
-        source.compare("order of a draft", sha256(order(text, signature)).hex(), wanted)
+        source.compare("body of a draft", text.hex(), wanted)
+        if signed:
+            signature = Officer(*by).sign(signed_text(text))
+            source.compare("order of a draft", sha256(order(text, signature)).hex(), signed)
+        if countersigned:
+            by_three = Officer(*beside).sign(countersigned_text(3, text))
+            found = sha256(order(text, signature, [(3, by_three)])).hex()
+            source.compare("order of a draft, countersigned", found, countersigned)
 
 
 def workloads(source):

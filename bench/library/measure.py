@@ -1,14 +1,14 @@
 #!/usr/bin/env python3
 """Compares verifiers, which bench/library.sh builds: measure.py ROWS NAME PROGRAM [NAME PROGRAM]..
 
-ROWS is a file of signatures, and each program verifies them as measure.c says. A name that begins with `library` is of
-the library; the others are what it is compared with. The programs take turns in rounds: in each, every program verifies
-the first row, in an order that is drawn anew, then the second row, and so on. A turn is half a millisecond, twice, since
-some processors are slower for a while after what ran before. All programs are on one processor, and in the next round on
-another. So what else the machine does meets them alike. The least time that a program took for a row counts, of as many
-rounds as the environment's ROUNDS names, or 60. It prints a table in microseconds of processor time, and how many times
-as long the library takes: for all signatures of LMS, the least and the most of a row; and for all of them within a round,
-the median of the rounds.
+ROWS is a file of signatures, and each program verifies them as measure.c says. A name that begins with `mb_library` is
+of the library; the others are what it is compared with. The programs take turns in rounds: in each, every program
+verifies the first row, in an order that is drawn anew, then the second row, and so on. A turn is half a millisecond,
+twice, since some processors are slower for a while after what ran before. All programs are on one processor, and in the
+next round on another. So what else the machine does meets them alike. The least time that a program took for a row
+counts, of as many rounds as the environment's ROUNDS names, or 60. It prints a table in microseconds of processor time,
+and how many times as long the library takes: for all signatures of LMS, the least and the most of a row; and for all of
+them within a round, the median of the rounds.
 """
 
 import os
@@ -128,7 +128,7 @@ def main(words):
     print_table(programs, rows, lms)
     for library in programs:
         for other in programs:
-            if library.name.startswith("library") and not other.name.startswith("library"):
+            if library.name.startswith("mb_library") and not other.name.startswith("mb_library"):
                 print_times(library, other, lms)
     for program in programs:
         program.end()

@@ -151,6 +151,16 @@ def kind_of_life(runner, life, end):
     return None
 
 
+def kind_of_rehearsal(end, files):
+    """What an end of a rehearsal is in which one event was answered `no memory`, or None."""
+    replies = end.printed.splitlines()
+    if end.status == 7 and end.files == files and replies[:-1].count("no memory") == 1:
+        # an empty remark stands before the events
+        if replies[-1] == f"first {replies.index('no memory') + 2} no memory":
+            return "an event answered `no memory`"
+    return None
+
+
 @functools.lru_cache(None)
 def life_without(runner, life, at):
     return runner.run("run image script noise", life.files(at))[0]
@@ -197,7 +207,8 @@ def try_all(runner, pool):
     for command in hostile.COMMANDS:
         if command is not hostile.RUN:
             files = {name: sample[name] for name in command.words.split(" ") if name in sample}
-            found.append(try_each(runner, pool, command.words, files))
+            other = functools.partial(kind_of_rehearsal, files=files) if command is hostile.REHEARSE else None
+            found.append(try_each(runner, pool, command.words, files, other))
     if not all(kinds[LACKS] for kinds in found):
         print("a command never ended with status 6")
         found[0]["WRONG"] += 1

@@ -24,6 +24,9 @@ NUMBERS = "01", "-1", "+1", "1 ", "4294967296", "4294967295", "0", "1", "4", "25
 # how often each command is tried
 SHARES = {
     "run": 44,
+    "rehearse": 12,
+    "showimage": 6,
+    "history": 12,
     "cutat": 12,
     "verify": 14,
     "audit": 8,
@@ -45,7 +48,11 @@ SHARES = {
     "endorsed": 8,
     "trust": 9,
     "fleet": 8,
+    "register": 1,
+    "enrol": 6,
+    "devices": 3,
     "app": 10,
+    "appcode": 5,
     "asm": 5,
     "disasm": 5,
 }

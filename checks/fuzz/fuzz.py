@@ -17,6 +17,7 @@ sys.path.insert(0, str(pathlib.Path(__file__).resolve().parents[2] / "peers"))
 
 import cases  # noqa: E402
 import commands  # noqa: E402
+import devices_shown  # noqa: E402
 import pool  # noqa: E402
 from lms import sha256  # noqa: E402
 
@@ -39,7 +40,7 @@ LINES = [
     *(f"read failed {role}" for role in INPUTS),
     *(f"write failed {role}" for role in OUTPUTS),
     *(f"refused {code} N" for code in (20, 21, 22, 23)),
-    *(f"refused {code}" for code in (24, 25, 26, 27, 28)),
+    *(f"refused {code}" for code in (24, 25, 26, 27, 28, 30, 31, 32)),
     *("refused 4 layer", "denied N RULE", "out of steps", *(f"trap {cause} N" for cause in range(1, 9))),
     *("zeroised", "differs", "has statement", "not countersignable", "spent"),
 ]
@@ -111,6 +112,8 @@ def wrong_in(case, answer, found, after, folders):
         return f"on standard error: {errors}"
     if folders != case.folders:
         return f"there are the folders {sorted(folders)}, and not {sorted(case.folders)}"
+    if isinstance(answer.served, devices_shown.Rehearsed):
+        return wrong_in_rehearsal(case, answer.served, status, printed, after)
     if answer.served is not None:
         return wrong_in_run(case, answer.served, status, printed, after)
     if status != answer.status or not (case.is_full or answer.prints(printed)):
@@ -160,8 +163,23 @@ def wrong_in_run(case, served, status, printed, after):
     return commands.wrong_in_run(served, replies, after.get(served.name))
 
 
+def wrong_in_rehearsal(case, rehearsed, status, printed, after):
+    """What is wrong with a rehearsal, which writes nothing and then prints, or None."""
+    others = wrong_files(case, {}, after)
+    if others:
+        return others
+    if not case.is_full:
+        if printed and not printed.endswith("\n"):
+            return "the last line does not end"
+        return devices_shown.wrong_in_rehearsal(rehearsed, status, printed.splitlines())
+    # the status of a refusal is kept if its lines cannot be printed
+    refused = devices_shown.first_unobeyed(rehearsed.numbers, only_replies(rehearsed))
+    wanted = 7 if refused else 5 if rehearsed.events else 0
+    return None if status == wanted else f"status {status}, and not {wanted}"
+
+
 def only_replies(served):
-    """The replies of a run that were not printed, if no others could have come."""
+    """The replies that were not printed, if no others could have come."""
     replies, worlds = [], served.worlds
     for event in served.events:
         _, possible = commands.machine.follow(worlds, event, None)
@@ -185,12 +203,15 @@ class Counts:
         self.statuses[case.command][status] += 1
         if case.is_full:
             self.lines["write failed output"] += status == 5
+        elif case.command == "rehearse" and status in (0, 7):
+            replies = [line for line in printed.splitlines() if not line.startswith("first ")]
+            self.replies.update(map(kind_of_reply, replies))
         elif status != 0:
             line = printed.rstrip("\n")
             self.lines[kind_of_line(line)] += 1
         elif case.command == "run":
             self.replies.update(map(kind_of_reply, printed.splitlines()))
-        elif case.command == "fleet":
+        elif case.command in ("fleet", "enrol"):
             self.answers.update(filter(None, map(kind_of_answer, printed.splitlines())))
         elif case.command == "cutat":
             self.verdicts.update(printed.splitlines())
@@ -220,13 +241,14 @@ class Counts:
 def kind_of_line(line):
     """A line with N for its numbers, without the bytes that a code emits."""
     line = re.sub(r"^(refused 2[0-3]|input \S+ at|input \S+ line) \d+$", r"\1 N", line)
+    line = re.sub(r"^(refused 3[0-2]) .*", r"\1", line)
     line = re.sub(r"^denied \d+ .*", "denied N RULE", line)
     line = re.sub(r"^(trap \d) \d+ .*", r"\1 N", line)
     return re.sub(r"^out of steps .*", "out of steps", line)
 
 
 def kind_of_answer(line):
-    """The kind of an answer of `fleet`, or None of a line that goes on with one."""
+    """The kind of an answer of a register, or None of a line that goes on with one."""
     words = line.split(" ")
     if words[0] == "refused":
         return " ".join(words[:2])
@@ -250,6 +272,8 @@ def again(case):
 
 def expected(case, answer):
     """What a command should do, in words."""
+    if isinstance(answer.served, devices_shown.Rehearsed):
+        return "replies of the device as peers/machine.py has them, veiled, and all files as they were\n"
     if answer.served is not None:
         return "status 0, replies of the device as peers/machine.py has them, and its image\n"
     lines = [f"status {answer.status}, {texts_of(answer)}"]

@@ -1,4 +1,5 @@
-"""Cases of the commands on makers' keys, policies, the code of applications, and registers."""
+"""Cases of the commands on makers' keys, policies, the code of applications, and registers, and of those that show what
+images and chains say."""
 
 import applications
 import chains
@@ -174,6 +175,14 @@ class Tools:
         files = {"image": sketch.image(), "input": rng.randbytes(rng.choice((0, 1, 2, 8, 300)))}
         return ["image", layer, "input", steps], files
 
+    def appcode(self):
+        rng, steps, code = self.rng, str(self.rng.choice(STEPS)), self.code()
+        if rng.random() < 0.05:
+            code = code.ljust(rng.choice((MOST_CODE - 1, MOST_CODE, MOST_CODE + 1)), b"\0")
+        if rng.random() < 0.04:
+            steps = rng.choice(("0", "10000001", "03"))
+        return ["code", "input", steps], {"code": code, "input": rng.randbytes(rng.choice((0, 1, 2, 8, 300)))}
+
     def coded(self):
         """A state in which, in most cases, layer 2 or 3 runs code of the machine."""
         rng, states = self.rng, self.life(lambda each: runs(each.states[-1], 2)).states
@@ -258,15 +267,35 @@ class Tools:
 
     def fleet(self):
         rng, life = self.rng, self.life()
-        near = [each for each in self.pool.lives if each.maker == life.maker]
+        near = self.near(life)
         shown = [rng.choice(near) for _ in range(rng.choice((0, 1, 1, 2, 3)))]
-        register = fleet.spelled(self.rows([rng.choice(near) for _ in range(rng.randrange(4))]))
+        register = self.register_near(near)
         items = b"".join(self.item(each) for each in shown) + b"".join(self.question(life) for _ in range(rng.randrange(3)))
-        if rng.random() < 0.12:
-            register = spoil.spoilt_record(rng, register, fleet.register_at)
         if rng.random() < 0.12:
             items = spoil.spoilt_record(rng, items, fleet.items_at)
         return ["root", "register", "items"], {"root": self.public(life.maker), "register": register, "items": items}
+
+    def register(self):
+        return ["out"], {}
+
+    def enrol(self):
+        rng, life = self.rng, self.life()
+        near = self.near(life)
+        files = {"root": self.public(life.maker), "register": self.register_near(near)}
+        return ["root", "register", "chain"], files | {"chain": self.chain_bytes(rng.choice(near), 0.25)[0]}
+
+    def devices(self):
+        return ["register"], {"register": self.register_near(self.near(self.life()))}
+
+    def near(self, life):
+        """The lives under the maker of this one."""
+        return [each for each in self.pool.lives if each.maker == life.maker]
+
+    def register_near(self, lives):
+        """The bytes of a register with devices of some of these lives, now and then spoilt."""
+        rng = self.rng
+        register = fleet.spelled(self.rows([rng.choice(lives) for _ in range(rng.randrange(4))]))
+        return spoil.spoilt_record(rng, register, fleet.register_at) if rng.random() < 0.12 else register
 
     def rows(self, lives):
         """Rows of devices at some moments of these lives; now and then as many more as a register holds."""
@@ -290,6 +319,21 @@ class Tools:
             return u8(fleet.CODES) + u8(layer)
         known = [each.code for each in some_layers(rng, life) if each.code]
         return u8(fleet.FIND) + u8(layer) + rng.choice([*known, rng.randbytes(32)])
+
+
+    # ---- what images and chains say
+
+    def rehearse(self):
+        return self.run()
+
+    def showimage(self):
+        image, _ = self.image(0.3, is_old=self.rng.random() < 0.03)
+        return ["image"], {"image": image}
+
+    def history(self):
+        life = self.life()
+        chain, _ = self.chain_bytes(life)
+        return ["root", "chain"], {"root": self.public(life.maker), "chain": chain}
 
 
 def runs(state, layer):

@@ -19,6 +19,7 @@ sys.path[:0] = [str(HERE.parents[1] / "peers"), str(HERE.parent / "chains")]
 
 import chains  # noqa: E402
 import commands  # noqa: E402
+import devices_shown  # noqa: E402
 import fleet  # noqa: E402
 import forged  # noqa: E402
 import hss  # noqa: E402
@@ -68,6 +69,9 @@ class Trial:
 RUN = Command(
     "run image script noise", (("image", "image"), ("script", "script"), ("noise", "noise")), (("image", "image"),)
 )
+REHEARSE = Command("rehearse image tried noise", (("image", "image"), ("script", "tried"), ("noise", "noise")))
+SHOWIMAGE = Command("showimage image", (("image", "image"),))
+HISTORY = Command("history root chain", (("root", "root"), ("chain", "chain")))
 CUTAT = Command(
     "cutat image script noise 1 00", (("image", "image"), ("script", "script"), ("noise", "noise"))
 )
@@ -110,19 +114,29 @@ FLEET = Command(
     (("root", "root"), ("register", "register"), ("items", "items")),
     (("register", "register"),),
 )
-LEAST_NOISE = {RUN: 32, CUTAT: 32, FACTORY: 48, KEYGEN: 32, HSSKEYGEN: 32}
+REGISTER = Command("register out", (), (("out", "out"),))
+ENROL = Command(
+    "enrol root register chain",
+    (("root", "root"), ("register", "register"), ("chain", "chain")),
+    (("register", "register"),),
+)
+DEVICES = Command("devices register", (("register", "register"),))
+APPCODE = Command("appcode halting input 100", (("code", "halting"), ("input", "input")))
+LEAST_NOISE = {RUN: 32, REHEARSE: 0, CUTAT: 32, FACTORY: 48, KEYGEN: 32, HSSKEYGEN: 32}
 # those whose short inputs end as peers/commands.py predicts
 PREDICTED = (
-    *(HSSKEYGEN, ENDORSE, ENDORSED, TRUST, APP, ASM, DISASM, FLEET),
+    *(HSSKEYGEN, ENDORSE, ENDORSED, TRUST, APP, APPCODE, ASM, DISASM),
+    *(FLEET, REGISTER, ENROL, DEVICES),
     *(COSIGN, SHOWORDER, ORDERED, SHOWKEY, SHOWMAKER),
 )
 COMMANDS = (
-    *(RUN, CUTAT, VERIFY, AUDIT, CHAIN, ATTACH, FACTORY, KEYGEN, SIGN, COUNTERSIGN, MIGRATE, GENERATE),
+    *(RUN, REHEARSE, SHOWIMAGE, HISTORY, CUTAT, VERIFY, AUDIT, CHAIN, ATTACH, FACTORY, KEYGEN, SIGN, COUNTERSIGN, MIGRATE, GENERATE),
     *PREDICTED,
 )
 # chains of other files
 STATED, LAST, NO_KEY = Command("verify root attached 1"), Command("verify root full 1"), Command("verify root full 9")
-BAD, BAD_AUDIT = Command("verify root bad 1"), Command("audit image root bad 1")
+TOLD, TOLD_LAST = Command("history root attached"), Command("history root full")
+BAD, BAD_AUDIT, BAD_HISTORY = Command("verify root bad 1"), Command("audit image root bad 1"), Command("history root bad")
 
 
 # ---- the files of each trial
@@ -141,6 +155,7 @@ def sample():
     files = {
         "image": device.image(),
         "script": b"boot\nput 2 pin 35363738\nget 2 pin\ncommand 00\nsign 3 1 6869\noff\n",
+        "tried": b"#\nboot\nput 2 pin 35363738\nget 2 pin\nsign 3 1 6869\noff\n",
         "noise": bytes(range(48)),
         "root": device.maker.public(),
         "chain": device.chain(),
@@ -167,6 +182,7 @@ def tools_files(files):
         "endorsement": maker.endorse(32, root),
         "policy": f"# a policy\nset known {code} {code}\nallow all and kind epoch not code 1 known\n".encode(),
         "coded": coded(files["image"]),
+        "halting": CODE,
         "input": b"what the code is given",
         "text": text.encode(),
         "register": fleet.spelled({bytes(16): fleet.Row(3, (bytes(32), None, None), (bytes(32), bytes(32)))}),
@@ -211,8 +227,10 @@ def calls_fail(files):
         for role, name in command.reads:
             for what in "gone", "folder":
                 yield Trial(command, ((name, what),), (4, f"read failed {role}\n"))
-        # before the shortest of these outputs, no more room
+        # no more room than before the shortest of these outputs ends, but room for the outputs before it
         room = {"key": 10, "image": 1_000, "out": 100, "register": 100}
+        if len(command.writes) == 1:
+            room = dict.fromkeys(room, 5)
         for number, (role, name) in enumerate(command.writes):
             wanted = 5, f"write failed {role}\n"
             if (role, name) not in command.reads:
@@ -255,6 +273,7 @@ def short_inputs(files):
                     yield from short_input(command, role, name, files[name], at)
     for at in range(len(files["attached"]) - chains.SIGNATURE - 20, len(files["attached"]), 7):
         yield Trial(STATED, (("attached", "cut", at),))
+        yield Trial(TOLD, (("attached", "turn", at, at % 8),))
 
 
 # the steps at which inputs of long roles end, in bytes
@@ -303,6 +322,7 @@ def last_entries(files):
     for at in range(begins, len(files["full"])):
         yield Trial(LAST, (("full", "cut", at),))
         yield Trial(LAST, (("full", "turn", at, at % 8),))
+        yield Trial(TOLD_LAST, (("full", "turn", at, at % 8),))
     yield Trial(NO_KEY)
 
 
@@ -311,6 +331,7 @@ def forged_entries(files):
     for _, _, bytes_ in forged.last_chains():
         yield Trial(BAD, (("bad", "is", bytes_),))
         yield Trial(BAD_AUDIT, (("bad", "is", bytes_),))
+        yield Trial(BAD_HISTORY, (("bad", "is", bytes_),))
 
 
 def limits(files):
@@ -318,6 +339,10 @@ def limits(files):
     off = b"off\n"
     yield Trial(RUN, (("script", "is", off * MOST_LINES),), (0, "off\n" * MOST_LINES), 1)
     yield Trial(RUN, (("script", "is", off * (MOST_LINES + 1)),), (3, f"input script line {MOST_LINES + 1}\n"))
+    yield Trial(REHEARSE, (("tried", "is", off * MOST_LINES),), (0, "off\n" * MOST_LINES))
+    replies = "off\n" * (MOST_LINES - 1) + f"refused 1 off\nfirst {MOST_LINES} refused 1 off\n"
+    yield Trial(REHEARSE, (("tried", "is", off * (MOST_LINES - 1) + b"go\n"),), (7, replies))
+    yield Trial(REHEARSE, (("tried", "is", off * (MOST_LINES + 1)),), (3, f"input script line {MOST_LINES + 1}\n"))
     most = MOST_LINES - EVENTS_OF_A_CUT
     yield Trial(CUTAT, (("script", "is", off * most),), (0, "unstopped\n"))
     yield Trial(CUTAT, (("script", "is", off * (most + 1)),), (3, f"input script line {most + 1}\n"))
@@ -454,6 +479,8 @@ class Worker:
         if ends is None and trial.command != RUN:
             answer = predicted(trial.command, before)
             ends, wanted = (answer.status, answer.text), wanted | answer.written
+            if answer.served and not devices_shown.wrong_in_rehearsal(answer.served, found[0], found[1].splitlines()):
+                ends = found
         if found != ends and (ends or found[0] != 0):
             return f"{self.told(trial)}: {found[0]}, {found[1][:100]!r}, and not {ends or 0}"
         # a call of the host that failed is told on one line of standard error

@@ -1,8 +1,8 @@
 #!/usr/bin/env bash
 # An application. The owner of layer 3 has a program in assembler text, answer.asm (answer.md says what each line does),
-# which answers a challenge with a secret of its layer. It is assembled and loaded by a signed order, the secret is put,
-# and the program answers. Then the same code runs where it may not read the secret. Builds the proved program, makes
-# keys and the device with it, and shows each step. Fails if what was printed is not what expected.txt says, whose
+# which answers a challenge with a secret of its layer. It is assembled, tried, and loaded by a signed order; the secret
+# is put, and the program answers. Then the same code runs where it may not read the secret. Builds the proved program,
+# makes keys and the device with it, and shows each step. Fails if what was printed is not what expected.txt says, whose
 # answers another program computed (bench/applications/interpreter.c). run.sh [PROGRAM] tries a program that is built.
 # Works from any current folder; beside the build in crates/*/out/ it writes in a temporary folder alone, which it
 # removes, or in the new folder that KEEP_IN names.
@@ -12,7 +12,7 @@ export LC_ALL=C
 here=$(cd "$(dirname "${BASH_SOURCE[0]}")" && pwd)
 # shellcheck source=../begin.sh
 . "$here/../begin.sh"
-need cmp cut head od paste sed sha256sum tr
+need cmp cut head od paste sed sha256sum tail tr
 find_or_build "$@"
 
 # Makes somebody's key of the noise, which is given in hexadecimal.
@@ -46,6 +46,25 @@ it_is_assembled() {
     ask asm listing again
     cmp answer again
     hash_of answer answer
+}
+
+it_is_tried() {
+    echo "It is tried before anybody signs it, as on a device that has no secrets yet. It then halts without an answer:"
+    printf 'good morning' >challenge
+    ask appcode answer challenge 1000
+    echo "So that the rest is tried too, the three lines that get the secret give way to one: it is empty. What it mixes"
+    echo "then is the challenge alone, and its answer is the FNV-1a hash of 'good morning':"
+    { echo 'push 0'; tail -n +4 answer.asm; } >trial.asm
+    ask asm trial.asm trial
+    ask appcode trial challenge 1000
+    echo "What a text does wrong shows when its code runs. This one emits a value that is not there (trap 2, at its first"
+    echo "instruction), and the next one never ends:"
+    printf 'emit\nhalt\n' >wrong.asm
+    ask asm wrong.asm wrong
+    ask appcode wrong challenge 1000
+    printf 'label again\njump again\n' >endless.asm
+    ask asm endless.asm endless
+    ask appcode endless challenge 1000
 }
 
 it_is_loaded() {
@@ -90,6 +109,8 @@ echo "Making keys, a device and orders, which takes a moment .." >&2
 {
     a_device
     it_is_assembled
+    echo
+    it_is_tried
     echo
     it_is_loaded
     echo

@@ -36,7 +36,7 @@ the_maker() {
     hash_of north.endorsement north.endorsement
     hash_of south.endorsement south.endorsement
     echo "It sees how many endorsements are left:"
-    ask showmaker maker.key
+    ask showmaker hss.key
 }
 
 the_buyer() {

@@ -12,9 +12,9 @@
  * - Calling convention. That of the System V ABI for x86-64: so the stack is aligned to 16 bytes, and the code may keep
  *   values in the 128 bytes below the stack pointer, the red zone. A system that serves interrupts on the stack which
  *   they interrupt must not serve any during a call. Code that is built with `--backend rattle` keeps nothing there.
- * - Processor. The archive is built for x86-64-v2 (SSE4.2), and does not check for it. Built with `--cpu x86-64` it runs
- *   on any x86-64, and with `--cpu x86-64-v3` on one with AVX2, where it is faster. All use SSE registers, and the last
- *   AVX registers, so what has no operating system enables them first.
+ * - Processor. The archive mb_library is built for x86-64-v2 (SSE4.2), and mb_library_v3, which is faster, for x86-64-v3
+ *   (AVX2, BMI2). Neither checks for it. Built with `--cpu x86-64`, mb_library runs on any x86-64. All use SSE registers,
+ *   and mb_library_v3 AVX registers, so what has no operating system enables them first.
  * - Memory. mb_chain_verify and mb_trust take memory by rattle_alloc, rattle_realloc and rattle_dealloc, and have given
  *   all of it back when they return. The archive has these three over malloc, realloc and free, which come from one
  *   allocator and align to 16. A program without malloc defines the three itself: examples/library has them. So these

@@ -9,6 +9,8 @@ pub mod Labels
 pub mod ReadLines
 pub mod Soundness
 pub mod Codes
+pub mod Positions
+pub mod Tables
 pub mod Assemblies
 pub mod Listings
 pub mod Clear

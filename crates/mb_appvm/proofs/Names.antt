@@ -10,7 +10,7 @@ use Rattle.mb_model.specs.declared.region.Secret.{Secret}
 use Rattle.mb_model.specs.machine.LayerEvents.{has_name}
 use Rattle.mb_appvm.specs.Acting.{HasValue}
 
-same_is : (xs ys : List ℕ) → bytes_eq xs ys ≡ same_bytes xs ys
+pub same_is : (xs ys : List ℕ) → bytes_eq xs ys ≡ same_bytes xs ys
 same_is [] [] = refl
 same_is [] (y ∷ ys) = refl
 same_is (x ∷ xs) [] = refl

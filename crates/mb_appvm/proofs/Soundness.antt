@@ -1,6 +1,6 @@
 -- How many of the lines are right.
-use Rattle.std.proofs.Common.{◌≡◌, ℕ, ◌+◌, ◌<◌, ◌≤◌, ◌↔◌, inl, List, [], ◌∷◌, ◌++◌, length, take, get_or, Bool, true, false, refl, sym, ap, subst, ◌∙◌, arith}
-use Rattle.std.specs.Prelude.{IsTrue, sum_by, not, ◌||◌, Some}
+use Rattle.std.proofs.Common.{◌≡◌, ℕ, ◌+◌, ◌<◌, ◌≤◌, List, [], ◌∷◌, ◌++◌, length, take, get_or, Bool, true, false, refl, sym, ap, subst, ◌∙◌, arith}
+use Rattle.std.specs.Prelude.{sum_by, ◌||◌, Some}
 use Rattle.std.specs.List.{list_any}
 use Rattle.std.proofs.lemmas.Bool.{false≢true}
 use Rattle.std.proofs.lemmas.List.{take_more}
@@ -8,31 +8,10 @@ use Rattle.std.proofs.lemmas.List.Elements.{All-nil, All-push, All-pop}
 use Rattle.std.proofs.lemmas.List.Sums.{sum_by_push}
 use Rattle.mb_format.specs.Combinators.{same_bytes}
 use Rattle.mb_format.proofs.Fields.{same_bytes-true, same_bytes-refl}
-use Rattle.mb_appvm.specs.declared.keyword.Jump.{Jump}
 use Rattle.mb_appvm.specs.declared.lines.Said.{Said}
 use Rattle.mb_appvm.specs.declared.lines.Said.TheVariants as says
 use Rattle.mb_appvm.specs.Assembly.{size_of, is_label, IsNew, LabelsDiffer}
 use Rattle.mb_appvm.specs.Checking.{IsTarget, AreSoundLines, CountsSound}
-
--- ---- one line
-
-pub label_sound : (r : Bool) (line : Said) (name read : List ℕ) (before all : List Said) (rest : List ℕ) → line ≡ says.Label name → read ≡ name
-    → r ≡ list_any (is_label read) before → IsTrue (not r) ↔ (IsNew line before × IsTarget all rest line)
-label_sound r line name read before all rest is same e =
-    let any : r ≡ list_any (is_label name) before = e ∙ ap (λ (x : List ℕ). list_any (is_label x) before) same in
-    subst (λ (s : Said). IsTrue (not r) ↔ (IsNew s before × IsTarget all rest s)) (sym is)
-    ((λ holds. (sym any ∙ not_true r holds, tt)), (λ both. ap not (any ∙ both.0)))
-  where
-    not_true : (b : Bool) → not b ≡ true → b ≡ false
-    not_true true e = absurd cc
-    not_true false e = refl
-
-pub jump_sound : (r : Bool) (line : Said) (kind : Jump) (name read : List ℕ) (before all : List Said) (rest : List ℕ) → line ≡ says.JumpTo kind name → read ≡ name
-    → true ≡ list_any (is_label read) all → r ≡ true → IsTrue r ↔ (IsNew line before × IsTarget all rest line)
-jump_sound r line kind name read before all rest is same e holds =
-    let any : list_any (is_label name) all ≡ true = ap (λ (x : List ℕ). list_any (is_label x) all) (sym same) ∙ sym e in
-    subst (λ (s : Said). IsTrue r ↔ (IsNew s before × IsTarget all rest s)) (sym is)
-    ((λ is_so. (tt, inl any)), (λ both. holds))
 
 -- ---- one line more
 
@@ -40,7 +19,7 @@ pub or_parts : (a b : Bool) → (a || b) ≡ false → (a ≡ false) × (b ≡ f
 or_parts true b e = absurd cc
 or_parts false b e = (refl, e)
 
-or_false : (a b : Bool) → a ≡ false → b ≡ false → (a || b) ≡ false
+pub or_false : (a b : Bool) → a ≡ false → b ≡ false → (a || b) ≡ false
 or_false a b ea eb = rw (ea, eb) refl
 
 any_push : (p : Said → Bool) (xs : List Said) (s : Said) → list_any p (xs ++ s ∷ []) ≡ (list_any p xs || p s)
@@ -156,6 +135,11 @@ sound_all all rest at is sound = record {
 
 pub sound_none : (all : List Said) (rest : List ℕ) → AreSoundLines all rest (take 0 all)
 sound_none all rest = record { labels = tt; targets = All-nil (IsTarget all rest); short = omega arith }
+
+-- of lines and a rest that are the same
+pub counts_as : (all said : List Said) (later rest : List ℕ) (count : ℕ) → all ≡ said → later ≡ rest → CountsSound all later count → CountsSound said rest count
+counts_as all said later rest count same rests counts =
+    subst (λ (x : List Said). CountsSound x rest count) same (subst (λ (x : List ℕ). CountsSound all x count) rests counts)
 
 pub sizes : (all : List Said) (at size more : ℕ) (s d : Said) → at < length all → s ≡ get_or all at d → size ≡ sum_by size_of (take at all) → more ≡ size_of s
     → size + more ≡ sum_by size_of (take (at + 1) all)

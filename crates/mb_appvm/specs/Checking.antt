@@ -1,7 +1,7 @@
 -- How far a text is read and checked, in terms of what its lines say.
 use Rattle.std.specs.Prelude.{◌≡◌, ◌⊎◌, ℕ, ◌+◌, ◌<◌, ◌≤◌, List, ◌∷◌, ◌++◌, length, take, All}
-use Rattle.std.specs.Prelude.{flat_map, sum_by, IsTrue, true, Result, Ok, Err}
-use Rattle.std.specs.List.{AllZip, list_any}
+use Rattle.std.specs.Prelude.{flat_map, sum_by, slice_index, IsTrue, true, Some, Result, Ok, Err}
+use Rattle.std.specs.List.{AllZip, list_any, position_from}
 use Rattle.std.specs.Global.{Vec}
 use Rattle.mb_model.specs.declared.limits.TheConstants.{CODE_LIMIT}
 use Rattle.mb_bytes.specs.Puts.{Appends}
@@ -34,6 +34,12 @@ IsTarget all rest (says.Label name) = Unit {0}
 IsTarget all rest (says.Whole it) = Unit {0}
 IsTarget all rest (says.JumpTo kind name) = IsTrue (list_any (is_label name) all) ⊎ TextGives rest name
 
+-- the line with this number, from 0, is the first that gives its label
+abbrev pub IsFirstLabel : List Said → ℕ → Said → Type 0
+IsFirstLabel all at (says.Label name) = position_from (is_label name) 0 all ≡ Some at
+IsFirstLabel all at (says.Whole it) = Unit {0}
+IsFirstLabel all at (says.JumpTo kind name) = Unit {0}
+
 -- the first lines are right, among all lines and a rest of the text
 pub record AreSoundLines (all : List Said) (rest : List ℕ) (front : List Said) : Type 0 where
   pub labels : LabelsDiffer front
@@ -51,6 +57,12 @@ abbrev pub IsGiven : List Said → Said → Type 0
 IsGiven all (says.Label name) = Unit {0}
 IsGiven all (says.Whole it) = Unit {0}
 IsGiven all (says.JumpTo kind name) = list_any (is_label name) all ≡ true
+
+-- each line has the length of the code before it, which is at most 32,768 bytes
+pub record AreMeasured (all : List Said) (places : List ℕ) : Type 0 where
+  pub each : length places ≡ length all
+  pub place : (at : ℕ) → at < length all → slice_index places at ≡ sum_by size_of (take at all)
+  pub short : (at : ℕ) → at < length all → slice_index places at ≤ CODE_LIMIT
 
 -- the bytes that a line makes were appended; of a failed allocation nothing is said
 abbrev pub PutsLine : {E : Type 0} → List Said → Said → Vec ℕ → Result (Unit {0}) E → Vec ℕ → Type 0

@@ -5,5 +5,6 @@ pub mod Acting
 pub mod Assembly
 pub mod Reading
 pub mod Checking
+pub mod Labels
 pub mod Listing
 pub mod NumberLaws

@@ -6,6 +6,7 @@ ghost use Rattle.mb_appvm.specs.Checking.{ReadsTo, AssemblesTo};
 
 use crate::checking::count_sound;
 use crate::encoding::write_code;
+use crate::given::{Later, Lines};
 use crate::lines::{Said, read_line};
 use mb_model::{Bytes, NoMemory};
 use mb_words::{TextEnd, split_line};
@@ -19,26 +20,21 @@ pub type AsmEnd = TextEnd;
 /// an instruction with its operand; lines end with LF, which the last may lack.
 ///
 /// Errors: `BadLine` with the first line that is wrong, and `NoMemory`.
-///
-/// Labels are searched for one by one, so that the time is quadratic in the number of lines.
 pub fn assemble(alloc: Global, text: &[u8]) -> Result<Bytes, AsmEnd>
     requires { length text.now ≤ FILE_LIMIT }
     ensures assembled { AssemblesTo text.now result }
     ensures short { IfOk result (λ code. length code ≤ CODE_LIMIT) }
 {
     let (said, rest) = read_lines(alloc, text)?;
-    let right = count_sound(said.as_slice(), rest);
-    if right < said.len() {
+    let lines = Lines::of(alloc, said)?;
+    let later = Later::of(alloc, rest)?;
+    let right = count_sound(&lines, &later);
+    if right < lines.as_slice().len() || !later.is_empty() {
         return Err(AsmEnd::BadLine {
             line: right as u32 + 1,
         });
     }
-    if !rest.is_empty() {
-        return Err(AsmEnd::BadLine {
-            line: right as u32 + 1,
-        });
-    }
-    let code = write_code(alloc, said.as_slice())?;
+    let code = write_code(alloc, &lines)?;
     Ok(Bytes::from_vec(code))
 }
 

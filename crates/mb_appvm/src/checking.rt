@@ -1,21 +1,20 @@
 //! The test of whether a line of a text is right among the others.
 
 ghost use Rattle.std.specs.Prelude.{◌≡◌, ◌↔◌, ◌<◌, ◌≤◌, ◌+◌, ◌^◌, length, IsTrue};
-ghost use Rattle.std.specs.List.{list_any};
-ghost use Rattle.mb_appvm.specs.Assembly.{SaysAssemblyLine, size_of, is_label, IsNew};
+ghost use Rattle.mb_appvm.specs.Assembly.{size_of};
 ghost use Rattle.mb_appvm.specs.Instructions.{instruction_format};
-ghost use Rattle.mb_appvm.specs.Checking.{TextGives, IsTarget, CountsSound};
-ghost use Rattle.mb_appvm.specs.declared.lines.Said.TheVariants as says;
+ghost use Rattle.mb_appvm.specs.Checking.{IsFirstLabel, IsTarget, CountsSound};
 
+use crate::given::{Later, Lines};
 use crate::instruction::Instruction;
-use crate::lines::{Said, read_line};
+use crate::lines::Said;
 use mb_model::CODE_LIMIT;
-use mb_words::split_line;
 
-/// The number of lines before the first that is not right. The text goes on with `rest` after all of them.
-pub(crate) fn count_sound(said: &[Said<'_>], rest: &[u8]) -> usize
-    ensures { CountsSound said.now rest.now result }
+/// The number of lines before the first that is not right. The text goes on with `later` after all of them.
+pub(crate) fn count_sound(lines: &Lines<'_>, later: &Later<'_>) -> usize
+    ensures { CountsSound lines.now later.now result }
 {
+    let said = lines.as_slice();
     let mut size = 0;
     for at in 0..said.len() {
         let line = &said[at];
@@ -23,65 +22,22 @@ pub(crate) fn count_sound(said: &[Said<'_>], rest: &[u8]) -> usize
         if size > CODE_LIMIT as usize {
             return at;
         }
-        if !is_sound(line, &said[..at], said, rest) {
+        if !is_sound(at, line, lines, later) {
             return at;
         }
     }
     said.len()
 }
 
-/// Whether a line after others is right: a label is new, and the label of a jump is given somewhere.
-fn is_sound(line: &Said<'_>, before: &[Said<'_>], all: &[Said<'_>], rest: &[u8]) -> bool
-    ensures { IsTrue result ↔ (IsNew line.now before.now × IsTarget all.now rest.now line.now) }
+/// Whether the line with this number, from 0, is right: it is the first that gives its label, and the label of a jump
+/// is given somewhere.
+fn is_sound(at: usize, line: &Said<'_>, lines: &Lines<'_>, later: &Later<'_>) -> bool
+    ensures { IsTrue result ↔ (IsFirstLabel lines.now at line.now × IsTarget lines.now later.now line.now) }
 {
     match line {
-        Said::Label(name) => !has_label(before, name.as_slice()),
+        Said::Label(name) => lines.is_first(name.as_slice(), at),
         Said::Whole(_) => true,
-        Said::JumpTo(_, name) => {
-            has_label(all, name.as_slice()) || gives_label(rest, name.as_slice())
-        }
-    }
-}
-
-/// Whether one of the lines is the label.
-pub(crate) fn has_label(said: &[Said<'_>], name: &[u8]) -> bool
-    ensures { result ≡ list_any (is_label name.now) said.now }
-{
-    said.iter().any(|line| is_label(line, name))
-}
-
-/// Whether the line is the label.
-pub(crate) fn is_label(line: &Said<'_>, name: &[u8]) -> bool
-    ensures { result ≡ is_label name.now line.now }
-{
-    match line {
-        Said::Label(other) => other.as_slice() == name,
-        Said::Whole(_) | Said::JumpTo(_, _) => false,
-    }
-}
-
-/// Whether a line of the text gives the label.
-fn gives_label(text: &[u8], name: &[u8]) -> bool
-    ensures { IsTrue result ↔ TextGives text.now name.now }
-{
-    let mut rest = text;
-    while !rest.is_empty() {
-        let (line, later) = split_line(rest);
-        if says_label(line, name) {
-            return true;
-        }
-        rest = later;
-    }
-    false
-}
-
-/// Whether the line is the label with this name.
-fn says_label(line: &[u8], name: &[u8]) -> bool
-    ensures { IsTrue result ↔ SaysAssemblyLine line.now (says.Label name.now) }
-{
-    match read_line(line) {
-        Some(said) => is_label(&said, name),
-        None => false,
+        Said::JumpTo(_, name) => lines.gives(name.as_slice()) || later.gives(name.as_slice()),
     }
 }
 

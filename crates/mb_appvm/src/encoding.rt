@@ -8,10 +8,11 @@ ghost use Rattle.mb_format.specs.Combinators.{number};
 ghost use Rattle.mb_bytes.specs.Puts.{Puts};
 ghost use Rattle.mb_appvm.specs.Instructions.{plain_byte, instruction_format};
 ghost use Rattle.mb_appvm.specs.Assembly.{size_of, is_label, IsSayable, IsPlaced};
-ghost use Rattle.mb_appvm.specs.Checking.{IsCode, IsGiven, PutsLine};
+ghost use Rattle.mb_appvm.specs.Checking.{IsCode, IsGiven, AreMeasured, PutsLine};
 ghost use Rattle.mb_appvm.specs.declared.instruction.Plain.TheVariants as plain;
 
-use crate::checking::{is_label, size_of};
+use crate::checking::size_of;
+use crate::given::Lines;
 use crate::instruction::{Instruction, Operation, Plain};
 use crate::lines::{Said, jump_to};
 use mb_bytes::{put_after_u8, put_u8, put_u16, put_u32};
@@ -19,52 +20,68 @@ use mb_model::NoMemory;
 use std::alloc::Global;
 
 /// The code of lines that are sayable, jump only to labels among them, and make at most 32,768 bytes.
-pub(crate) fn write_code(alloc: Global, said: &[Said<'_>]) -> Result<Vec<u8>, NoMemory>
-    requires sayable { All IsSayable said.now }
-    requires given { All (IsGiven said.now) said.now }
-    requires short { sum_by size_of said.now ≤ CODE_LIMIT }
-    ensures { IfOk result (λ code. IsCode said.now said.now code.items) }
+pub(crate) fn write_code(alloc: Global, lines: &Lines<'_>) -> Result<Vec<u8>, NoMemory>
+    requires sayable { All IsSayable lines.now }
+    requires given { All (IsGiven lines.now) lines.now }
+    requires short { sum_by size_of lines.now ≤ CODE_LIMIT }
+    ensures { IfOk result (λ code. IsCode lines.now lines.now code.items) }
 {
+    let said = lines.as_slice();
+    let places = measure(alloc, said)?;
     let mut code = Vec::new(alloc);
     for line in said {
-        put_line(&mut code, line, said)?;
+        put_line(&mut code, line, lines, places.as_slice())?;
     }
     Ok(code)
 }
 
+/// For each line the length of the code before it.
+fn measure(alloc: Global, said: &[Said<'_>]) -> Result<Vec<u16>, NoMemory>
+    requires short { sum_by size_of said.now ≤ CODE_LIMIT }
+    ensures { IfOk result (λ places. AreMeasured said.now places.items) }
+{
+    let mut places = Vec::new(alloc);
+    let mut place = 0;
+    for line in said {
+        places.push(place as u16)?;
+        place += size_of(line);
+    }
+    Ok(places)
+}
+
 /// Appends the bytes that a line makes among all lines.
-fn put_line(out: &mut Vec<u8>, line: &Said<'_>, all: &[Said<'_>]) -> Result<(), NoMemory>
+fn put_line(
+    out: &mut Vec<u8>,
+    line: &Said<'_>,
+    all: &Lines<'_>,
+    places: &[u16],
+) -> Result<(), NoMemory>
     requires sayable { IsSayable line.now }
     requires given { IsGiven all.now line.now }
-    requires short { sum_by size_of all.now ≤ CODE_LIMIT }
+    requires measured { AreMeasured all.now places.now }
     ensures { PutsLine all.now line.now out.old result out.new }
 {
     match line {
         Said::Label(_) => Ok(()),
         Said::Whole(instruction) => put_instruction(out, instruction),
         Said::JumpTo(kind, name) => {
-            let place = place_of(all, name.as_slice());
-            put_instruction(out, &jump_to(*kind, place as u16))
+            let place = place_of(all, places, name.as_slice());
+            put_instruction(out, &jump_to(*kind, place))
         }
     }
 }
 
-/// The value of a label, which is one of the lines: the length of the code before it.
-fn place_of(said: &[Said<'_>], name: &[u8]) -> usize
-    requires given { list_any (is_label name.now) said.now ≡ true }
-    requires short { sum_by size_of said.now ≤ CODE_LIMIT }
-    ensures place { IsPlaced said.now name.now result }
+/// The value of a label, which one of the lines gives: the length of the code before that line.
+fn place_of(all: &Lines<'_>, places: &[u16], name: &[u8]) -> u16
+    requires given { list_any (is_label name.now) all.now ≡ true }
+    requires measured { AreMeasured all.now places.now }
+    ensures place { IsPlaced all.now name.now result }
     ensures short { result ≤ CODE_LIMIT }
 {
-    let mut place = 0;
-    for at in 0..said.len() {
-        let line = &said[at];
-        if is_label(line, name) {
-            return place;
-        }
-        place += size_of(line);
+    match all.line_of(name) {
+        Some(line) => places[line],
+        None => unreachable!(),
     }
-    unreachable!()
 }
 
 /// Appends the bytes of an instruction.

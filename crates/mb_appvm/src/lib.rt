@@ -10,6 +10,7 @@ mod disassembling;
 mod encoding;
 mod environment;
 mod fetching;
+mod given;
 mod instruction;
 mod keyword;
 mod laws;
@@ -19,6 +20,7 @@ mod machine;
 mod plain;
 mod running;
 mod secrets;
+mod table;
 mod trap;
 
 pub use assembling::{AsmEnd, assemble};

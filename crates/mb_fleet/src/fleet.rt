@@ -22,7 +22,7 @@ use crate::register::{put_register, register_at};
 use crate::row::{CodeHashes, Row, row_of};
 use mb_bytes::{Cursor, Field, WriteField, read_whole, write_field};
 use mb_model::{NoMemory, PublicKey};
-use mb_verifier::{ChainRefusal, verify_entries};
+use mb_verifier::{ChainRefusal, verify_shown};
 use std::alloc::Global;
 use std::marker::Model;
 
@@ -87,7 +87,7 @@ impl Fleet {
         requires { length chain.now ≤ FILE_LIMIT }
         ensures { AnswersChain root.now self.old chain.now result self.new }
     {
-        match verify_entries(alloc, root, chain) {
+        match verify_shown(alloc, root, chain) {
             Ok(shown) => self.meet(alloc, row_of(shown)),
             Err(refusal) => Err(end_of(refusal)),
         }
@@ -106,6 +106,13 @@ impl Fleet {
         ensures { IfOk result (AreCounts layer self.now) }
     {
         self.indexes.codes(alloc, layer)
+    }
+
+    /// The rows, in ascending serials.
+    pub fn rows(&self) -> &[Row]
+        ensures { result.now ≡ self.now }
+    {
+        self.rows.as_slice()
     }
 
     /// Takes a row, if it is new or extends the one of its device.

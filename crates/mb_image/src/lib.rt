@@ -1,5 +1,5 @@
-//! The state that an image means, or the image's first fault; the length of the log of the image's device; the image of
-//! a state, written from nothing; and whether two states are equal.
+//! The state that an image means, or the image's first fault; the length of the log of the image's device, and whether
+//! its next boot has work to do; the image of a state, written from nothing; and whether two states are equal.
 //!
 //! This crate owns the meaning of a device's memory as it lies: the current areas, the unsigned entries and their
 //! signatures, the pending work on the regions, and whether a device can have the state that results. What a flash
@@ -23,6 +23,7 @@ mod segments;
 mod sound;
 mod stored;
 mod validity;
+mod work;
 mod written;
 
 pub use count::log_length;
@@ -30,4 +31,5 @@ pub use form::{FlashForm, PublicParts};
 pub use image::{IMAGE_HASHES, ImageEnd, stand_for, stand_for_by};
 pub use same::same_state;
 pub use segments::Segments;
+pub use work::has_pending_work;
 pub use written::{ImageRoom, write_image};

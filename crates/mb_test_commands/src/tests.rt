@@ -2,7 +2,9 @@
 
 mod applications;
 mod devices;
+mod devices_shown;
 mod endorsements;
+mod enrolments;
 mod failures;
 mod fleet;
 mod help;
@@ -14,6 +16,7 @@ mod short_files;
 mod shown;
 mod sign;
 mod statuses;
+mod trials;
 
 use mb_test_plays::{
     A_NEW_DEVICE, A_WHOLE_LIFE, Access, Content, Given, IMAGE, ITS_CHAIN, MAKER, OWNER, Part, Play,

@@ -16,6 +16,6 @@ pub mod sign;
 pub mod verify;
 
 pub use input::chains::AnyBytes;
-pub use input::devices::{Image, read_image};
+pub use input::devices::{CodeForm, Image, read_image};
 pub use input::keys::{KeyForm, Leading, PublicKeyForm};
 pub use input::orders::{DraftForm, OrderLine};

@@ -2,3 +2,4 @@ pub mod AppLemmas
 pub mod AssemblyLemmas
 pub mod InputLemmas
 pub mod SeeingLemmas
+pub mod AppcodeLemmas

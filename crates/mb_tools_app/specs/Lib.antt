@@ -1,5 +1,6 @@
 pub mod AppInputs
 pub mod AppCommand
+pub mod AppcodeCommand
 pub mod AssemblyCommands
 pub mod Seeing
 pub mod Names

@@ -2,14 +2,19 @@
 use Rattle.std.specs.Prelude.{List}
 use Rattle.mb_console.specs.Words.{Argument, file_given, number_given}
 use Rattle.mb_tools_app.specs.AppCommand.{AppNames as AppFiles}
+use Rattle.mb_tools_app.specs.AppcodeCommand.{AppcodeNames as AppcodeFiles}
 use Rattle.mb_tools_app.specs.AssemblyCommands.{AsmNames as AsmFiles, DisasmNames as DisasmFiles}
 use Rattle.mb_tools_app.specs.declared.app.AppNames.{AppNames}
+use Rattle.mb_tools_app.specs.declared.appcode.AppcodeNames.{AppcodeNames}
 use Rattle.mb_tools_app.specs.declared.asm.AsmNames.{AsmNames}
 use Rattle.mb_tools_app.specs.declared.disasm.DisasmNames.{DisasmNames}
 
 abbrev pub app_files : AppNames → AppFiles
 app_files names =
     record { image = names.image.now; layer = names.layer; input = names.input.now; steps = names.steps }
+
+abbrev pub appcode_files : AppcodeNames → AppcodeFiles
+appcode_files names = record { code = names.code.now; input = names.input.now; steps = names.steps }
 
 abbrev pub asm_files : AsmNames → AsmFiles
 asm_files names = record { text = names.text.now; out = names.out.now }
@@ -26,6 +31,10 @@ app_given given = record {
   input = file_given 2 given;
   steps = number_given 3 given;
 }
+
+abbrev pub appcode_given : List Argument → AppcodeFiles
+appcode_given given =
+    record { code = file_given 0 given; input = file_given 1 given; steps = number_given 2 given }
 
 abbrev pub asm_given : List Argument → AsmFiles
 asm_given given = record { text = file_given 0 given; out = file_given 1 given }

@@ -136,7 +136,7 @@ fn code_of_layer(codes: &Codes, layer: u8) -> &[u8]
 }
 
 /// Reports how a run ends: prints the line of a halt, and refuses with the line of any other end.
-fn tell_end<H: Host>(alloc: Global, ending: &AppEnd, host: &mut H) -> Result<(), End>
+pub(crate) fn tell_end<H: Host>(alloc: Global, ending: &AppEnd, host: &mut H) -> Result<(), End>
     ensures { CarriesOut (tell_end ending.now) (H.outside host.old) result (H.outside host.new) }
 {
     let Ok(line) = app_line(alloc, ending) else {

@@ -4,6 +4,7 @@ ghost use Rattle.std.specs.Prelude.{ℕ, List};
 ghost use Rattle.mb_model_commands.specs.Inputs.{IsClearInput};
 ghost use Rattle.mb_tools_app.specs.AppInputs.{app_input, assembly_input, listing_input};
 ghost use Rattle.mb_tools_app.specs.Seeing.{AppSeesNothingElse};
+ghost use Rattle.mb_tools_app.specs.AppcodeCommand.{AppcodeRunsAsApp};
 
 /// No input both means a value and is at fault.
 pub fn inputs_are_clear()
@@ -16,4 +17,10 @@ pub fn inputs_are_clear()
 /// the same ends and the same line.
 pub fn app_sees_nothing_else()
     ensures { AppSeesNothingElse }
+{}
+
+/// `appcode` ends as `app` does on a device whose layers may all run, which has no secrets in region 3, and whose layer
+/// 3 has the code.
+pub fn appcode_runs_as_app()
+    ensures { AppcodeRunsAsApp }
 {}

@@ -10,3 +10,4 @@ pub mod CutRuns
 pub mod Shutting
 pub mod CutCounterProofs
 pub mod OutcomeLemmas
+pub mod RehearseLemmas

@@ -9,3 +9,5 @@ pub mod Refusing
 pub mod TwoRuns
 pub mod CutCounterExamples
 pub mod CutOutcomes
+pub mod RehearseCommand
+pub mod Rehearsing

@@ -1,13 +1,15 @@
 //! The commands that serve a device.
 //!
-//! This crate owns what `run`, `cutat` and `generate` do after the words are read, and the forms of the scripts among
-//! their inputs. It stands on `mb_console`, on the device and its board, and on the readers of scripts and images.
+//! This crate owns what `run`, `rehearse`, `cutat` and `generate` do after the words are read, and the forms of the
+//! scripts among their inputs. It stands on `mb_console`, on the device and its board, and on the readers of scripts
+//! and images.
 #![tactic(auto)]
 
 mod counter_examples;
 pub mod cutat;
 pub mod generate;
 mod laws;
+pub mod rehearse;
 mod replies;
 pub mod run;
 mod scripts;

@@ -48,6 +48,49 @@ impl Form for ScriptForm {
     }
 }
 
+/// A script that was read: its text, and its events. Its commands have no draws yet.
+#[derive(Drop)]
+pub struct WholeScript {
+    pub text: Vec<u8>,
+    pub events: Events,
+}
+
+/// A script whose text is kept.
+#[derive(Clone, Copy)]
+pub struct WholeScriptForm;
+
+impl Form for WholeScriptForm {
+    ghost use Rattle.std.specs.Prelude.{◌≤◌, List, [], All, length};
+    ghost use Rattle.mb_model.specs.declared.event.Event.{Event};
+    ghost use Rattle.mb_model.specs.declared.limits.TheConstants.{EVENT_LIMIT, FILE_LIMIT};
+    ghost use Rattle.mb_model.specs.chains.Script.{IsScriptEvent};
+    ghost use Rattle.mb_tools_device.specs.RehearseCommand.{WholeScript as Kept, whole_script_input};
+
+    type Value = WholeScript;
+
+    ghost Meaning = { Kept };
+
+    ghost meaning = { λ script. record { text = script.text.items; events = script.events } };
+
+    ghost Is = { λ form. (whole_script_input []).Is };
+
+    ghost FaultyAt = { λ form. (whole_script_input []).FaultyAt };
+
+    ghost Keeps = { λ script. (length script.text.items ≤ FILE_LIMIT)
+        × (length script.events ≤ EVENT_LIMIT) × All IsScriptEvent script.events };
+
+    fn read(self, alloc: Global, bytes: Vec<u8>) -> Result<WholeScript, Unread> {
+        match read_script(alloc, &bytes) {
+            Ok(events) => Ok(WholeScript {
+                text: bytes,
+                events,
+            }),
+            Err(ScriptEnd::BadLine { line }) => Err(Unread::At(Place::Line(line))),
+            Err(ScriptEnd::NoMemory) => Err(Unread::NoMemory),
+        }
+    }
+}
+
 /// A script whose last event can be cut. Its commands have no draws yet.
 #[derive(Clone, Copy)]
 pub struct UncutScriptForm;

@@ -1,1 +1,4 @@
 pub mod FleetLemmas
+pub mod EnrolLemmas
+pub mod EnrolLaws
+pub mod DevicesLaws

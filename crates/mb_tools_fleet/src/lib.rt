@@ -1,11 +1,18 @@
-//! The command that keeps a register of what many devices have shown.
+//! The commands that keep a register of what many devices have shown.
 //!
-//! This crate owns what `fleet` does after the words are read, and the forms of its inputs. It stands on `mb_console`,
-//! on the form of a public key of `mb_tools`, and on `mb_fleet`, which reads, serves and writes a register.
+//! This crate owns what `register`, `enrol`, `devices` and `fleet` do after the words are read, and the forms of their
+//! inputs. It stands on `mb_console`, on the form of a public key of `mb_tools`, and on `mb_fleet`, which reads, serves
+//! and writes a register.
 #![tactic(auto)]
 
+pub mod devices;
+pub mod enrol;
 pub mod fleet;
 mod input;
 mod laws;
+pub mod register;
+mod shown;
 
-pub use laws::fleet_is_not_refused;
+pub use laws::{
+    devices_show_all_rows, enrolments_are_a_run, fleet_is_not_refused, registers_begin_empty,
+};

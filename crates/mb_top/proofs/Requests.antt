@@ -1,5 +1,5 @@
 -- From a command to what the words say that call it.
-use Rattle.std.proofs.Common.{◌≡◌, ℕ, ◌≤◌, true, false, Bool, List, [], Option, Some, Result, Ok, Err, refl, sym, ap, subst}
+use Rattle.std.proofs.Common.{◌≡◌, ℕ, ◌≤◌, true, false, Bool, List, Option, Some, Result, Ok, Err, refl, sym, ap, subst}
 use Rattle.mb_model.specs.outside.Board.{Used, not_used}
 use Rattle.mb_model.specs.outside.Board.{Held}
 use Rattle.mb_model_commands.specs.Outside.{Outside}

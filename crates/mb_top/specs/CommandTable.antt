@@ -51,8 +51,12 @@ commands =
     -- cosign KEY LAYER ORDER DRAFT OUT
     ∷ row command.Cosign (codes "cosign") (a_file ∷ a_number 2 3 ∷ a_file ∷ a_file ∷ a_file ∷ [])
     -- ---- to serve a device
+    -- showimage IMAGE
+    ∷ row command.Showimage (codes "showimage") (a_file ∷ [])
     -- run IMAGE SCRIPT NOISE
     ∷ row command.Run (codes "run") (a_file ∷ a_file ∷ a_file ∷ [])
+    -- rehearse IMAGE SCRIPT NOISE
+    ∷ row command.Rehearse (codes "rehearse") (a_file ∷ a_file ∷ a_file ∷ [])
     -- cutat IMAGE SCRIPT NOISE COUNT FILL
     ∷ row command.Cutat (codes "cutat") (a_file ∷ a_file ∷ a_file ∷ a_number 1 100000 ∷ a_fill ∷ [])
     -- chain IMAGE OUT
@@ -66,12 +70,20 @@ commands =
     -- ---- to verify what a device says of itself
     -- verify ROOT CHAIN KEYNUMBER
     ∷ row command.Verify (codes "verify") (a_file ∷ a_file ∷ a_number 0 4294967295 ∷ [])
+    -- history ROOT CHAIN
+    ∷ row command.History (codes "history") (a_file ∷ a_file ∷ [])
     -- audit IMAGE ROOT CHAIN KEYNUMBER
     ∷ row command.Audit (codes "audit") (a_file ∷ a_file ∷ a_file ∷ a_number 0 4294967295 ∷ [])
     -- trust ROOT CHAIN KEYNUMBER POLICY
     ∷ row command.Trust (codes "trust") (a_file ∷ a_file ∷ a_number 0 4294967295 ∷ a_file ∷ [])
     -- endorsed PUBLIC ROOT ENDORSEMENT
     ∷ row command.Endorsed (codes "endorsed") (a_file ∷ a_file ∷ a_file ∷ [])
+    -- register OUT
+    ∷ row command.Register (codes "register") (a_file ∷ [])
+    -- enrol ROOT REGISTER CHAIN
+    ∷ row command.Enrol (codes "enrol") (a_file ∷ a_file ∷ a_file ∷ [])
+    -- devices REGISTER
+    ∷ row command.Devices (codes "devices") (a_file ∷ [])
     -- fleet ROOT REGISTER ITEMS
     ∷ row command.Fleet (codes "fleet") (a_file ∷ a_file ∷ a_file ∷ [])
     -- ---- to write applications
@@ -79,6 +91,8 @@ commands =
     ∷ row command.Asm (codes "asm") (a_file ∷ a_file ∷ [])
     -- disasm CODE OUT
     ∷ row command.Disasm (codes "disasm") (a_file ∷ a_file ∷ [])
+    -- appcode CODE INPUT STEPS
+    ∷ row command.Appcode (codes "appcode") (a_file ∷ a_file ∷ a_number 1 10000000 ∷ [])
     -- app IMAGE LAYER INPUT STEPS
     ∷ row command.App (codes "app") (a_file ∷ a_number 2 3 ∷ a_file ∷ a_number 1 10000000 ∷ [])
     ∷ []

@@ -1,5 +1,5 @@
 -- What the program does, by its words: which command they call, and how it ends.
-use Rattle.std.specs.Prelude.{◌≡◌, ◌⊎◌, List, ℕ, codes, Result}
+use Rattle.std.specs.Prelude.{◌≡◌, List, ℕ, codes, Result}
 use Rattle.mb_model.specs.outside.Board.{Used}
 use Rattle.mb_model.specs.outside.Board.{Held}
 use Rattle.mb_model_commands.specs.Outside.{Outside}
@@ -33,10 +33,17 @@ use Rattle.mb_tools_policy.specs.TrustCommand.{trust}
 use Rattle.mb_tools_policy.specs.Names.{trust_given}
 use Rattle.mb_tools_app.specs.AppCommand.{app}
 use Rattle.mb_tools_app.specs.AssemblyCommands.{asm, disasm}
-use Rattle.mb_tools_app.specs.Names.{app_given, asm_given, disasm_given}
+use Rattle.mb_tools_app.specs.AppcodeCommand.{appcode}
+use Rattle.mb_tools_app.specs.Names.{app_given, appcode_given, asm_given, disasm_given}
 use Rattle.mb_tools_fleet.specs.FleetCommand.{fleet}
-use Rattle.mb_tools_fleet.specs.FleetWords.{fleet_given}
+use Rattle.mb_tools_fleet.specs.RegisterCommands.{register, devices}
+use Rattle.mb_tools_fleet.specs.EnrolCommand.{enrol}
+use Rattle.mb_tools_fleet.specs.FleetWords.{fleet_given, register_given, enrol_given, devices_given}
+use Rattle.mb_tools_shown.specs.HistoryCommand.{history}
+use Rattle.mb_tools_shown.specs.ShowimageCommand.{showimage}
+use Rattle.mb_tools_shown.specs.Names.{history_given, showimage_given}
 use Rattle.mb_tools_device.specs.CutCommand.{cutat}
+use Rattle.mb_tools_device.specs.RehearseCommand.{rehearsal}
 use Rattle.mb_tools_device.specs.Names.{run_given, cut_given, generate_given}
 use Rattle.mb_tools_device.specs.Holding.{EndsHolding, IsDone, IsOutOfMemory}
 use Rattle.mb_top.specs.CommandTable.{commands}
@@ -46,6 +53,9 @@ use Rattle.mb_top.specs.declared.table.Command.TheVariants as command
 -- what a command does with these arguments, which are in the order of its words
 abbrev pub command_of : Command → List Argument → Does
 command_of command.Run given = run (run_given given)
+command_of command.Rehearse given = rehearsal (run_given given)
+command_of command.Showimage given = showimage (showimage_given given)
+command_of command.History given = history (history_given given)
 command_of command.Cutat given = cutat (cut_given given)
 command_of command.Verify given = verify (verify_given given)
 command_of command.Audit given = audit (audit_given given)
@@ -53,6 +63,9 @@ command_of command.Trust given = trust (trust_given given)
 command_of command.Chain given = chain (chain_given given)
 command_of command.Attach given = attach (attach_given given)
 command_of command.Fleet given = fleet (fleet_given given)
+command_of command.Register given = register (register_given given)
+command_of command.Enrol given = enrol (enrol_given given)
+command_of command.Devices given = devices (devices_given given)
 command_of command.Factory given = factory (factory_given given)
 command_of command.Keygen given = keygen (keygen_given given)
 command_of command.Showkey given = showkey (showkey_given given)
@@ -67,6 +80,7 @@ command_of command.Endorse given = endorse (endorse_given given)
 command_of command.Endorsed given = endorsed (endorsed_given given)
 command_of command.Migrate given = migrate (migrate_given given)
 command_of command.App given = app (app_given given)
+command_of command.Appcode given = appcode (appcode_given given)
 command_of command.Asm given = asm (asm_given given)
 command_of command.Disasm given = disasm (disasm_given given)
 command_of command.Generate given = generate (generate_given given)

@@ -22,12 +22,17 @@ use mb_tools::migrate::{MigrateNames, migrate};
 use mb_tools::sign::{CountersignNames, SignNames, countersign, sign};
 use mb_tools::verify::{VerifyNames, verify};
 use mb_tools_app::app::{AppNames, app};
+use mb_tools_app::appcode::{AppcodeNames, appcode};
 use mb_tools_app::asm::{AsmNames, asm};
 use mb_tools_app::disasm::{DisasmNames, disasm};
 use mb_tools_device::cutat::{CutNames, cutat};
 use mb_tools_device::generate::{GenerateNames, generate};
+use mb_tools_device::rehearse::rehearse;
 use mb_tools_device::run::{RunNames, run};
+use mb_tools_fleet::devices::{DevicesNames, devices};
+use mb_tools_fleet::enrol::{EnrolNames, enrol};
 use mb_tools_fleet::fleet::{FleetNames, fleet};
+use mb_tools_fleet::register::{RegisterNames, register};
 use mb_tools_hss::endorse::{EndorseNames, endorse};
 use mb_tools_hss::endorsed::{EndorsedNames, endorsed};
 use mb_tools_hss::hsskeygen::{HsskeygenNames, hsskeygen};
@@ -37,6 +42,8 @@ use mb_tools_orders::ordered::{OrderedNames, ordered};
 use mb_tools_orders::showkey::{ShowKeyNames, showkey};
 use mb_tools_orders::showorder::{ShowOrderNames, showorder};
 use mb_tools_policy::trust::{TrustNames, trust};
+use mb_tools_shown::history::{HistoryNames, history};
+use mb_tools_shown::showimage::{ShowimageNames, showimage};
 use std::alloc::Global;
 use std::marker::Brand;
 use std::sync::ledger::{Blank, Ledger};
@@ -105,6 +112,9 @@ fn carry_out<H: Host, B: Board, L: Ledger>(
     let given = &call.arguments;
     match call.command {
         Command::Run => run(alloc, &RunNames::of(given), host, board, hashes),
+        Command::Rehearse => rehearse(alloc, &RunNames::of(given), host, board, hashes),
+        Command::Showimage => showimage(alloc, &ShowimageNames::of(given), host, hashes),
+        Command::History => history(alloc, &HistoryNames::of(given), host),
         Command::Cutat => cutat(alloc, &CutNames::of(given), host, board, hashes),
         Command::Verify => verify(alloc, &VerifyNames::of(given), host),
         Command::Audit => audit(alloc, &AuditNames::of(given), host, hashes),
@@ -112,6 +122,9 @@ fn carry_out<H: Host, B: Board, L: Ledger>(
         Command::Chain => chain(alloc, &ChainNames::of(given), host, hashes),
         Command::Attach => attach(alloc, &AttachNames::of(given), host),
         Command::Fleet => fleet(alloc, &FleetNames::of(given), host),
+        Command::Register => register(alloc, &RegisterNames::of(given), host),
+        Command::Enrol => enrol(alloc, &EnrolNames::of(given), host),
+        Command::Devices => devices(alloc, &DevicesNames::of(given), host),
         Command::Factory => factory(alloc, &FactoryNames::of(given), host, hashes),
         Command::Keygen => keygen(alloc, &KeygenNames::of(given), host, hashes),
         Command::Showkey => showkey(alloc, &ShowKeyNames::of(given), host, hashes),
@@ -126,6 +139,7 @@ fn carry_out<H: Host, B: Board, L: Ledger>(
         Command::Endorsed => endorsed(alloc, &EndorsedNames::of(given), host),
         Command::Migrate => migrate(alloc, &MigrateNames::of(given), host, hashes),
         Command::App => app(alloc, &AppNames::of(given), host, hashes),
+        Command::Appcode => appcode(alloc, &AppcodeNames::of(given), host),
         Command::Asm => asm(alloc, &AsmNames::of(given), host),
         Command::Disasm => disasm(alloc, &DisasmNames::of(given), host),
         Command::Generate => generate(alloc, &GenerateNames::of(given), host, board, hashes),

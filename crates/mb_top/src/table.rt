@@ -25,19 +25,26 @@ pub enum Command {
     Sign,
     Countersign,
     Cosign,
+    Showimage,
     Run,
+    Rehearse,
     Cutat,
     Chain,
     Attach,
     Migrate,
     Generate,
     Verify,
+    History,
     Audit,
     Trust,
     Endorsed,
+    Register,
+    Enrol,
+    Devices,
     Fleet,
     Asm,
     Disasm,
+    Appcode,
     App,
 }
 
@@ -237,12 +244,28 @@ pub const GROUPS: [Group; 5] = [
         "to serve a device",
         &[
             (
+                Command::Showimage,
+                "showimage",
+                &[IMAGE],
+                "
+      prints what IMAGE says of its device: serial, configuration number, length of the log, layers, names
+      of secrets, keys, and how often each key can still sign",
+            ),
+            (
                 Command::Run,
                 "run",
                 &[IMAGE, SCRIPT, NOISE],
                 "
       gives the device of IMAGE the events of SCRIPT, writes the new image over IMAGE, and prints a line
       for each reply",
+            ),
+            (
+                Command::Rehearse,
+                "rehearse",
+                &[IMAGE, SCRIPT, NOISE],
+                "
+      serves SCRIPT on the device of IMAGE and writes no file; prints a line for each reply, without the
+      values of secrets and without statements, and which event was the first that was not obeyed",
             ),
             (
                 Command::Cutat,
@@ -297,6 +320,14 @@ pub const GROUPS: [Group; 5] = [
       used the key with this number",
             ),
             (
+                Command::History,
+                "history",
+                &[ROOT, CHAIN],
+                "
+      verifies the chain under the maker's public key, and tells the device's history entry by entry, with
+      its serial, its keys, and who signed the chain's statement",
+            ),
+            (
                 Command::Audit,
                 "audit",
                 &[IMAGE, ROOT, CHAIN, KEYNUMBER],
@@ -316,6 +347,28 @@ pub const GROUPS: [Group; 5] = [
                 &[PUBLIC, ROOT, ENDORSEMENT],
                 "
       verifies the endorsement of the public key in ROOT under the public key of a maker's HSS key",
+            ),
+            (
+                Command::Register,
+                "register",
+                &[OUT],
+                "
+      writes a register of no devices, and prints how many that has",
+            ),
+            (
+                Command::Enrol,
+                "enrol",
+                &[ROOT, REGISTER, CHAIN],
+                "
+      shows a register of the maker's devices one chain, writes the register if it changes, and prints the
+      answer",
+            ),
+            (
+                Command::Devices,
+                "devices",
+                &[REGISTER],
+                "
+      lists the devices of a register, with what each has shown last",
             ),
             (
                 Command::Fleet,
@@ -343,6 +396,14 @@ pub const GROUPS: [Group; 5] = [
                 &[CODE, OUT],
                 "
       lists the code, writes its text, and prints how many lines that has",
+            ),
+            (
+                Command::Appcode,
+                "appcode",
+                &[CODE, INPUT, STEPS],
+                "
+      runs the code on the bytes of INPUT for at most STEPS steps, 1 to 10,000,000, as layer 3 of a device
+      without secrets, and prints how it ends",
             ),
             (
                 Command::App,

@@ -31,13 +31,23 @@ use Rattle.mb_appvm.specs.declared.running.AppEnd.TheVariants as app_end
 use Rattle.mb_appvm.specs.Runs.{readable_secrets, AppRun}
 use Rattle.mb_appvm.proofs.Determined.{runs_end_once}
 use Rattle.mb_tools_app.specs.AppCommand.{AppNames, code_of_layer, RunsStoredCode, app, run_stored_code, tell_end}
+use Rattle.mb_tools_app.specs.AppcodeCommand.{AppcodeNames, no_secrets, appcode}
 use Rattle.mb_tools_app.specs.AssemblyCommands.{AsmNames, DisasmNames, asm, disasm}
 use Rattle.mb_fleet.specs.declared.row.Row.{Row}
 use Rattle.mb_fleet.specs.declared.item.Item.{Item}
 use Rattle.mb_fleet.specs.Rows.{AreOrdered}
+use Rattle.mb_fleet.specs.Showing as answers
+use Rattle.mb_fleet.specs.Showing.{Answer}
+use Rattle.mb_fleet.proofs.Determined.{chains_have_one_answer}
+use Rattle.mb_tools_fleet.specs.EnrolCommand.{EnrolNames, Enrolment, ComesToEnrolment, tell_answer, tell_enrolment, enrol}
+use Rattle.mb_tools_fleet.specs.RegisterCommands.{RegisterNames, DevicesNames, register, devices}
 use Rattle.mb_tools_fleet.specs.FleetCommand.{FleetNames, FleetOutcome, all_served, text_too_long, ServingComesTo, keep_register, fleet}
+use Rattle.mb_tools_shown.specs.HistoryCommand.{HistoryNames, Finding, has_history, is_untold, history, tell_history}
+use Rattle.mb_tools_shown.specs.ShowimageCommand.{ShowimageNames, showimage, show_device}
+use Rattle.mb_tools_shown.proofs.StateLemmas.{one_work}
+use Rattle.mb_top_laws.proofs.HistoryOnce.{one_finding}
 use Rattle.mb_top_laws.proofs.AlikeSteps.{IsReadOnce, Alike, alike_read, alike_find, alike_found, alike_either, alike_write, alike_print, alike_refuse, lack_never}
-use Rattle.mb_top_laws.proofs.InputsOnce.{binary_once, leading_once, whole_once, root_once, image_once}
+use Rattle.mb_top_laws.proofs.InputsOnce.{binary_once, leading_once, bounded_once, whole_once, root_once, image_once}
 use Rattle.mb_top_laws.proofs.AlikeCommands.{one_verdict, whole_bytes}
 use Rattle.mb_top_laws.proofs.StoredCodes.{AreCodesBytes, image_codes}
 use Rattle.mb_top_laws.proofs.ListingOnce.{listing_once, assembly_once}
@@ -137,6 +147,11 @@ pub app_alike : (names : AppNames) → Alike (app names) (app names)
 unfolding app
 app_alike names = alike_read _ _ (image_once _) (λ bytes image are is. alike_read _ _ (whole_once _ _) (λ text input given held. stored_alike names bytes image.state input are is.1))
 
+pub appcode_alike : (names : AppcodeNames) → Alike (appcode names) (appcode names)
+unfolding appcode
+appcode_alike names = alike_read _ _ (bounded_once _ _ _) (λ bytes code are is. alike_read _ _ (whole_once _ _) (λ text input given held.
+    alike_found _ _ (λ a b one other. runs_end_once code input no_secrets names.steps a b (subst IsBytes (sym is.1) are) one other) (λ ending run. ending_alike ending)))
+
 pub asm_alike : (names : AsmNames) → Alike (asm names) (asm names)
 unfolding asm
 asm_alike names = alike_read _ _ (assembly_once _) (λ bytes code are is. alike_write _ _ (alike_print _))
@@ -161,3 +176,54 @@ unfolding fleet
 fleet_alike names = alike_read _ _ (root_once _) (λ bytes maker are is. alike_read _ _ (register_once _) (λ held rows given in_form.
     alike_read _ _ (items_once _) (λ asked listed read spelled.
     alike_find _ _ (λ a b one other. kept_alike names.register maker rows listed a b (register_ordered held rows names.register in_form) (items_bytes asked listed read spelled) one other))))
+
+-- ---- images and chains shown
+
+device_alike : (image : List ℕ) (state : Option State) → IsBytes image → Alike (show_device image state) (show_device image state)
+device_alike image None are = alike_refuse _
+device_alike image (Some state) are = alike_found _ _ (λ a b is also. one_work image a b are is also) (λ pending is. alike_print _)
+
+pub showimage_alike : (names : ShowimageNames) → Alike (showimage names) (showimage names)
+unfolding showimage
+showimage_alike names = alike_read _ _ (image_once _) (λ bytes image are is. device_alike image.bytes image.state (whole_bytes bytes image.bytes are is.0))
+
+finding_alike : (finding : Finding) → Alike (tell_history finding) (tell_history finding)
+finding_alike (has_history chain signer) = alike_print _
+finding_alike (is_untold why) = alike_refuse _
+
+pub history_alike : (names : HistoryNames) → Alike (history names) (history names)
+unfolding history
+history_alike names = alike_read _ _ (root_once _) (λ bytes maker are is. alike_read _ _ (whole_once _ _) (λ text chain given held.
+    alike_found _ _ (λ a b one other. one_finding maker chain a b (whole_bytes text chain given held) one other) (λ finding told. finding_alike finding)))
+
+-- ---- `register`, `enrol` and `devices`
+
+pub register_alike : (names : RegisterNames) → Alike (register names) (register names)
+unfolding register
+register_alike names = alike_write _ _ (alike_print _)
+
+answer_alike : (name : List ℕ) (after : List Row) (answer : Answer) → Alike (tell_answer name after answer) (tell_answer name after answer)
+answer_alike name after (answers.newly_added serial n) = alike_write _ _ (alike_print _)
+answer_alike name after (answers.same serial n) = alike_print _
+answer_alike name after (answers.extended serial n) = alike_write _ _ (alike_print _)
+answer_alike name after (answers.chain_refused why) = alike_refuse _
+answer_alike name after (answers.older serial have) = alike_refuse _
+answer_alike name after (answers.forked serial place) = alike_refuse _
+answer_alike name after answers.full = alike_refuse _
+
+enrolments_alike : (name : List ℕ) (maker : PublicKey) (rows : List Row) (chain : List ℕ) (a b : Enrolment) → IsBytes chain → AreOrdered rows → ComesToEnrolment maker rows chain a
+    → ComesToEnrolment maker rows chain b → Alike (tell_enrolment name a) (tell_enrolment name b)
+enrolments_alike name maker rows chain a b are ordered one other =
+    let same = chains_have_one_answer maker rows chain a.answer b.answer a.after b.after are ordered one other in
+    subst (λ (answer : Answer). Alike (tell_answer name a.after a.answer) (tell_answer name b.after answer)) same.0
+    (subst (λ (after : List Row). Alike (tell_answer name a.after a.answer) (tell_answer name after a.answer)) same.1 (answer_alike name a.after a.answer))
+
+pub enrol_alike : (names : EnrolNames) → Alike (enrol names) (enrol names)
+unfolding enrol
+enrol_alike names = alike_read _ _ (root_once _) (λ bytes maker are is. alike_read _ _ (register_once _) (λ held rows given in_form.
+    alike_read _ _ (whole_once _ _) (λ text chain read whole.
+    alike_find _ _ (λ a b one other. enrolments_alike names.register maker rows chain a b (whole_bytes text chain read whole) (register_ordered held rows names.register in_form) one other))))
+
+pub devices_alike : (names : DevicesNames) → Alike (devices names) (devices names)
+unfolding devices
+devices_alike names = alike_read _ _ (register_once _) (λ held rows given in_form. alike_print _)

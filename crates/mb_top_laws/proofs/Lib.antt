@@ -16,3 +16,4 @@ pub mod EndExamples
 pub mod DeadRuns
 pub mod EndLemmas
 pub mod AppImageLemmas
+pub mod HistoryOnce

@@ -38,10 +38,20 @@ use Rattle.mb_tools_hss.specs.Names.{hsskeygen_given, showmaker_given, endorse_g
 use Rattle.mb_tools_policy.specs.TrustCommand.{TrustNames, trust, tell_judgement, judge_verdict}
 use Rattle.mb_tools_policy.specs.Names.{trust_given}
 use Rattle.mb_tools_app.specs.AppCommand.{AppNames, app, run_stored_code, tell_end}
+use Rattle.mb_tools_app.specs.AppcodeCommand.{AppcodeNames, appcode}
 use Rattle.mb_tools_app.specs.AssemblyCommands.{AsmNames, DisasmNames, asm, disasm}
-use Rattle.mb_tools_app.specs.Names.{app_given, asm_given, disasm_given}
+use Rattle.mb_tools_app.specs.Names.{app_given, appcode_given, asm_given, disasm_given}
+use Rattle.mb_fleet.specs.declared.row.Row.{Row}
+use Rattle.mb_fleet.specs.Showing as answers
+use Rattle.mb_fleet.specs.Showing.{Answer}
+use Rattle.mb_tools_fleet.specs.EnrolCommand.{EnrolNames, enrol, tell_answer}
+use Rattle.mb_tools_fleet.specs.RegisterCommands.{RegisterNames, DevicesNames, register, devices}
 use Rattle.mb_tools_fleet.specs.FleetCommand.{FleetNames, FleetOutcome, all_served, text_too_long, keep_register, fleet}
-use Rattle.mb_tools_fleet.specs.FleetWords.{fleet_given}
+use Rattle.mb_tools_fleet.specs.FleetWords.{fleet_given, register_given, enrol_given, devices_given}
+use Rattle.mb_tools_shown.specs.HistoryCommand.{HistoryNames, Finding, has_history, is_untold, history, tell_history}
+use Rattle.mb_tools_shown.specs.ShowimageCommand.{ShowimageNames, showimage, show_device}
+use Rattle.mb_tools_shown.specs.Names.{history_given, showimage_given}
+use Rattle.mb_tools_device.specs.RehearseCommand.{rehearsal}
 use Rattle.mb_tools_device.specs.CutCommand.{CutNames, CutRun, AnyLacksMemory, IsCutRun, IsRehearsed, IsCutServed, cutat, tell_cut}
 use Rattle.mb_tools_device.specs.Names.{run_given, cut_given, generate_given}
 use Rattle.mb_top.specs.declared.table.Command.TheVariants as command
@@ -231,8 +241,55 @@ never_fleet : (names : FleetNames) → NeverLoads (fleet names)
 unfolding fleet NeverLoads
 never_fleet names = λ maker rows listed outcome. never_kept names.register outcome
 
+never_shown : (image : List ℕ) (state : Option State) → NeverLoads (show_device image state)
+unfolding NeverLoads
+never_shown image None = tt
+never_shown image (Some state) = λ pending. tt
+
+never_showimage : (names : ShowimageNames) → NeverLoads (showimage names)
+unfolding showimage NeverLoads
+never_showimage names = λ image. never_shown image.bytes image.state
+
+never_history_told : (finding : Finding) → NeverLoads (tell_history finding)
+unfolding NeverLoads
+never_history_told (has_history chain signer) = tt
+never_history_told (is_untold why) = tt
+
+never_history : (names : HistoryNames) → NeverLoads (history names)
+unfolding history NeverLoads
+never_history names = λ maker bytes finding. never_history_told finding
+
+never_register : (names : RegisterNames) → NeverLoads (register names)
+unfolding register NeverLoads
+never_register names = tt
+
+never_answered : (name : List ℕ) (after : List Row) (answer : Answer) → NeverLoads (tell_answer name after answer)
+unfolding NeverLoads
+never_answered name after (answers.newly_added serial n) = tt
+never_answered name after (answers.same serial n) = tt
+never_answered name after (answers.extended serial n) = tt
+never_answered name after (answers.chain_refused why) = tt
+never_answered name after (answers.older serial have) = tt
+never_answered name after (answers.forked serial place) = tt
+never_answered name after answers.full = tt
+
+never_enrol : (names : EnrolNames) → NeverLoads (enrol names)
+unfolding enrol NeverLoads
+never_enrol names = λ maker rows chain enrolment. never_answered names.register enrolment.after enrolment.answer
+
+never_devices : (names : DevicesNames) → NeverLoads (devices names)
+unfolding devices NeverLoads
+never_devices names = λ rows. tt
+
+never_appcode : (names : AppcodeNames) → NeverLoads (appcode names)
+unfolding appcode NeverLoads
+never_appcode names = λ code input ending. never_ended ending
+
 pub all_load_nothing : (e : Ended) → NothingIsLoaded e
 all_load_nothing e command.Run given is ends = absurd (grind (arith, is))
+all_load_nothing e command.Rehearse given is ends = absurd (grind (arith, is))
+all_load_nothing e command.Showimage given is ends = nothing_is_loaded (showimage (showimage_given given)) at_first e (never_showimage (showimage_given given)) ends
+all_load_nothing e command.History given is ends = nothing_is_loaded (history (history_given given)) at_first e (never_history (history_given given)) ends
 all_load_nothing e command.Cutat given is ends = absurd (grind (arith, is))
 all_load_nothing e command.Generate given is ends = absurd (grind (arith, is))
 all_load_nothing e command.Verify given is ends = nothing_is_loaded (verify (verify_given given)) at_first e (never_verify (verify_given given)) ends
@@ -241,6 +298,9 @@ all_load_nothing e command.Trust given is ends = nothing_is_loaded (trust (trust
 all_load_nothing e command.Chain given is ends = nothing_is_loaded (chain (chain_given given)) at_first e (never_chain (chain_given given)) ends
 all_load_nothing e command.Attach given is ends = nothing_is_loaded (attach (attach_given given)) at_first e (never_attach (attach_given given)) ends
 all_load_nothing e command.Fleet given is ends = nothing_is_loaded (fleet (fleet_given given)) at_first e (never_fleet (fleet_given given)) ends
+all_load_nothing e command.Register given is ends = nothing_is_loaded (register (register_given given)) at_first e (never_register (register_given given)) ends
+all_load_nothing e command.Enrol given is ends = nothing_is_loaded (enrol (enrol_given given)) at_first e (never_enrol (enrol_given given)) ends
+all_load_nothing e command.Devices given is ends = nothing_is_loaded (devices (devices_given given)) at_first e (never_devices (devices_given given)) ends
 all_load_nothing e command.Factory given is ends = nothing_is_loaded (factory (factory_given given)) at_first e (never_factory (factory_given given)) ends
 all_load_nothing e command.Keygen given is ends = nothing_is_loaded (keygen (keygen_given given)) at_first e (never_keygen (keygen_given given)) ends
 all_load_nothing e command.Sign given is ends = nothing_is_loaded (sign (sign_given given)) at_first e (never_sign (sign_given given)) ends
@@ -255,12 +315,13 @@ all_load_nothing e command.Endorse given is ends = nothing_is_loaded (endorse (e
 all_load_nothing e command.Endorsed given is ends = nothing_is_loaded (endorsed (endorsed_given given)) at_first e (never_endorsed (endorsed_given given)) ends
 all_load_nothing e command.Migrate given is ends = nothing_is_loaded (migrate (migrate_given given)) at_first e (never_migrate (migrate_given given)) ends
 all_load_nothing e command.App given is ends = nothing_is_loaded (app (app_given given)) at_first e (never_app (app_given given)) ends
+all_load_nothing e command.Appcode given is ends = nothing_is_loaded (appcode (appcode_given given)) at_first e (never_appcode (appcode_given given)) ends
 all_load_nothing e command.Asm given is ends = nothing_is_loaded (asm (asm_given given)) at_first e (never_asm (asm_given given)) ends
 all_load_nothing e command.Disasm given is ends = nothing_is_loaded (disasm (disasm_given given)) at_first e (never_disasm (disasm_given given)) ends
 
 -- ---- after the last load
 
--- a command that reads no input, loads no board and is not refused
+-- a command that reads no input and loads no board
 unfoldable GoesOn : Command → Type 0
 GoesOn (read input rest) = ⊥
 GoesOn (find {A = A} Is rest) = (value : A) → GoesOn (rest value)
@@ -270,10 +331,11 @@ GoesOn (serve IsServed rest) = (answered : List Answered) (held : Held) → Goes
 GoesOn (rehearse IsRehearsed rest) = ⊥
 GoesOn (write output rest) = GoesOn rest
 GoesOn (print text) = Unit {0}
-GoesOn (refuse line) = ⊥
+GoesOn (refuse line) = Unit {0}
 GoesOn lack = Unit {0}
 
--- such a command has loaded as often as before, and is done, or an output failed, or memory was lacking
+-- such a command has loaded as often as before, and is done, or an output failed, or memory was lacking, or it was
+-- refused
 GoneOn : Past → Ended → Type 0
 GoneOn past e = (e.used.loads ≡ past.used.loads) × ((e.status ≡ 0) ⊎ (5 ≤ e.status))
 
@@ -303,7 +365,8 @@ gone_on (write output rest) past e goes (inr (inr wants)) = wanted past e wants
 gone_on (print text) past e goes (inl (text_is_printed prints same is)) = (loads_as past e same, inl is)
 gone_on (print text) past e goes (inl (text_is_not_printed mid fails stops)) = (loads_as past e stops.used, inr (omega (arith, stops.status_is)))
 gone_on (print text) past e goes (inr wants) = wanted past e wants
-gone_on (refuse line) past e goes ends = absurd goes
+gone_on (refuse line) past e goes (inl stops) = (loads_as past e stops.used, inr (omega (arith, stops.status_is)))
+gone_on (refuse line) past e goes (inr wants) = wanted past e wants
 gone_on lack past e goes stops = (loads_as past e stops.used, inr (omega (arith, stops.status_is)))
 
 input_status : {A : Type 0} (input : Input A) (past : Past) (e : Ended) → InputEnds input past e → 3 ≤ e.status
@@ -342,6 +405,13 @@ unfolding run GoesOn
 run_loads names e ends =
     read_ended OnceLoaded _ _ e (λ image e. read_ended OnceLoaded _ _ e (λ undrawn e. read_ended OnceLoaded _ _ e (λ events e. loaded_ended image.bytes _ e (λ answered held. tt)))) ends
 
+-- ---- `rehearse`
+
+rehearse_loads : (names : RunNames) (e : Ended) → CommandEnds (rehearsal names) at_first e → EndsAfterLoads (e.used.loads ≡ 1) e
+unfolding rehearsal GoesOn
+rehearse_loads names e ends =
+    read_ended OnceLoaded _ _ e (λ image e. read_ended OnceLoaded _ _ e (λ script e. read_ended OnceLoaded _ _ e (λ events e. loaded_ended image.bytes _ e (λ answered held. (tt, λ first. tt))))) ends
+
 -- ---- `generate`
 
 -- what comes after the load
@@ -362,7 +432,11 @@ generate_loads names e (inl it) = loaded_ended it.0.files.image (write_workload 
 generate_loads names e (inr wants) = lacked e wants
 
 pub all_load_once : (e : Ended) → LoadsOnce e
-all_load_once e = record { run = λ given ends. run_loads (run_given given) e ends; generate = λ given ends. generate_loads (generate_given given) e ends }
+all_load_once e = record {
+  run = λ given ends. run_loads (run_given given) e ends;
+  rehearse = λ given ends. rehearse_loads (run_given given) e ends;
+  generate = λ given ends. generate_loads (generate_given given) e ends;
+}
 
 -- ---- `cutat`
 

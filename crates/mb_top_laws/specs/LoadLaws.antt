@@ -10,6 +10,7 @@ use Rattle.mb_top.specs.Top.{command_of}
 -- whether a command serves a device
 abbrev pub serves : Command → Bool
 serves command.Run = true
+serves command.Rehearse = true
 serves command.Cutat = true
 serves command.Generate = true
 serves _ = false
@@ -24,15 +25,17 @@ NothingIsLoaded ending =
     (called : Command) (given : List Argument) → serves called ≡ false → EndsCalled called given ending
     → ending.used ≡ not_used
 
--- The board was never loaded, and the status is 3, 4, 5 or 6; or it was loaded this often, and the command is done, or
--- an output failed, or memory was lacking.
+-- The board was never loaded, and the status is 3 or higher; or it was loaded this often, and the command is done, or
+-- an output failed, or memory was lacking, or the command was refused.
 abbrev pub EndsAfterLoads : Type 0 → Ended → Type 0
 EndsAfterLoads Often ending =
     ((ending.used ≡ not_used) × (3 ≤ ending.status)) ⊎ (Often × ((ending.status ≡ 0) ⊎ (5 ≤ ending.status)))
 
--- `run` and `generate` load a board once, or end before they do
+-- `run`, `rehearse` and `generate` load a board once, or end before they do
 pub record LoadsOnce (ending : Ended) : Type 0 where
   pub run : (given : List Argument) → EndsCalled command.Run given ending
+      → EndsAfterLoads (ending.used.loads ≡ 1) ending
+  pub rehearse : (given : List Argument) → EndsCalled command.Rehearse given ending
       → EndsAfterLoads (ending.used.loads ≡ 1) ending
   pub generate : (given : List Argument) → EndsCalled command.Generate given ending
       → EndsAfterLoads (ending.used.loads ≡ 1) ending

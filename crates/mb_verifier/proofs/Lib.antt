@@ -1,4 +1,5 @@
 pub mod Judging
 pub mod Listed
+pub mod SignerLemmas
 pub mod Stating
 pub mod Verdicts

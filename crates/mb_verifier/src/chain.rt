@@ -5,7 +5,7 @@ ghost use Rattle.mb_model.specs.declared.limits.TheConstants.{FILE_LIMIT};
 ghost use Rattle.mb_model.specs.declared.entry.Chain.{Chain};
 ghost use Rattle.mb_model.specs.records.ChainFormat.{chain_format};
 ghost use Rattle.mb_model.specs.owners.Log.{entries_of, RuledLog};
-ghost use Rattle.mb_model.specs.chains.Acceptance.{Accepts, IsRefused, message_of};
+ghost use Rattle.mb_model.specs.chains.Acceptance.{Accepts, AreGood, IsRefused, message_of};
 ghost use Rattle.mb_model.specs.chains.Acceptance as acceptance;
 ghost use Rattle.mb_format.specs.Format.{Spells};
 ghost use Rattle.mb_verifier.specs.Ends.{chain_refusal_of};
@@ -82,12 +82,42 @@ fn report_on(
     })
 }
 
+/// The chain of at most 4,194,304 bytes, if its entries are good under the maker's key `root`. Of a statement, only the
+/// form is checked. Each signature of an entry is checked once; no clause says so.
+///
+/// Errors: those of `ChainRefusal` that the form or an entry gives (`Form`, `Signature`, `Order`, `Rules`), and
+/// `NoMemory`.
+pub fn verify_entries(alloc: Global, root: &PublicKey, chain: &[u8]) -> Result<Chain, ChainRefusal>
+    requires { length chain.now ≤ FILE_LIMIT }
+    ensures spelled { IfOk result (Spells chain_format chain.now) }
+    ensures good { IfOk result (λ whole. AreGood root.now whole.entries) }
+    ensures refused { IfErr result (λ why. IfSome (chain_refusal_of why) (IsEntriesRefused root.now chain.now)) }
+{
+    match read_chain(alloc, chain) {
+        Ok(chain) => good_chain(alloc, root, chain),
+        Err(ChainEnd::Bad { at }) => Err(ChainRefusal::Form { at }),
+        Err(ChainEnd::NoMemory) => Err(ChainRefusal::NoMemory),
+    }
+}
+
+/// The chain, if its entries are good; else why the first that is not good is refused. No entry makes the key with the
+/// number 0, so its life takes no memory.
+fn good_chain(alloc: Global, root: &PublicKey, chain: Chain) -> Result<Chain, ChainRefusal>
+    requires { chain_format.Allowed chain }
+    ensures same { IfOk result (λ whole. whole ≡ chain) }
+    ensures good { IfOk result (λ whole. AreGood root.now whole.entries) }
+    ensures refused { (bytes : List ℕ) → Spells chain_format bytes chain → IfErr result (λ why. IfSome (chain_refusal_of why) (IsEntriesRefused root.now bytes)) }
+{
+    judge(alloc, root, chain.entries.as_slice(), 0)?;
+    Ok(chain)
+}
+
 /// What the entries of a chain of at most 4,194,304 bytes show, if they are good under the maker's key `root`. Of a
 /// statement, only the form is checked. Each signature of an entry is checked once; no clause says so.
 ///
 /// Errors: those of `ChainRefusal` that the form or an entry gives (`Form`, `Signature`, `Order`, `Rules`), and
 /// `NoMemory`.
-pub fn verify_entries(alloc: Global, root: &PublicKey, chain: &[u8]) -> Result<Shown, ChainRefusal>
+pub fn verify_shown(alloc: Global, root: &PublicKey, chain: &[u8]) -> Result<Shown, ChainRefusal>
     requires { length chain.now ≤ FILE_LIMIT }
     ensures shown { IfOk result (ChainShows root.now chain.now) }
     ensures refused { IfErr result (λ why. IfSome (chain_refusal_of why) (IsEntriesRefused root.now chain.now)) }

@@ -76,7 +76,7 @@ fn put_layer(
 }
 
 /// The line of layer `number`, with its LF.
-fn layer_line(alloc: Global, number: u8, layer: &Layer) -> Result<String, NoMemory>
+pub fn layer_line(alloc: Global, number: u8, layer: &Layer) -> Result<String, NoMemory>
     ensures { IfOk result (λ line. string_bytes line ≡ line_with_lf (layer_line number layer.now)) }
 {
     let owner = owner_word(alloc, &layer.owner)?;
@@ -156,7 +156,7 @@ fn trust_word(trust: Trust) -> &'static str
 }
 
 /// The word for whether a key is alive.
-fn life_word(alive: bool) -> &'static str
+pub fn life_word(alive: bool) -> &'static str
     ensures { result.now ≡ life_word alive }
 {
     if alive { "alive" } else { "ended" }

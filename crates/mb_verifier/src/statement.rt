@@ -47,7 +47,12 @@ pub(crate) fn check_statement(
 }
 
 /// Whether the key with the number `number` signed the statement, in the device with this log.
-fn is_stated(log: &[SignedEntry], number: u32, key: &PublicKey, statement: &Statement) -> bool
+pub(crate) fn is_stated(
+    log: &[SignedEntry],
+    number: u32,
+    key: &PublicKey,
+    statement: &Statement,
+) -> bool
     ensures { IsTrue result ↔ IsStated (entries_of log.now) number key.now statement.now }
 {
     match serial_of(log) {

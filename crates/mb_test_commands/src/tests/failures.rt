@@ -13,6 +13,7 @@ pub const FILES_ARE_MADE: &[Step] = &[
         "events",
         &[Part::Text("boot\nput 2 pin 35363738\ncommand 00\noff\n")],
     ),
+    Step::Writes("obeyed", &[Part::Text("boot\nput 2 pin 35363738\noff\n")]),
     Step::Writes(
         "every",
         &[Part::Text(
@@ -68,6 +69,10 @@ pub const TOOLS_ARE_MADE: &[Step] = &[
         &[Part::Text("label a\npush 65\nemit\njump a\nget token\n")],
     ),
     Step::Ends("asm text assembled", 0, "bytes 16\n"),
+    Step::Gives(Given {
+        name: "halts",
+        content: Content::Hex("01000000414200"),
+    }),
     Step::Writes("register", &[Part::Text("MBF1\0\0")]),
     Step::Gives(Given {
         name: "shows",
@@ -90,6 +95,21 @@ const COMMANDS: &[Access] = &[
         words: "run image events draw",
         reads: &[("image", "image"), ("script", "events"), ("noise", "draw")],
         writes: &[("image", "image")],
+    },
+    Access {
+        words: "rehearse image obeyed draw",
+        reads: &[("image", "image"), ("script", "obeyed"), ("noise", "draw")],
+        writes: &[],
+    },
+    Access {
+        words: "showimage image",
+        reads: &[("image", "image")],
+        writes: &[],
+    },
+    Access {
+        words: "history public0 chain",
+        reads: &[("root", "public0"), ("chain", "chain")],
+        writes: &[],
     },
     Access {
         words: "cutat image events draw 1 00",
@@ -227,6 +247,30 @@ const COMMANDS: &[Access] = &[
             ("items", "items"),
         ],
         writes: &[("register", "register")],
+    },
+    Access {
+        words: "register new",
+        reads: &[],
+        writes: &[("out", "new")],
+    },
+    Access {
+        words: "enrol public0 register chain",
+        reads: &[
+            ("root", "public0"),
+            ("register", "register"),
+            ("chain", "chain"),
+        ],
+        writes: &[("register", "register")],
+    },
+    Access {
+        words: "devices register",
+        reads: &[("register", "register")],
+        writes: &[],
+    },
+    Access {
+        words: "appcode halts nothing 10",
+        reads: &[("code", "halts"), ("input", "nothing")],
+        writes: &[],
     },
 ];
 

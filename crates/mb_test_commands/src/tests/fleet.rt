@@ -213,7 +213,7 @@ const A_COPY_IS_CAUGHT: &[Step] = &[
 
 /// A maker's key, a register of two devices, and questions with bytes that are no chain among them; and two devices
 /// with codes of layer 1 that differ.
-const FILES: &[Given] = &[
+pub const FILES: &[Given] = &[
     Given {
         name: "root",
         content: Content::Hex(
@@ -246,7 +246,7 @@ const FILES: &[Given] = &[
 ];
 
 /// A register of another program.
-const REGISTER: &str =
+pub const REGISTER: &str =
     "4d42463100021111111111111111111111111111111100000102012121212121212121212121212121212121212121212121\
      2121212121212121210001232323232323232323232323232323232323232323232323232323232323232300026161616161\
      6161616161616161616161616161616161616161616161616161616262626262626262626262626262626262626262626262\
@@ -313,7 +313,7 @@ const NOTHING_IS_PRINTED: &[Play] = &[Play {
 }];
 
 /// The fields of the register begin at these offsets.
-const REGISTER_FIELDS: &[usize] = &[
+pub const REGISTER_FIELDS: &[usize] = &[
     0, 4, 6, 22, 26, 27, 59, 60, 61, 93, 95, 127, 159, 175, 179, 180, 181, 213, 214, 216,
 ];
 

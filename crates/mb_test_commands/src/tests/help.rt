@@ -40,9 +40,15 @@ to give orders:
       countersigns as countersign does, if the order line says what the draft says, and else refuses
 
 to serve a device:
+  miniboot showimage IMAGE
+      prints what IMAGE says of its device: serial, configuration number, length of the log, layers, names
+      of secrets, keys, and how often each key can still sign
   miniboot run IMAGE SCRIPT NOISE
       gives the device of IMAGE the events of SCRIPT, writes the new image over IMAGE, and prints a line
       for each reply
+  miniboot rehearse IMAGE SCRIPT NOISE
+      serves SCRIPT on the device of IMAGE and writes no file; prints a line for each reply, without the
+      values of secrets and without statements, and which event was the first that was not obeyed
   miniboot cutat IMAGE SCRIPT NOISE COUNT FILL
       serves SCRIPT on the device of IMAGE, and cuts power in the write with the number COUNT, 1 to 100,000,
       of its last event; prints which state that leaves, and writes no file; FILL is what the write leaves,
@@ -62,12 +68,22 @@ to verify what a device says of itself:
   miniboot verify ROOT CHAIN KEYNUMBER
       verifies the chain under the maker's public key, and lists every configuration of code that could have
       used the key with this number
+  miniboot history ROOT CHAIN
+      verifies the chain under the maker's public key, and tells the device's history entry by entry, with
+      its serial, its keys, and who signed the chain's statement
   miniboot audit IMAGE ROOT CHAIN KEYNUMBER
       verifies the chain, and compares what it lists for the key with the log of the device of IMAGE
   miniboot trust ROOT CHAIN KEYNUMBER POLICY
       verifies the chain, and then judges by the policy each configuration that could have used the key
   miniboot endorsed PUBLIC ROOT ENDORSEMENT
       verifies the endorsement of the public key in ROOT under the public key of a maker's HSS key
+  miniboot register OUT
+      writes a register of no devices, and prints how many that has
+  miniboot enrol ROOT REGISTER CHAIN
+      shows a register of the maker's devices one chain, writes the register if it changes, and prints the
+      answer
+  miniboot devices REGISTER
+      lists the devices of a register, with what each has shown last
   miniboot fleet ROOT REGISTER ITEMS
       serves the items, chains and questions, over a register of the maker's devices, writes the register,
       and prints the answers
@@ -77,6 +93,9 @@ to write applications:
       assembles the text, writes its code, and prints how many bytes that has
   miniboot disasm CODE OUT
       lists the code, writes its text, and prints how many lines that has
+  miniboot appcode CODE INPUT STEPS
+      runs the code on the bytes of INPUT for at most STEPS steps, 1 to 10,000,000, as layer 3 of a device
+      without secrets, and prints how it ends
   miniboot app IMAGE LAYER INPUT STEPS
       runs the code of layer 2 or 3 of the device of IMAGE on the bytes of INPUT for at most STEPS steps,
       1 to 10,000,000, and prints how it ends

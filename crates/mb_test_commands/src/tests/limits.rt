@@ -216,6 +216,7 @@ const ITS_END_IS_WRONG: &[Step] = &[
         &[Part::Without("chain", 2), Part::Text("\u{7}\u{0}")],
     ),
     Step::Ends("verify public0 spoilt 1", 7, "refused 21 127\n"),
+    Step::Ends("history public0 spoilt", 7, "refused 21 127\n"),
     // the entry before it in its place, which the same key signed
     Step::Writes(
         "spoilt",
@@ -226,6 +227,7 @@ const ITS_END_IS_WRONG: &[Step] = &[
         ],
     ),
     Step::Ends("verify public0 spoilt 1", 7, "refused 22 127\n"),
+    Step::Ends("history public0 spoilt", 7, "refused 22 127\n"),
     Step::Ends("verify public0 chain 2", 7, "refused 24\n"),
     // a byte of its message
     Step::Writes(
@@ -237,6 +239,7 @@ const ITS_END_IS_WRONG: &[Step] = &[
         ],
     ),
     Step::Ends("verify public0 spoilt 1", 7, "refused 25\n"),
+    Step::Ends("history public0 spoilt", 7, "refused 25\n"),
     // the statement that was signed before it
     Step::Writes(
         "spoilt",
@@ -246,6 +249,7 @@ const ITS_END_IS_WRONG: &[Step] = &[
         ],
     ),
     Step::Ends("verify public0 spoilt 1", 7, "refused 26\n"),
+    Step::Ends("history public0 spoilt", 7, "refused 26\n"),
 ];
 
 /// A new key in the last place, which is left for an entry that names a next device key.
@@ -422,6 +426,7 @@ const ITS_END_IS_FORGED: &[Step] = &[
         ],
     ),
     Step::Ends("verify public0 spoilt 1", 7, "refused 23 127\n"),
+    Step::Ends("history public0 spoilt", 7, "refused 23 127\n"),
     Step::Gives(Given {
         name: "forged",
         content: Content::Hex(AN_END),
@@ -440,6 +445,7 @@ const ITS_END_IS_FORGED: &[Step] = &[
         ],
     ),
     Step::Ends("verify public0 spoilt 1", 7, "refused 27\n"),
+    Step::Ends("history public0 spoilt", 7, "refused 27\n"),
 ];
 
 /// A script of the most lines is served, and each line is its own reply. With one line more it is refused.

@@ -121,6 +121,55 @@ const DEVICES_ARE_SHORT: &[ShortFile] = &[
         offsets: &[0, 31],
     },
     ShortFile {
+        words: "rehearse image events draw",
+        name: "image",
+        status: 3,
+        told: Told::Line("input image length\n"),
+        offsets: IMAGE,
+    },
+    ShortFile {
+        words: "rehearse image every draw",
+        name: "every",
+        status: 3,
+        told: Told::Line("input script line 6\n"),
+        offsets: &[53, 55, 60, 62, 67],
+    },
+    ShortFile {
+        words: "rehearse image events draw",
+        name: "draw",
+        status: 3,
+        told: Told::Line("input noise length\n"),
+        offsets: &[0, 31],
+    },
+    ShortFile {
+        words: "showimage image",
+        name: "image",
+        status: 3,
+        told: Told::Line("input image length\n"),
+        offsets: IMAGE,
+    },
+    ShortFile {
+        words: "history public0 chain",
+        name: "public0",
+        status: 3,
+        told: Told::Offset("input root at"),
+        offsets: PUBLIC,
+    },
+    ShortFile {
+        words: "history public0 chain",
+        name: "chain",
+        status: 7,
+        told: Told::Offset("refused 20"),
+        offsets: CHAIN_FIELDS,
+    },
+    ShortFile {
+        words: "history public0 attached",
+        name: "attached",
+        status: 7,
+        told: Told::Offset("refused 20"),
+        offsets: STATEMENT,
+    },
+    ShortFile {
         words: "cutat image events draw 1 00",
         name: "image",
         status: 3,
@@ -468,8 +517,8 @@ const ENDORSEMENT: &[usize] = &[
     4_596, 4_755,
 ];
 
-/// Inputs of the commands on makers' keys, policies and the code of applications end early. Those of `fleet` stand
-/// beside its registers.
+/// Inputs of the commands on makers' keys, policies, the code of applications and single chains end early. Those of
+/// `fleet` and of `devices` stand beside their registers.
 const TOOLS_ARE_SHORT: &[ShortFile] = &[
     ShortFile {
         words: "hsskeygen noise0 1 out out",
@@ -519,6 +568,27 @@ const TOOLS_ARE_SHORT: &[ShortFile] = &[
         status: 7,
         told: Told::Line("refused 28\n"),
         offsets: ENDORSEMENT,
+    },
+    ShortFile {
+        words: "enrol public0 register chain",
+        name: "public0",
+        status: 3,
+        told: Told::Offset("input root at"),
+        offsets: PUBLIC,
+    },
+    ShortFile {
+        words: "enrol public0 register chain",
+        name: "register",
+        status: 3,
+        told: Told::Offset("input register at"),
+        offsets: &[0, 4],
+    },
+    ShortFile {
+        words: "enrol public0 register chain",
+        name: "chain",
+        status: 7,
+        told: Told::Offset("refused 20"),
+        offsets: CHAIN_FIELDS,
     },
     ShortFile {
         words: "trust public0 chain 1 policy",

@@ -7,6 +7,7 @@ use super::calls::{After, Call, stopped};
 use super::images::{BORN, ENTRY, Left, NEW_KEY, RENEWAL, SUCCESSION, device_of};
 use super::states::{Device, is_same};
 use hex::FromHex;
+use mb_image::has_pending_work;
 use mb_model::State;
 use sha2::{Digest, Sha256};
 use std::alloc::Global;
@@ -122,6 +123,7 @@ fn expect_writes(
 fn expect(rt: &impl Abort, alloc: Global, left: &Left, writes: u32) -> Result<(), Fail> {
     let device = device_of(alloc, left, None)?;
     expect_state(rt, &device.state, left)?;
+    assert_eq!(rt; has_pending_work(&device.image), writes > 0);
     for fill in FILLS {
         expect_writes(rt, alloc, &device, *fill, writes)?;
     }

@@ -1,4 +1,4 @@
-use Rattle.std.proofs.Common.{map, string_bytes, [], refl, ◌∙◌, subst}
+use Rattle.std.proofs.Common.{map, string_bytes, refl, ◌∙◌, subst}
 use Rattle.mb_model.specs.outside.Board.{not_used}
 use Rattle.mb_model_commands.specs.Commands.{PrintEnds, at_first}
 use Rattle.mb_console.specs.Ending.{ended_at}
