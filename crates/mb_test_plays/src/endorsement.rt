@@ -1,11 +1,12 @@
 //! An endorsement of two levels that another program made, with keys of other types than a maker's.
 
 /// An HSS key whose first level has types 5 and 4.
-pub const KEY: &str =
-    "00000002000000050000000491337be38a0c5687183c339617a597704864425de45a979236f43d368986c09701f63fcf5b6b6551cd6d63f06fcc6ee6";
+pub const FOREIGN_KEY: &str = "\
+    00000002000000050000000491337be38a0c5687183c339617a597704864425de45a979236f43d368986c09701f63fcf5b6b6551cd6d63f0\
+    6fcc6ee6";
 
 /// The endorsement of the root under the key. The key of its last level has types 6 and 4.
-pub const ENDORSEMENT: &str = "\
+pub const FOREIGN_ENDORSEMENT: &str = "\
     000000010000000d000000041d63809e0864750cf0f50bbbed61da527c60a3fd734ec3fc3ff100780ff06c240bffcb3d1483f71393544b46\
     94ad93f9deb8f7f1287c422978d04c7e9634ef7e0c958885490547422c94172409463e2ef2561f3cda58e9ea6aa6d30762f0078f9ebc5c0b\
     7732ab73fcf5cbceed2dba25e63170c062fc87c2b585dd41afdb71db20310e05891731ba3fa57f059eea98b6611206a8ce6d357e68d53469\
