@@ -74,7 +74,7 @@ pub bound_orders_pass_once : (state : State) (order : Order) (draw : List ℕ) (
     → Passes (view_of (state_after_order state order draw)) order → ⊥
 bound_orders_pass_once state order draw n passes within again =
     let now : n ≡ length state.log = All-contains (TargetHoldsIn (view_of state)) order.targets (Length n) (passed passes).targets within in
-    let later : n ≡ length (state_after_order state order draw).log = All-contains (TargetHoldsIn (view_of (state_after_order state order draw))) order.targets (Length n) again.targets within in
+    let later : n ≡ length (state_after_order state order draw).log = All-contains (TargetHoldsIn (view_of (state_after_order state order draw))) order.targets (Length n) (passed again).targets within in
     let longer : length state.log < length (state_after_order state order draw).log = ordered_longer state order draw in
     omega (arith, now, later, longer)
 

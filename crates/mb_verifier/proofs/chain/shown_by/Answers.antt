@@ -16,18 +16,18 @@ hash_entries-requires-clause-short c = rw c.as_slice-log.ensures (entries_few c.
 
 pub unreachable-requires : goal.unreachable-requires
 unreachable-requires c =
-    some_serial c.args.root.now c.as_slice-log.result.now (rw c.as_slice-log.ensures (some_entries c.args.chain.now c.requires)) c.in_ok-hash_entries.ensures.good (sym c.serial_of.ensures ∙ c.in_default.is)
+    some_serial c.args.root.now c.as_slice-log.result.now (rw c.as_slice-log.ensures (some_entries c.args.chain.now c.requires)) c.in_ok-hashed.ensures.good (sym c.serial_of.ensures ∙ c.in_default.is)
 
-pub returns-in_err-hash_entries-clause-refused : goal.returns-in_err-hash_entries-clause-refused
-returns-in_err-hash_entries-clause-refused c = λ bytes spelled.
+pub returns-in_err-hashed-clause-refused : goal.returns-in_err-hashed-clause-refused
+returns-in_err-hashed-clause-refused c = λ bytes spelled.
     let maker = c.args.root.now in
     let p = err_from_is_err_and c.from_residual.result c.from_residual.ensures.1 in
-    rw (p.1, p.2) (if_some_weaker _ (IsEntriesRefused maker bytes) (chain_refusal_of c.in_err-hash_entries.field-0.0)
+    rw (p.1, p.2) (if_some_weaker _ (IsEntriesRefused maker bytes) (chain_refusal_of c.in_err-hashed.field-0.0)
     (λ why has. entries_refuse maker bytes c.args.chain.now spelled why (subst (λ (log : List SignedEntry). HasBadEntry maker log why) c.as_slice-log.ensures has))
-    c.in_err-hash_entries.ensures.refused)
+    c.in_err-hashed.ensures.refused)
 
 pub returns-clause-shown : goal.returns-clause-shown
 returns-clause-shown c = λ bytes spelled.
-    let says = c.in_ok-hash_entries.ensures in
-    entries_show c.args.root.now bytes c.args.chain.now c.as_slice-log.result.now c.in-Some.serial c.in_ok-hash_entries.hashed.figures c.in_ok-hash_entries.hashed.hashes spelled c.as_slice-log.ensures
+    let says = c.in_ok-hashed.ensures in
+    entries_show c.args.root.now bytes c.args.chain.now c.as_slice-log.result.now c.in-Some.serial c.in_ok-hashed.hashed.figures c.in_ok-hashed.hashed.hashes spelled c.as_slice-log.ensures
     says.good (sym c.serial_of.ensures ∙ c.in-Some.is) says.figures says.hashes

@@ -16,7 +16,7 @@ returns-in_err-check-clause-refused c =
     let maker = c.args.maker.now in
     let log = c.args.log.now in
     let i = c.loop-signed.signed-index in
-    let p = err_from_is_err_and c.from_residual.result c.from_residual.ensures.1 in
+    let p = err_from_is_err_and c.from_residual-in_err-check.result c.from_residual-in_err-check.ensures.1 in
     rw (p.1, p.2) (if_some_weaker _ (HasBadEntry maker log) (chain_refusal_of c.in_err-check.field-0.0)
     (λ why bad. bad_entry maker log i _ c.loop-signed.figures why c.loop-signed-test.true c.loop-signed.invariant.figures c.loop-signed.invariant.good bad)
     c.in_err-check.ensures.refused)
@@ -32,5 +32,5 @@ loop-signed-preserved c =
       figures = figures_go_on log i _ c.loop-signed.figures c.add_entry.new.figures within c.requires.short c.loop-signed.invariant.figures c.add_entry.ensures;
       hashes =
           hashes_go_on log i _ c.loop-signed.hashes c.push.new.self c.hash_of.result within c.loop-signed.invariant.hashes c.in_ok-push.ensures.ok
-          (c.hash_of.ensures ∙ ap sha256 (c.as_slice-2.ensures ∙ c.in_ok-spelling.ensures));
+          (c.hash_of.ensures ∙ ap sha256 (c.as_slice-in-loop-signed.ensures ∙ c.in_ok-spelling.ensures));
     }
