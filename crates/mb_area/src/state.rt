@@ -2,10 +2,10 @@
 
 ghost use Rattle.std.proofs.Common.{rules};
 
-use mb_ratchet::{Off, One, Place, R1, Reaches, Register, Up};
+use mb_ratchet::{Compartment, Off, One, R1, Reaches, Register, Up};
 
-/// A device at level 1 whose root record says that work is pending. It reaches every place, and cannot be dropped: the
-/// work has to be done first.
+/// A device at level 1 whose root record says that work is pending. It reaches every compartment, and cannot be
+/// dropped: the work has to be done first.
 pub struct Unsettled {
     pub(crate) up: Up<R1>,
 }
@@ -16,7 +16,7 @@ pub struct Unwiped {
     pub(crate) up: Up<R1>,
 }
 
-impl<L: Place> Reaches<L> for Unsettled {
+impl<L: Compartment> Reaches<L> for Unsettled {
     ghost stage = { 1 };
 
     ghost raised = { Prim.search rules };

@@ -7,7 +7,7 @@ ghost use Rattle.mb_bytes.specs.Reads.{ReadsWhole};
 ghost use Rattle.mb_bytes.specs.Puts.{Writes};
 ghost use Rattle.mb_bytes.specs.Ends.{end_at};
 ghost use Rattle.mb_fleet.specs.Ends.{fleet_end_of, AnswersChain, AnswersRow};
-ghost use Rattle.mb_fleet.specs.Places.{HasFewEntries, IsHeld, IsFree};
+ghost use Rattle.mb_fleet.specs.Lookups.{HasFewEntries, IsHeld, IsFree};
 ghost use Rattle.mb_fleet.specs.Questions.{serials_with, AreCounts};
 ghost use Rattle.mb_fleet.specs.RegisterFormat.{register_format};
 ghost use Rattle.mb_fleet.specs.Rows.{serial_of_row};
@@ -16,7 +16,7 @@ use crate::comparison::{Comparison, compare};
 use crate::end::{Added, FleetEnd, FleetReadEnd};
 use crate::indexes::CodeIndexes;
 use crate::limits::DEVICE_LIMIT;
-use crate::place::{Place, place_of_serial};
+use crate::lookup::{Lookup, look_up_serial};
 use crate::question::{Counts, Serials};
 use crate::register::{put_register, register_at};
 use crate::row::{CodeHashes, Row, row_of};
@@ -37,7 +37,7 @@ pub struct Fleet {
 impl Model for Fleet {
     ghost use Rattle.std.specs.Prelude.{List};
     ghost use Rattle.mb_fleet.specs.declared.row.Row.{Row};
-    ghost use Rattle.mb_fleet.specs.Places.{FitsRegister};
+    ghost use Rattle.mb_fleet.specs.Lookups.{FitsRegister};
     ghost use Rattle.mb_fleet.specs.Indexes.{AreIndexesOf};
 
     ghost Value = { List Row };
@@ -120,9 +120,9 @@ impl Fleet {
         requires { HasFewEntries row }
         ensures { AnswersRow self.old row result self.new }
     {
-        match place_of_serial(self.rows.as_slice(), &row.serial) {
-            Place::Held(at) => self.meet_old(alloc, at, row),
-            Place::Free(at) => self.take_new(alloc, at, row),
+        match look_up_serial(self.rows.as_slice(), &row.serial) {
+            Lookup::Held(at) => self.meet_old(alloc, at, row),
+            Lookup::Free(at) => self.take_new(alloc, at, row),
         }
     }
 

@@ -3,7 +3,7 @@
 ghost use Rattle.std.specs.Prelude.{◌≡◌, ℕ, List};
 ghost use Rattle.mb_model.specs.declared.key.PublicKey.{PublicKey};
 ghost use Rattle.mb_verifier.specs.Entries.{ChainShows};
-ghost use Rattle.mb_fleet.specs.Places.{HasFewEntries};
+ghost use Rattle.mb_fleet.specs.Lookups.{HasFewEntries};
 ghost use Rattle.mb_fleet.specs.Rows.{hash_of_code, code_hashes};
 ghost use Rattle.mb_fleet.specs.Showing.{IsShown};
 

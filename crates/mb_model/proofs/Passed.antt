@@ -13,14 +13,18 @@ pub record Passed (view : View) (order : Order) : Type 0 where
   pub keys : RegionHasRoom view order.layer order.act
 
 pub passed : {view : View} {order : Order} → Passes view order → Passed view order
-passed {view} {order} passes = record {
-  targets = passes.each.0;
-  condition = passes.each.1.0;
-  signature = passes.each.1.1.0;
-  countersignatures = passes.each.1.1.1.0;
-  log = passes.each.1.1.1.1.0;
-  keys = passes.each.1.1.1.1.1.0;
-}
+passed {view} {order} passes =
+    let (targets, (condition, (signature, (countersignatures, (log, (keys, _)))))) = passes.each in
+    record {
+      targets = targets;
+      condition = condition;
+      signature = signature;
+      countersignatures = countersignatures;
+      log = log;
+      keys = keys;
+    }
 
 pub passes_by : {view : View} {order : Order} → Passed view order → Passes view order
-passes_by {view} {order} p = record { each = (p.targets, (p.condition, (p.signature, (p.countersignatures, (p.log, (p.keys, tt)))))) }
+passes_by {view} {order} its = record {
+  each = (its.targets, (its.condition, (its.signature, (its.countersignatures, (its.log, (its.keys, tt))))));
+}

@@ -24,7 +24,8 @@ use Rattle.mb_model.specs.records.OrderFormat.{target_format, body_format, sized
 use Rattle.mb_model.specs.declared.reply.OrderRefusal.{OrderRefusal}
 use Rattle.mb_model.specs.declared.reply.OrderRefusal.TheVariants.{WrongTarget, WrongState, WrongSignature}
 use Rattle.mb_model.specs.machine.Refusals.{order_refusal_number}
-use Rattle.mb_model.specs.machine.OrderChecks.{TargetHoldsIn, MayBeGiven, IsCountersigned, LogHasRoom, RegionHasRoom, Fails, view_of}
+use Rattle.mb_model.specs.machine.OrderChecks.{TargetHoldsIn, MayBeGiven, IsSigned, IsCountersigned}
+use Rattle.mb_model.specs.machine.OrderChecks.{LogHasRoom, RegionHasRoom, Passes, Fails, view_of}
 use Rattle.mb_model.specs.machine.OrderEffects.{entry_signed_by, state_after_succession, state_after_change, state_after_new_key, state_after_order}
 use Rattle.mb_model.specs.machine.OrderStep.{spells_none, fails_check, is_obeyed}
 use Rattle.mb_model.proofs.OrderFormatLaws.{order_exact}
@@ -160,21 +161,28 @@ later signature by_owner = record {
 
 -- ---- orders that pass
 
--- without targets and countersignatures, an order passes where these four hold, and this is what it comes to
+-- without targets and countersignatures, an order passes where these four hold
+pub plain_passes : (state : State) (layer : ℕ) (does : Act) (by_owner : List ℕ)
+    → MayBeGiven (view_of state) (plain layer does by_owner) → LogHasRoom (view_of state) (plain layer does by_owner)
+    → RegionHasRoom (view_of state) layer does → IsSigned (view_of state) (plain layer does by_owner)
+    → Passes (view_of state) (plain layer does by_owner)
+plain_passes state layer does by_owner may log keys signed = passes_by (record {
+  targets = All-nil (TargetHoldsIn (view_of state));
+  condition = may;
+  signature = signed;
+  countersignatures = All-nil (IsCountersigned (view_of state) (plain layer does by_owner));
+  log = log;
+  keys = keys;
+})
+
+-- and this is what it comes to
 obeys_plain : (state : State) (layer : ℕ) (does : Act) (by_owner : List ℕ) (number size : ℕ)
     → MayBeGiven (view_of state) (plain layer does by_owner) → LogHasRoom (view_of state) (plain layer does by_owner) → RegionHasRoom (view_of state) layer does
     → ((draw : List ℕ) → number_of (entries_of (state_after_order state (plain layer does by_owner) draw).log) ≡ number)
     → ((draw : List ℕ) → length (state_after_order state (plain layer does by_owner) draw).log ≡ size)
     → ObeysOrder state (plain layer does by_owner) number size
 obeys_plain state layer does by_owner number size may log keys numbered sized = record {
-  passes = λ signed. passes_by (record {
-    targets = All-nil (TargetHoldsIn (view_of state));
-    condition = may;
-    signature = signed;
-    countersignatures = All-nil (IsCountersigned (view_of state) (plain layer does by_owner));
-    log = log;
-    keys = keys;
-  });
+  passes = plain_passes state layer does by_owner may log keys;
   done = λ text draw spelled passes. is_obeyed (record {
     order = plain layer does by_owner;
     spelled = spelled;

@@ -1,6 +1,6 @@
 -- Steps, runs and logs for which the definitions do not hold; the checker refutes each line. Is any definition true of
 -- everything that a device might do?
-use Rattle.std.specs.Prelude.{◌≡◌, ◌≢◌, ℕ, ◌<◌, List, [], ◌∷◌, ◌++◌, length, take, get_or, Option, None, Some, true}
+use Rattle.std.specs.Prelude.{◌≡◌, ◌≢◌, ℕ, ◌<◌, List, [], ◌∷◌, ◌++◌, length, take, get_or, None, Some, true}
 use Rattle.std.specs.Prelude.{false}
 use Rattle.mb_model.specs.declared.key.PublicKey.{PublicKey}
 use Rattle.mb_model.specs.declared.order.ChangeKind.TheVariants.{Load}

@@ -1,5 +1,5 @@
 -- An order fails one check at most, and none where it passes.
-use Rattle.std.proofs.Common.{◌≡◌, ℕ, List, [], ◌∷◌, inl, inr, length, refl, sym, ap, subst, ◌∙◌, arith}
+use Rattle.std.proofs.Common.{◌≡◌, ℕ, List, [], ◌∷◌, inl, inr, length, refl, sym, ap, subst, ◌∙◌, arith, rules}
 use Rattle.mb_format.specs.Format.{IsBytes, IsClearWhole}
 use Rattle.mb_format.proofs.Whole.{IsClearWhole-from_exact}
 use Rattle.mb_model.specs.declared.order.Order.{Order}
@@ -10,11 +10,8 @@ use Rattle.mb_model.specs.declared.state.View.{View}
 use Rattle.mb_model.specs.owners.Log.{entries_of, number_of}
 use Rattle.mb_model.specs.records.OrderFormat.{order_format}
 use Rattle.mb_model.specs.declared.reply.OrderRefusal.{OrderRefusal}
-use Rattle.mb_model.specs.declared.reply.OrderRefusal.TheVariants.{WrongTarget, WrongState, WrongSignature}
-use Rattle.mb_model.specs.declared.reply.OrderRefusal.TheVariants.{WrongCountersignature, LogFull, KeysFull}
 use Rattle.mb_model.specs.declared.reply.Refusal.TheVariants as refused
 use Rattle.mb_model.specs.machine.Refusals.{refusal_reply}
-use Rattle.mb_model.specs.machine.OrderChecks.{TargetHoldsIn, MayBeGiven, IsSigned, IsCountersigned, LogHasRoom, RegionHasRoom}
 use Rattle.mb_model.specs.machine.OrderChecks.{Check, one_check, each_check, checks_of, EachHolds, IsFirstRefusal, Passes, Fails, view_of}
 use Rattle.mb_model.specs.machine.OrderEffects.{state_after_order}
 use Rattle.mb_model.specs.machine.OrderStep.{OrderStep, spells_none, fails_check, is_obeyed}
@@ -71,25 +68,7 @@ hold_or_refused (check ∷ later) decided fails none =
 -- ---- the checks of an order
 
 order_decided : (view : View) (order : Order) → AreDecided (checks_of view order)
-order_decided view order = (
-  each_decided order.targets (TargetHoldsIn view) (λ index target. WrongTarget index),
-  (
-    one_decided (MayBeGiven view order) WrongState,
-    (
-      one_decided (IsSigned view order) WrongSignature,
-      (
-        each_decided order.countersignatures (IsCountersigned view order) (λ index by. WrongCountersignature by.layer),
-        (
-          one_decided (LogHasRoom view order) LogFull,
-          (
-            one_decided (RegionHasRoom view order.layer order.act) KeysFull,
-            tt,
-          ),
-        ),
-      ),
-    ),
-  ),
-)
+order_decided view order = search (rules, one_decided, each_decided) depth 20
 
 -- an order fails one check at most
 pub one_failure : (view : View) (order : Order) (a b : OrderRefusal) → Fails view order a → Fails view order b → a ≡ b

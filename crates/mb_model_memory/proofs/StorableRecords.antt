@@ -28,7 +28,6 @@ use Rattle.mb_model.specs.declared.stored.Root.{Root}
 use Rattle.mb_model.specs.owners.Rules.{admits}
 use Rattle.mb_model.specs.owners.Log.{entries_of, uses_of_device_key, keys_made_by}
 use Rattle.mb_model.specs.signatures.Signing.{public_of}
-use Rattle.mb_model.specs.records.KeyFormat.{key_seed_format}
 use Rattle.mb_model.specs.records.EntryFormat.{entry_format, signed_entry_format}
 use Rattle.mb_model.specs.records.RootFormat.{region_key_format, outgoing_format, fate_format, pending_format}
 use Rattle.mb_model.specs.records.RootFormat.{root_format}
@@ -47,6 +46,7 @@ use Rattle.mb_model.specs.memories.Clean.{root_of}
 use Rattle.mb_model.specs.memories.Valid.{IsValidState}
 use Rattle.mb_model.proofs.Passed.{passed}
 use Rattle.mb_model.proofs.FormatBounds.{root_short, public_short}
+use Rattle.mb_model.proofs.AllowedFields.{root_allowed_by}
 use Rattle.mb_model_lemmas.proofs.LogLemmas.{used-bound}
 use Rattle.mb_model_lemmas.proofs.Splits.{All-split}
 use Rattle.mb_model_lemmas.proofs.OwnEntries.{appends_own}
@@ -63,10 +63,6 @@ use Rattle.mb_model_memory.proofs.FlashWrites.{one_or_two}
 
 -- ---- the root
 
-root_allowed : (root : Root) → root.area ≤ 1 → length root.serial ≡ 16 → key_seed_format.Allowed root.device → root.uses ≤ 32 → (optional pending_format).Allowed root.pending → root_format.Allowed root
-unfolding root_format
-root_allowed root area serial device uses pending = (tt, ((omega arith, area), (serial, (device, ((omega arith, uses), pending)))))
-
 used_few : (state : State) → IsValidState state → uses_of_device_key (entries_of state.log) ≤ 31
 used_few state valid = used-bound (entries_of state.log) (valid_is_ruled state valid)
 
@@ -74,7 +70,13 @@ uses_few : (state : State) → IsValidState state → state.uses ≤ 32
 uses_few state valid = omega (arith, valid.uses, used_few state valid)
 
 pub resting_root : (state : State) (area : ℕ) → area ≤ 1 → IsValidState state → IsStorableState state → root_format.Allowed (root_of state area)
-resting_root state area small valid is = root_allowed (root_of state area) small is.serial is.device (uses_few state valid) (none_allowed pending_format)
+resting_root state area small valid is = root_allowed_by (root_of state area) (record {
+  area = small;
+  serial = is.serial;
+  device = is.device;
+  uses = uses_few state valid;
+  pending = none_allowed pending_format;
+})
 
 -- ---- the pending work
 
@@ -130,8 +132,13 @@ pub committed_root : (state : State) (order : Order) (draw : List ℕ) (area : �
 unfolding root_for
 committed_root state order draw area small valid is allowed passes =
     let after : IsStorableState (state_after_order state order draw) = obeyed_storable state order draw allowed passes is in
-    let pending = some_allowed pending_format (pending_for state order draw) (pending_allowed state order draw valid is passes) in
-    root_allowed (root_for state order draw area) small is.serial after.device (uses_few (state_after_order state order draw) (obeyed_valid state order draw valid allowed passes)) pending
+    root_allowed_by (root_for state order draw area) (record {
+      area = small;
+      serial = is.serial;
+      device = after.device;
+      uses = uses_few (state_after_order state order draw) (obeyed_valid state order draw valid allowed passes);
+      pending = some_allowed pending_format (pending_for state order draw) (pending_allowed state order draw valid is passes);
+    })
 
 pub root_room : (root : Root) → root_format.Allowed root → length (root_format.spelling root) ≤ 4094
 root_room root is = omega (arith, root_short.short root is)

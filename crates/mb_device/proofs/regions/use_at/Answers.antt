@@ -30,25 +30,25 @@ ask-requires-clause-remembered g c =
 pub returns-then-not-may_run-clause-steps : goal.returns-then-not-may_run-clause-steps
 returns-then-not-may_run-clause-steps g c = λ world sound.
     let own = g.met.S.Runs.runs c.args.s c.args.running world sound.fits in
-    let barred : is_runnable c.args.running.known.figures.layers g.L.Place.place ≡ false = subst (λ (n : ℕ). is_runnable c.args.running.known.figures.layers n ≡ false) c.number.ensures (sym c.if-not-may_run.ensures) in
+    let barred : is_runnable c.args.running.known.figures.layers g.L.Compartment.place ≡ false = subst (λ (n : ℕ). is_runnable c.args.running.known.figures.layers n ≡ false) c.number.ensures (sym c.if-not-may_run.ensures) in
     subst (λ (d : Device). Steps world c.args.event.now c.reply.result d (held_in (g.B.Board.seen c.args.b.now))) (sym c.into_device.ensures)
-    (use_refused (g.S.Runs.holder c.args.s c.args.running) g.S.Runs.level g.L.Place.place c.args.running (held_in (g.B.Board.seen c.args.b.now)) world c.args.event.now c.reply.result c.requires.event c.requires.region c.reply.ensures sound own sound.fits (inr barred))
+    (use_refused (g.S.Runs.holder c.args.s c.args.running) g.S.Runs.level g.L.Compartment.place c.args.running (held_in (g.B.Board.seen c.args.b.now)) world c.args.event.now c.reply.result c.requires.event c.requires.region c.reply.ensures sound own sound.fits (inr barred))
 
 pub returns-in-Ok-clause-steps : goal.returns-in-Ok-clause-steps
 returns-in-Ok-clause-steps g c = λ world sound.
     let own = g.met.S.Runs.runs c.args.s c.args.running world sound.fits in
     let up = is_up (g.S.Runs.holder c.args.s c.args.running) g.S.Runs.level (g.B.Board.seen c.args.b.now) world sound own.phase in
-    let used : IsUse g.S.Runs.level g.L.Place.place (g.S.Runs.holder c.args.s c.args.running) c.args.running c.args.event.now (g.B.Board.seen c.args.b.now).memory (g.B.Board.seen c.args.b.now).power (g.B.Board.seen c.args.b.now).level (g.B.Board.seen c.args.b.now).meter world = record {
+    let used : IsUse g.S.Runs.level g.L.Compartment.place (g.S.Runs.holder c.args.s c.args.running) c.args.running c.args.event.now (g.B.Board.seen c.args.b.now).memory (g.B.Board.seen c.args.b.now).power (g.B.Board.seen c.args.b.now).level (g.B.Board.seen c.args.b.now).meter world = record {
       sound = sound;
       own = own;
       layer = c.requires.event;
       named = c.requires.region;
-      here = subst (λ (n : ℕ). n ≤ g.L.Place.place) c.requires.level g.met.S.Reaches.within;
+      here = subst (λ (n : ℕ). n ≤ g.L.Compartment.place) c.requires.level g.met.S.Reaches.within;
       some = subst (λ (n : ℕ). 1 ≤ n) c.requires.level g.met.S.Reaches.raised;
       runs = subst (λ (n : ℕ). is_runnable c.args.running.known.figures.layers n ≡ true) c.number.ensures (sym c.if-not-may_run.ensures);
     } in
-    let ready = use_ready g.S.Runs.level g.L.Place.place (g.S.Runs.holder c.args.s c.args.running) c.args.running c.args.event.now (g.B.Board.seen c.args.b.now).memory (g.B.Board.seen c.args.b.now).power (g.B.Board.seen c.args.b.now).level (g.B.Board.seen c.args.b.now).meter world used in
-    use_told g.S.Runs.level g.L.Place.place (g.S.Runs.holder c.args.s c.args.running) c.args.running c.args.event.now (g.B.Board.seen c.args.b.now).memory (g.B.Board.seen c.args.b.now).power (g.B.Board.seen c.args.b.now).level (g.B.Board.seen c.args.b.now).meter world used
+    let ready = use_ready g.S.Runs.level g.L.Compartment.place (g.S.Runs.holder c.args.s c.args.running) c.args.running c.args.event.now (g.B.Board.seen c.args.b.now).memory (g.B.Board.seen c.args.b.now).power (g.B.Board.seen c.args.b.now).level (g.B.Board.seen c.args.b.now).meter world used in
+    use_told g.S.Runs.level g.L.Compartment.place (g.S.Runs.holder c.args.s c.args.running) c.args.running c.args.event.now (g.B.Board.seen c.args.b.now).memory (g.B.Board.seen c.args.b.now).power (g.B.Board.seen c.args.b.now).level (g.B.Board.seen c.args.b.now).meter world used
     c.into_device-in-Ok.result c.ask.new.running c.in-Ok.reply (g.B.Board.seen c.ask.new.b).memory (g.B.Board.seen c.ask.new.b).power (g.B.Board.seen c.ask.new.b).level (g.B.Board.seen c.ask.new.b).meter
     (c.in-Ok.ensures.told own.state ready own.knows) (c.in-Ok.ensures.ran.ran.power ∙ sym up.on) c.in-Ok.ensures.ran.ran.level c.in-Ok.ensures.ran.ran.meter.armed up.on up.at_level
     (λ w is. subst (λ (d : Device). Fits d w) (sym c.into_device-in-Ok.ensures) (g.met.S.Runs.fits c.in-Ok.s c.ask.new.running w is)) (c.in-Ok.ensures.known own.state ready own.knows)
@@ -57,17 +57,17 @@ pub returns-in-Err-clause-steps : goal.returns-in-Err-clause-steps
 returns-in-Err-clause-steps g c = λ world sound.
     let own = g.met.S.Runs.runs c.args.s c.args.running world sound.fits in
     let up = is_up (g.S.Runs.holder c.args.s c.args.running) g.S.Runs.level (g.B.Board.seen c.args.b.now) world sound own.phase in
-    let used : IsUse g.S.Runs.level g.L.Place.place (g.S.Runs.holder c.args.s c.args.running) c.args.running c.args.event.now (g.B.Board.seen c.args.b.now).memory (g.B.Board.seen c.args.b.now).power (g.B.Board.seen c.args.b.now).level (g.B.Board.seen c.args.b.now).meter world = record {
+    let used : IsUse g.S.Runs.level g.L.Compartment.place (g.S.Runs.holder c.args.s c.args.running) c.args.running c.args.event.now (g.B.Board.seen c.args.b.now).memory (g.B.Board.seen c.args.b.now).power (g.B.Board.seen c.args.b.now).level (g.B.Board.seen c.args.b.now).meter world = record {
       sound = sound;
       own = own;
       layer = c.requires.event;
       named = c.requires.region;
-      here = subst (λ (n : ℕ). n ≤ g.L.Place.place) c.requires.level g.met.S.Reaches.within;
+      here = subst (λ (n : ℕ). n ≤ g.L.Compartment.place) c.requires.level g.met.S.Reaches.within;
       some = subst (λ (n : ℕ). 1 ≤ n) c.requires.level g.met.S.Reaches.raised;
       runs = subst (λ (n : ℕ). is_runnable c.args.running.known.figures.layers n ≡ true) c.number.ensures (sym c.if-not-may_run.ensures);
     } in
-    let ready = use_ready g.S.Runs.level g.L.Place.place (g.S.Runs.holder c.args.s c.args.running) c.args.running c.args.event.now (g.B.Board.seen c.args.b.now).memory (g.B.Board.seen c.args.b.now).power (g.B.Board.seen c.args.b.now).level (g.B.Board.seen c.args.b.now).meter world used in
-    use_cut g.S.Runs.level g.L.Place.place (g.S.Runs.holder c.args.s c.args.running) c.args.running c.args.event.now (g.B.Board.seen c.args.b.now).memory (g.B.Board.seen c.args.b.now).power (g.B.Board.seen c.args.b.now).level (g.B.Board.seen c.args.b.now).meter world used
+    let ready = use_ready g.S.Runs.level g.L.Compartment.place (g.S.Runs.holder c.args.s c.args.running) c.args.running c.args.event.now (g.B.Board.seen c.args.b.now).memory (g.B.Board.seen c.args.b.now).power (g.B.Board.seen c.args.b.now).level (g.B.Board.seen c.args.b.now).meter world used in
+    use_cut g.S.Runs.level g.L.Compartment.place (g.S.Runs.holder c.args.s c.args.running) c.args.running c.args.event.now (g.B.Board.seen c.args.b.now).memory (g.B.Board.seen c.args.b.now).power (g.B.Board.seen c.args.b.now).level (g.B.Board.seen c.args.b.now).meter world used
     c.in-Err.off (g.B.Board.seen c.ask.new.b).memory (g.B.Board.seen c.ask.new.b).power (g.B.Board.seen c.ask.new.b).level (g.B.Board.seen c.ask.new.b).meter (c.in-Err.ensures.told own.state ready own.knows) c.in-Err.ensures.ran.ran.power c.in-Err.ensures.ran.ran.meter.armed c.in-Err.ensures.ran.ran.meter.cut
 
 pub returns-in-Ok-clause-events : goal.returns-in-Ok-clause-events
@@ -78,7 +78,7 @@ returns-in-Ok-clause-events g c =
       ledger = c.in-Ok.ensures.ran.ran.ledger;
       meter =
           metered_by 3 (c.in-Ok.s, c.in-Ok.reply) c.in-Ok.reply (g.B.Board.seen c.args.b.now).meter (g.B.Board.seen c.ask.new.b).meter
-          (answer_goes_on g.L.Place.place c.args.event.now knows.state c.in-Ok.reply (g.B.Board.seen c.args.b.now).memory (g.B.Board.seen c.ask.new.b).memory c.requires.event (c.in-Ok.ensures.told knows.state knows.ready knows.knows))
+          (answer_goes_on g.L.Compartment.place c.args.event.now knows.state c.in-Ok.reply (g.B.Board.seen c.args.b.now).memory (g.B.Board.seen c.ask.new.b).memory c.requires.event (c.in-Ok.ensures.told knows.state knows.ready knows.knows))
           c.in-Ok.ensures.ran.ran.meter;
     }
 
@@ -89,7 +89,7 @@ returns-then-not-may_run-clause-trees g c =
 
 pub returns-in-Ok-clause-trees : goal.returns-in-Ok-clause-trees
 returns-in-Ok-clause-trees g c =
-    trees_held g.L.Place.place c.args.event.now c.in-Ok.reply (g.S.Runs.holder c.args.s c.args.running) c.into_device-in-Ok.result (Some c.args.running.known.trees.value) (Some c.ask.new.running.known.trees.value)
+    trees_held g.L.Compartment.place c.args.event.now c.in-Ok.reply (g.S.Runs.holder c.args.s c.args.running) c.into_device-in-Ok.result (Some c.args.running.known.trees.value) (Some c.ask.new.running.known.trees.value)
     c.requires.region (g.met.S.Runs.trees c.args.s c.args.running) (ap trees_of c.into_device-in-Ok.ensures ∙ g.met.S.Runs.trees c.in-Ok.s c.ask.new.running) c.in-Ok.ensures.trees
 
 pub returns-in-Err-clause-trees : goal.returns-in-Err-clause-trees
@@ -97,8 +97,8 @@ returns-in-Err-clause-trees g c = trees_go (region_named c.args.event.now) c.arg
 
 pub returns-in-Ok-clause-again : goal.returns-in-Ok-clause-again
 returns-in-Ok-clause-again g c = λ own.
-    c.ask.ensures.again (tree_to_sign g.L.Place.place c.args.event.now (g.S.Runs.holder c.args.s c.args.running) (Some c.args.running.known.trees.value) c.requires.region (g.met.S.Runs.trees c.args.s c.args.running) own)
+    c.ask.ensures.again (tree_to_sign g.L.Compartment.place c.args.event.now (g.S.Runs.holder c.args.s c.args.running) (Some c.args.running.known.trees.value) c.requires.region (g.met.S.Runs.trees c.args.s c.args.running) own)
 
 pub returns-in-Err-clause-again : goal.returns-in-Err-clause-again
 returns-in-Err-clause-again g c = λ own.
-    c.ask.ensures.again (tree_to_sign g.L.Place.place c.args.event.now (g.S.Runs.holder c.args.s c.args.running) (Some c.args.running.known.trees.value) c.requires.region (g.met.S.Runs.trees c.args.s c.args.running) own)
+    c.ask.ensures.again (tree_to_sign g.L.Compartment.place c.args.event.now (g.S.Runs.holder c.args.s c.args.running) (Some c.args.running.known.trees.value) c.requires.region (g.met.S.Runs.trees c.args.s c.args.running) own)

@@ -16,5 +16,5 @@ pub returns-in_err-put_in-clause-put : goal.returns-in_err-put_in-clause-put
 returns-in_err-put_in-clause-put g c = λ state ready. (
     let p = err_from_is_err_and c.from_residual-in_err-put_in.result c.from_residual-in_err-put_in.ensures.1 in
     let read : Secret = secret_of c.in_ok-copy.field-0 c.in_ok-copy-2.field-0 c.args.number in
-    rw (p.1, p.2) (full_for c.in_err-put_in.field-0.0 c.in_ok-region.region (region_of state g.L.Place.place) c.put_in.new.region read (secret_of c.args.name.now c.args.value.now c.args.number)
+    rw (p.1, p.2) (full_for c.in_err-put_in.field-0.0 c.in_ok-region.region (region_of state g.L.Compartment.place) c.put_in.new.region read (secret_of c.args.name.now c.args.value.now c.args.number)
     (c.in_ok-region.ensures.region state ready) (secret_copied c.args.number c.in_ok-copy.ensures c.as_slice.ensures c.in_ok-copy-2.ensures c.as_slice-2.ensures) c.in_err-put_in.ensures))

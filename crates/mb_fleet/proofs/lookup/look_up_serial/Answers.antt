@@ -1,7 +1,7 @@
 use Rattle.std.proofs.Common.{sym, ◌∙◌}
 use Rattle.mb_fleet.specs.Rows.{serial_of_row}
 use Rattle.mb_fleet.proofs.Standing.{past_more, held_here, free_here, free_at_end}
-use Rattle.mb_fleet.proofs.place.place_of_serial.Goals as goal
+use Rattle.mb_fleet.proofs.lookup.look_up_serial.Goals as goal
 
 pub returns-in-Equal : goal.returns-in-Equal
 returns-in-Equal c = held_here serial_of_row c.args.rows.now c.args.serial.now c.loop-index.index c.index-rows-index.result c.loop-index-test.true (sym c.cmp.ensures ∙ c.in-Equal.is)

@@ -3,8 +3,8 @@ use Rattle.std.specs.Prelude.{◌≡◌, ℕ, ◌≤◌, List, ◌∷◌, ◌++�
 use Rattle.std.specs.List.{AllByRecursion}
 use Rattle.mb_model.specs.declared.limits.TheConstants.{ENTRY_LIMIT}
 use Rattle.mb_fleet.specs.declared.limits.TheConstants.{DEVICE_LIMIT}
-use Rattle.mb_fleet.specs.declared.place.Place.{Place}
-use Rattle.mb_fleet.specs.declared.place.Place.TheVariants.{Held, Free}
+use Rattle.mb_fleet.specs.declared.lookup.Lookup.{Lookup}
+use Rattle.mb_fleet.specs.declared.lookup.Lookup.TheVariants.{Held, Free}
 use Rattle.mb_fleet.specs.declared.row.Row.{Row}
 use Rattle.mb_fleet.specs.declared.comparison.Comparison.{Comparison}
 use Rattle.mb_fleet.specs.declared.comparison.Comparison.TheVariants as found
@@ -31,9 +31,10 @@ module _ {A : Type 0} (key : A → List ℕ) where
     pub below : AllByRecursion (λ x. IsBefore (key x) wanted) before
     pub above : AllByRecursion (λ x. IsBefore wanted (key x)) later
 
-  abbrev pub StandsAt : List A → List ℕ → Place → Type 0
-  StandsAt xs wanted (Held index) = IsHeld xs wanted index
-  StandsAt xs wanted (Free index) = IsFree xs wanted index
+  -- what a lookup of this key finds
+  abbrev pub LooksUp : List A → List ℕ → Lookup → Type 0
+  LooksUp xs wanted (Held index) = IsHeld xs wanted index
+  LooksUp xs wanted (Free index) = IsFree xs wanted index
 
 -- how two lists of hashes compare; the first was shown before the second
 abbrev pub Compares : List (List ℕ) → List (List ℕ) → Comparison → Type 0
