@@ -11,8 +11,8 @@ ghost use Rattle.mb_bytes.specs.Ends.{end_at};
 ghost use Rattle.mb_bytes.specs.Example.{example, values};
 
 use crate::{
-    Cursor, Field, ReadEnd, WriteField, items_at, put_items, put_slice, put_u8, put_u32, read_field,
-    read_whole, write_field,
+    Cursor, Field, ReadEnd, WriteField, items_at, put_items, put_slice, put_u8, put_u32,
+    read_field, read_whole, write_field,
 };
 use mb_model::{Items, NoMemory};
 use std::alloc::Global;

@@ -12,7 +12,7 @@ ghost use Rattle.mb_command.specs.Writing.{HasShortSignature};
 
 use crate::body::SignedPart;
 use crate::end::OrderEnd;
-use crate::kind::{kind_of, countersignature_limit};
+use crate::kind::{countersignature_limit, kind_of};
 use mb_bytes::{Cursor, bytes_after_u16, put_after_u16, put_u8, u8_between};
 use mb_model::{Bytes, Countersignature, Countersignatures, Items, NoMemory, SIGNATURE_LIMIT};
 use std::alloc::Global;

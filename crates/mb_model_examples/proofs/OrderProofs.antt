@@ -99,36 +99,63 @@ refusals signature = record {
 pub later : (signature by_owner : List ℕ) → LaterRefusals signature by_owner
 unfolding number_of uses_of_device_key
 later signature by_owner = record {
-  countersignature = λ signed. inr (All-nil (TargetHoldsIn (view_of (alive signature))), inr (refl, inr (signed, inl (
-    0,
-    empty_by 2,
-    refl,
-    record {
-      before = [];
-      rest = empty_by 3 ∷ [];
-      split = refl;
-      index = refl;
-      hold = All-nil (IsCountersigned (view_of (alive signature)) (load_of 1 by_owner));
-      fails = λ h. nobodys 2 _ h;
-    },
-  ))));
-  second_countersignature = λ by layer signed given. inr (All-nil (TargetHoldsIn (view_of (alive signature))), inr (refl, inr (signed, inl (
-    1,
-    empty_by 3,
-    refl,
-    record {
-      before = by ∷ [];
-      rest = [];
-      split = refl;
-      index = refl;
-      hold = All-cons (IsCountersigned (view_of (alive signature)) (load_of 1 by_owner)) by [] given (All-nil (IsCountersigned (view_of (alive signature)) (load_of 1 by_owner)));
-      fails = λ h. nobodys 3 _ h;
-    },
-  ))));
-  keys = λ signed. inr (All-nil (TargetHoldsIn (view_of (with_eight_keys signature))), inr (refl, inr (signed, inr (
-    All-nil (IsCountersigned (view_of (with_eight_keys signature)) (key_for_three by_owner)),
-    inr (lit≤ tt, inl (refl, λ h. omega (arith, h))),
-  ))));
+  countersignature = λ signed. inr (
+    All-nil (TargetHoldsIn (view_of (alive signature))),
+    inr (
+      refl,
+      inr (
+        signed,
+        inl (
+          0,
+          empty_by 2,
+          refl,
+          record {
+            before = [];
+            rest = empty_by 3 ∷ [];
+            split = refl;
+            index = refl;
+            hold = All-nil (IsCountersigned (view_of (alive signature)) (load_of 1 by_owner));
+            fails = λ h. nobodys 2 _ h;
+          },
+        ),
+      ),
+    ),
+  );
+  second_countersignature = λ by layer signed given. inr (
+    All-nil (TargetHoldsIn (view_of (alive signature))),
+    inr (
+      refl,
+      inr (
+        signed,
+        inl (
+          1,
+          empty_by 3,
+          refl,
+          record {
+            before = by ∷ [];
+            rest = [];
+            split = refl;
+            index = refl;
+            hold = All-cons (IsCountersigned (view_of (alive signature)) (load_of 1 by_owner)) by [] given (All-nil (IsCountersigned (view_of (alive signature)) (load_of 1 by_owner)));
+            fails = λ h. nobodys 3 _ h;
+          },
+        ),
+      ),
+    ),
+  );
+  keys = λ signed. inr (
+    All-nil (TargetHoldsIn (view_of (with_eight_keys signature))),
+    inr (
+      refl,
+      inr (
+        signed,
+        inr (
+          All-nil (IsCountersigned (view_of (with_eight_keys signature)) (key_for_three by_owner)),
+          inr (lit≤ tt, inl (refl, λ h. omega (arith, h))),
+        ),
+      ),
+    ),
+  );
 }
 
 -- ---- orders that pass
@@ -190,9 +217,18 @@ successions signature by_owner = record {
   done_two = obeys_plain (grown key_nearly_used signature) 2 (act.Load (seven Always (codes "abc"))) by_owner 32 34 refl (lit≤ tt) tt (λ draw. refl) (λ draw. refl);
   done_one = obeys_plain (grown key_nearly_used signature) 1 (act.Load (seven Always (codes "abc"))) by_owner 32 33 refl (lit≤ tt) tt (λ draw. refl) (λ draw. refl);
   size = refl;
-  no_room = λ signed. inr (All-nil (TargetHoldsIn (view_of (grown nearly_full signature))), inr (refl, inr (signed, inr (
-    All-nil (IsCountersigned (view_of (grown nearly_full signature)) (load_of 2 by_owner)),
-    inl (refl, λ h. omega (arith, h)),
-  ))));
+  no_room = λ signed. inr (
+    All-nil (TargetHoldsIn (view_of (grown nearly_full signature))),
+    inr (
+      refl,
+      inr (
+        signed,
+        inr (
+          All-nil (IsCountersigned (view_of (grown nearly_full signature)) (load_of 2 by_owner)),
+          inl (refl, λ h. omega (arith, h)),
+        ),
+      ),
+    ),
+  );
   room = obeys_plain (grown nearly_full signature) 1 (act.Load (seven Always (codes "abc"))) by_owner 127 128 refl (lit≤ tt) tt (λ draw. refl) (λ draw. refl);
 }

@@ -73,12 +73,22 @@ hold_or_refused (check ∷ later) decided fails none =
 order_decided : (view : View) (order : Order) → AreDecided (checks_of view order)
 order_decided view order = (
   each_decided order.targets (TargetHoldsIn view) (λ index target. WrongTarget index),
-  (one_decided (MayBeGiven view order) WrongState,
-  (one_decided (IsSigned view order) WrongSignature,
-  (each_decided order.countersignatures (IsCountersigned view order) (λ index by. WrongCountersignature by.layer),
-  (one_decided (LogHasRoom view order) LogFull,
-  (one_decided (RegionHasRoom view order.layer order.act) KeysFull,
-  tt))))),
+  (
+    one_decided (MayBeGiven view order) WrongState,
+    (
+      one_decided (IsSigned view order) WrongSignature,
+      (
+        each_decided order.countersignatures (IsCountersigned view order) (λ index by. WrongCountersignature by.layer),
+        (
+          one_decided (LogHasRoom view order) LogFull,
+          (
+            one_decided (RegionHasRoom view order.layer order.act) KeysFull,
+            tt,
+          ),
+        ),
+      ),
+    ),
+  ),
 )
 
 -- an order fails one check at most

@@ -116,12 +116,7 @@ fn check(
 }
 
 /// Whether the key in charge after a log with these figures signed the next entry, whose spelling is given.
-fn is_certified(
-    maker: &PublicKey,
-    figures: &Figures,
-    signed: &SignedEntry,
-    spelling: &[u8],
-) -> bool
+fn is_certified(maker: &PublicKey, figures: &Figures, signed: &SignedEntry, spelling: &[u8]) -> bool
     requires { spelling.now ≡ entry_format.spelling signed.now.entry }
     ensures { IsTrue result ↔ IsCertified maker.now figures.now signed.now }
 {

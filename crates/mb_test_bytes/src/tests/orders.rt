@@ -3,7 +3,7 @@
 ghost use Rattle.mb_model.specs.records.OrderFormat.{order_format};
 
 use super::spelled::joined;
-use mb_command::{body_length, read_order, order_body, write_order};
+use mb_command::{body_length, order_body, read_order, write_order};
 use mb_model::{Act, NoMemory, Order, Target, Trust, Trusts};
 use std::alloc::Global;
 use std::process::Abort;

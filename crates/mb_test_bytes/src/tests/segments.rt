@@ -7,8 +7,8 @@ use super::spelled::joined;
 use hex::FromHex;
 use mb_model::{SECTOR_LENGTH, SIGNATURE_LENGTH};
 use mb_segments::{
-    Header, ReadEnd, Slot, StoredHeader, code_sector, header_at, header_sector, log_at,
-    log_sector, put_log, read_header, write_header,
+    Header, ReadEnd, Slot, StoredHeader, code_sector, header_at, header_sector, log_at, log_sector,
+    put_log, read_header, write_header,
 };
 use sha2::{Digest, Sha256};
 use std::alloc::Global;
