@@ -18,7 +18,6 @@ use std::sync::ledger::Ledger;
 /// record current, which is when the order counts; and completes the order's pending work, with the trees on the bench.
 /// If power fails, the memory means the state before the order or the state after it. No signed entry of the log is
 /// written to. There are at most 35 write calls and 70,946 hashes. Takes no memory.
-#[tactic(auto, using(crate::proofs::Committed::header_there, crate::proofs::Committed::plan_is, crate::proofs::Committed::root_allowed))]
 pub fn commit<B: Board, L: Ledger>(
     up: Up<R1>,
     b: &mut B,

@@ -8,7 +8,7 @@ ghost use Rattle.mb_model.specs.machine.OrderChecks.{view_of};
 ghost use Rattle.mb_log.specs.Additions.{IsInRange};
 ghost use Rattle.mb_board.specs.Calls.{IsUp};
 ghost use Rattle.mb_model_memory.specs.Holding.{IsReady};
-ghost use Rattle.mb_boot.specs.Settling.{IsOnlyRoot};
+ghost use Rattle.mb_area.specs.Roots.{IsOnlyRoot};
 ghost use Rattle.mb_device_orders.specs.Calls.{Judges};
 ghost use Rattle.mb_device_orders.specs.Remembering.{Knows, IsRemembered, CanAnswer};
 ghost use Rattle.mb_device_orders.specs.Planning.{ReadsText, ChecksText};
@@ -87,7 +87,7 @@ fn view_now<B: Board>(up: &Up<R1>, b: &B, known: &Known, root: &Root, room: &mut
 /// Reads the order that the bytes spell, and judges it. The error is the answer to an order that is not obeyed; nothing
 /// is hashed then. New keys are derived from `draw`, in 34,399 hashes for each key that the order's entries name. The
 /// tree of a new device key is on the bench afterwards. A bench that was bare has room for another tree.
-#[tactic(auto, using(crate::proofs::Remembered::remembered_root, mb_boot::proofs::Settled::only_root, crate::proofs::Judgement::none_step))]
+#[tactic(auto, using(crate::proofs::Remembered::remembered_root, crate::proofs::Judgement::none_step))]
 pub fn judge_text<B: Board, L: Ledger>(
     alloc: Global,
     up: &Up<R1>,
