@@ -16,7 +16,7 @@ use Rattle.mb_device.specs.Calls.{Answers}
 use Rattle.mb_device.specs.declared.device.Device.{Device}
 use Rattle.mb_device.specs.KeptTrees.{KeepsItsTrees, KeepsTreeOnceDone, MakesKeysOf}
 use Rattle.mb_device.specs.Regions.{IsLayerEvent}
-use Rattle.mb_device.specs.Sound.{IsSoundDevice, Steps, StepsFrom}
+use Rattle.mb_device.specs.Sound.{IsSoundDevice, taken, Steps}
 use Rattle.mb_device.specs.Stepping.{stop_told, IfBoot}
 use Rattle.mb_device.proofs.Steps.{refuses}
 use Rattle.mb_device.proofs.Trees.{trees_refused, refused_undone}
@@ -107,12 +107,38 @@ uncut (reply.Refused number) unwritten = unwritten
 uncut reply.Stopped unwritten = refl
 uncut reply.NoMemory unwritten = unwritten
 
+-- ---- what a board holds that has handed out an event
+
+pub layer_taken : (e : Event) → IsLayerEvent e → (held : Held) → taken e held ≡ held
+layer_taken event.Boot is held = absurd is
+layer_taken event.Off is held = absurd is
+layer_taken event.Tamper is held = absurd is
+layer_taken event.Status is held = absurd is
+layer_taken event.Go is held = absurd is
+layer_taken (event.Cut count tear) is held = absurd is
+layer_taken (event.Order text draw) is held = absurd is
+layer_taken (event.Put M name value) is held = refl
+layer_taken (event.Get M name) is held = refl
+layer_taken (event.Drop M name) is held = refl
+layer_taken (event.Sign M key message) is held = refl
+
+-- the answer is a step from what the board held before it handed out the event
+abbrev pub StepsTaken : Device → Event → Reply → Device → Held → Held → Type 0
+StepsTaken before e answer after now new = (earlier : Held) (world : World) → IsSoundDevice before earlier world → now ≡ taken e earlier → Steps world e answer after new
+
+pub sound_taken : {before : Device} {e : Event} {now earlier : Held} {world : World} → ((held : Held) → taken e held ≡ held) → now ≡ taken e earlier → IsSoundDevice before earlier world → IsSoundDevice before now world
+sound_taken {before} {e} {now} {earlier} {world} still same sound = subst (λ (h : Held). IsSoundDevice before h world) (sym (same ∙ still earlier)) sound
+
+pub as_taken : {before after : Device} {e : Event} {answer : Reply} {now new : Held} → ((held : Held) → taken e held ≡ held) → ((world : World) → IsSoundDevice before now world → Steps world e answer after new)
+    → StepsTaken before e answer after now new
+as_taken still steps = λ earlier world sound same. steps world (sound_taken still same sound)
+
 -- ---- answers that change nothing but power and level
 
-pub switches : (n limit : ℕ) (before after : Device) (earlier : Held) (e : Event) (answer : Reply) (old new : Seen) (hashes : ℕ) → IsSwitched old new → stop_told answer ≡ Ok tt
-    → KeepsItsTrees before e answer after → KeepsTreeOnceDone e answer after → StepsFrom before earlier e (after, answer) (held_in new)
-    → Answers n limit before earlier e (after, answer) old new hashes hashes
-switches n limit before after earlier e answer old new hashes switched goes_on trees done steps = record {
+pub switches : (n limit : ℕ) (before after : Device) (e : Event) (answer : Reply) (old new : Seen) (hashes : ℕ) → IsSwitched old new → stop_told answer ≡ Ok tt
+    → KeepsItsTrees before e answer after → KeepsTreeOnceDone e answer after → StepsTaken before e answer after (held_in old) (held_in new)
+    → Answers n limit before e (after, answer) old new hashes hashes
+switches n limit before after e answer old new hashes switched goes_on trees done steps = record {
   steps = steps;
   untold = λ unwritten. (switched.memory, switched.meter);
   quiet = if_boot e (record { quiet = λ state clean. (switched.memory, switched.meter) });
@@ -120,37 +146,40 @@ switches n limit before after earlier e answer old new hashes switched goes_on t
   events = record { ledger = switched.ledger; meter = unmetered n answer old.meter new.meter goes_on switched.meter };
   trees = trees;
   done = done;
-  order = λ world keys sound makes has. omega arith;
+  order = λ earlier world keys sound same makes has. omega arith;
   cost = omega arith;
   again = λ own. omega arith;
 }
 
 -- a refusal of a device that is as it was
 pub refused : (n limit : ℕ) (before after : Device) (e : Event) (answer : Reply) (refusal : Refusal) (seen : Seen) (hashes : ℕ) → before ≡ after → answer ≡ refusal_reply refusal
-    → StepsFrom after (held_in seen) e (after, answer) (held_in seen) → Answers n limit before (held_in seen) e (after, answer) seen seen hashes hashes
-refused n limit before after e answer refusal seen hashes same told steps =
-    subst (λ (device : Device). Answers n limit device (held_in seen) e (after, answer) seen seen hashes hashes) (sym same)
-    (switches n limit after after (held_in seen) e answer seen seen hashes (record { memory = refl; ledger = refl; meter = refl }) (ap stop_told told)
-    (trees_refused after after after e answer refusal refl refl told) (undone_kept e answer after (refused_undone refusal answer told)) steps)
+    → ((held : Held) → taken e held ≡ held) → ((world : World) → IsSoundDevice after (held_in seen) world → Steps world e answer after (held_in seen))
+    → Answers n limit before e (after, answer) seen seen hashes hashes
+refused n limit before after e answer refusal seen hashes same told still steps =
+    subst (λ (device : Device). Answers n limit device e (after, answer) seen seen hashes hashes) (sym same)
+    (switches n limit after after e answer seen seen hashes (record { memory = refl; ledger = refl; meter = refl }) (ap stop_told told)
+    (trees_refused after after after e answer refusal refl refl told) (undone_kept e answer after (refused_undone refusal answer told)) (as_taken still steps))
 
 -- one that the machine makes too
 pub refused_by : (n limit : ℕ) (before after : Device) (e : Event) (answer : Reply) (refusal : Refusal) (seen : Seen) (hashes : ℕ) → before ≡ after → answer ≡ refusal_reply refusal
-    → ((world : World) → IsSoundDevice after (held_in seen) world → Machine world e (refusal_reply refusal) world) → Answers n limit before (held_in seen) e (after, answer) seen seen hashes hashes
-refused_by n limit before after e answer refusal seen hashes same told machine =
-    refused n limit before after e answer refusal seen hashes same told (λ world sound. refuses after after (held_in seen) world e answer refusal told (machine world sound) sound sound.fits)
+    → ((held : Held) → taken e held ≡ held) → ((world : World) → IsSoundDevice after (held_in seen) world → Machine world e (refusal_reply refusal) world)
+    → Answers n limit before e (after, answer) seen seen hashes hashes
+refused_by n limit before after e answer refusal seen hashes same told still machine =
+    refused n limit before after e answer refusal seen hashes same told still (λ world sound. refuses after after (held_in seen) world e answer refusal told (machine world sound) sound sound.fits)
 
 -- ---- answers that are handed on
 
-pub of_device : {n limit : ℕ} {before own : Device} {earlier : Held} {e : Event} {told : Device × Reply} {old new : Seen} {hashes hashes_after : ℕ} → before ≡ own
-    → Answers n limit own earlier e told old new hashes hashes_after → Answers n limit before earlier e told old new hashes hashes_after
-of_device {n} {limit} {before} {own} {earlier} {e} {told} {old} {new} {hashes} {hashes_after} same is =
-    subst (λ (device : Device). Answers n limit device earlier e told old new hashes hashes_after) (sym same) is
+pub of_device : {n limit : ℕ} {before own : Device} {e : Event} {told : Device × Reply} {old new : Seen} {hashes hashes_after : ℕ} → before ≡ own
+    → Answers n limit own e told old new hashes hashes_after → Answers n limit before e told old new hashes hashes_after
+of_device {n} {limit} {before} {own} {e} {told} {old} {new} {hashes} {hashes_after} same is =
+    subst (λ (device : Device). Answers n limit device e told old new hashes hashes_after) (sym same) is
 
 -- within larger bounds, and of the event that was handed out
-pub answers_more : {n m limit most : ℕ} {before : Device} {held earlier : Held} {e own : Event} {told : Device × Reply} {old new : Seen} {hashes hashes_after : ℕ} → n ≤ m → limit ≤ most → held ≡ earlier → e ≡ own
-    → Answers n limit before held own told old new hashes hashes_after → Answers m most before earlier e told old new hashes hashes_after
-answers_more {n} {m} {limit} {most} {before} {held} {earlier} {e} {own} {told} {old} {new} {hashes} {hashes_after} fewer cheaper here same is =
-    let wider : Answers m most before held own told old new hashes hashes_after = record {
+pub answers_more : {n m limit most : ℕ} {before : Device} {e own : Event} {told : Device × Reply} {old new : Seen} {hashes hashes_after : ℕ} → n ≤ m → limit ≤ most → e ≡ own
+    → Answers n limit before own told old new hashes hashes_after → Answers m most before e told old new hashes hashes_after
+answers_more {n} {m} {limit} {most} {before} {e} {own} {told} {old} {new} {hashes} {hashes_after} fewer cheaper same is =
+    subst (λ (x : Event). Answers m most before x told old new hashes hashes_after) (sym same)
+    (record {
       steps = is.steps;
       untold = is.untold;
       quiet = is.quiet;
@@ -164,9 +193,7 @@ answers_more {n} {m} {limit} {most} {before} {held} {earlier} {e} {own} {told} {
       order = is.order;
       cost = omega (arith, cheaper, is.cost);
       again = is.again;
-    } in
-    subst (λ (x : Event). Answers m most before earlier x told old new hashes hashes_after) (sym same)
-    (subst (λ (h : Held). Answers m most before h own told old new hashes hashes_after) here wider)
+    })
 
 -- the order whose bytes were taken as a slice
 pub sliced : {e : Event} {text slice draw : List ℕ} → e ≡ event.Order text draw → slice ≡ text → e ≡ event.Order slice draw

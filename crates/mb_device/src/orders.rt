@@ -29,8 +29,7 @@ fn take_order<B: Board, L: Ledger>(
 ) -> (Device, Reply)
     requires bytes { AreBytes (B.seen b.old).memory }
     requires sound { HasSound (Device.One up running) (held_in (B.seen b.old)) }
-    ensures { Answers WRITE_LIMIT STEP_HASHES (Device.One up running) (held_in (B.seen b.old))
-        (event.Order text.now draw.now) result (B.seen b.old) (B.seen b.new) hashes.old hashes.new }
+    ensures { Answers WRITE_LIMIT STEP_HASHES (Device.One up running) (event.Order text.now draw.now) result (B.seen b.old) (B.seen b.new) hashes.old hashes.new }
 {
     let mut running = running;
     match obey(alloc, up, b, &mut running, text, draw, hashes) {
@@ -51,8 +50,7 @@ impl Device {
     ) -> (Device, Reply)
         requires bytes { AreBytes (B.seen b.old).memory }
         requires sound { HasSound self (held_in (B.seen b.old)) }
-        ensures { Answers WRITE_LIMIT STEP_HASHES self (held_in (B.seen b.old))
-            (event.Order text.now draw.now) result (B.seen b.old) (B.seen b.new) hashes.old hashes.new }
+        ensures { Answers WRITE_LIMIT STEP_HASHES self (event.Order text.now draw.now) result (B.seen b.old) (B.seen b.new) hashes.old hashes.new }
     {
         match self {
             Device::Off(off) => (Device::Off(off), Refusal::PoweredOff.reply()),

@@ -26,7 +26,7 @@ fn come_up<B: Board, L: Ledger>(
     hashes: &mut HashCount<L>,
 ) -> (Device, Reply)
     requires sound { HasSound (Device.Off off) (held_in (B.seen b.old)) }
-    ensures { Answers 15 (2 * SIGNING_HASHES) (Device.Off off) (held_in (B.seen b.old)) event.Boot result
+    ensures { Answers 15 (2 * SIGNING_HASHES) (Device.Off off) event.Boot result
         (B.seen b.old) (B.seen b.new) hashes.old hashes.new }
 {
     let trees = match Box::new(alloc, Trees::none()) {
@@ -56,7 +56,7 @@ impl Device {
         hashes: &mut HashCount<L>,
     ) -> (Device, Reply)
         requires sound { HasSound self (held_in (B.seen b.old)) }
-        ensures { Answers 15 (2 * SIGNING_HASHES) self (held_in (B.seen b.old)) event.Boot result
+        ensures { Answers 15 (2 * SIGNING_HASHES) self event.Boot result
             (B.seen b.old) (B.seen b.new) hashes.old hashes.new }
     {
         match self {

@@ -72,7 +72,7 @@ fn use_at<S: Reaches<L> + Runs, L: Named, B: Board, C: Ledger>(
     requires region { L.place ≡ region_named event.now }
     requires script { IsScriptEvent event.now }
     requires sound { HasSound (S.holder s running) (held_in (B.seen b.old)) }
-    ensures { Answers 3 SIGNING_HASHES (S.holder s running) (held_in (B.seen b.old)) event.now result
+    ensures { Answers 3 SIGNING_HASHES (S.holder s running) event.now result
         (B.seen b.old) (B.seen b.new) hashes.old hashes.new }
 {
     let mut running = running;
@@ -100,7 +100,7 @@ impl Device {
         requires region { region ≡ region_named event.now }
         requires script { IsScriptEvent event.now }
         requires sound { HasSound self (held_in (B.seen b.old)) }
-        ensures { Answers 3 SIGNING_HASHES self (held_in (B.seen b.old)) event.now result
+        ensures { Answers 3 SIGNING_HASHES self event.now result
             (B.seen b.old) (B.seen b.new) hashes.old hashes.new }
     {
         match self {

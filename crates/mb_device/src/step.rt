@@ -2,12 +2,12 @@
 
 ghost use Rattle.std.specs.Prelude.{◌≡◌, ◌+◌, ◌*◌, ◌≤◌, [], All, length};
 ghost use Rattle.mb_model.specs.declared.limits.TheConstants.{WRITE_LIMIT};
-ghost use Rattle.mb_model.specs.outside.Board.{AreBytes, Held, IsLoaded, use_of, having_answered};
+ghost use Rattle.mb_model.specs.outside.Board.{AreBytes, IsLoaded, use_of, having_answered};
 ghost use Rattle.mb_model.specs.machine.Machine.{World};
 ghost use Rattle.mb_model.specs.chains.Script.{IsScriptEvent};
 ghost use Rattle.mb_board.specs.Calls.{held_in, IsBetweenEvents};
 ghost use Rattle.mb_device.specs.Calls.{Answers};
-ghost use Rattle.mb_device.specs.Sound.{IsSoundDevice, HasSound, taken, CanStep};
+ghost use Rattle.mb_device.specs.Sound.{IsSoundDevice, HasSound, CanStep};
 ghost use Rattle.mb_device.specs.Served.{IsServedFrom};
 ghost use Rattle.mb_device.specs.declared.step.TheConstants.{STEP_HASHES};
 
@@ -42,9 +42,8 @@ impl Device {
     ) -> (Device, Reply)
         requires bytes { AreBytes (B.seen b.old).memory }
         requires can_step { CanStep self event.now (held_in (B.seen b.old)) }
-        ensures { (earlier : Held) → held_in (B.seen b.old) ≡ taken event.now earlier
-            → Answers WRITE_LIMIT STEP_HASHES self earlier event.now result (B.seen b.old)
-            (B.seen b.new) hashes.old hashes.new }
+        ensures { Answers WRITE_LIMIT STEP_HASHES self event.now result (B.seen b.old) (B.seen b.new)
+            hashes.old hashes.new }
     {
         match event {
             Event::Boot => self.boot(alloc, b, hashes),

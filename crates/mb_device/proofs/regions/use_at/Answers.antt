@@ -8,7 +8,7 @@ use Rattle.mb_device.specs.declared.device.Device.{Device}
 use Rattle.mb_device.specs.Regions.{region_named}
 use Rattle.mb_device.specs.Sound.{Fits, IsSoundDevice, Steps}
 use Rattle.mb_device.specs.KeptTrees.{trees_of}
-use Rattle.mb_device.proofs.Answered.{refused, layer_boots_none, layer_done_none, layer_makes_none, uncut, stopped_by}
+use Rattle.mb_device.proofs.Answered.{as_taken, layer_taken, refused, layer_boots_none, layer_done_none, layer_makes_none, uncut, stopped_by}
 use Rattle.mb_device.proofs.Uses.{IsUse, is_up, remembers, use_ready, use_runs, use_told, use_cut, use_refused, answer_goes_on, metered_by}
 use Rattle.mb_device.proofs.Trees.{trees_go, trees_held, tree_to_sign}
 use Rattle.mb_device.proofs.regions.use_at.Goals as goal
@@ -25,7 +25,7 @@ ask-requires-clause-can_answer g c =
 
 pub returns-then-not-may_run : goal.returns-then-not-may_run
 returns-then-not-may_run g c =
-    refused _ _ (g.S.Runs.holder c.args.s c.args.running) c.into_device.result c.args.event.now c.reply.result WrongLayer (g.B.Board.seen c.args.b.now) c.args.hashes.now (sym c.into_device.ensures) c.reply.ensures
+    refused _ _ (g.S.Runs.holder c.args.s c.args.running) c.into_device.result c.args.event.now c.reply.result WrongLayer (g.B.Board.seen c.args.b.now) c.args.hashes.now (sym c.into_device.ensures) c.reply.ensures (layer_taken c.args.event.now c.requires.event)
     (λ world held.
         let sound = subst (λ (d : Device). IsSoundDevice d (held_in (g.B.Board.seen c.args.b.now)) world) c.into_device.ensures held in
         let own = g.met.S.Runs.runs c.args.s c.args.running world sound.fits in
@@ -35,7 +35,7 @@ returns-then-not-may_run g c =
 
 pub returns-in-Ok : goal.returns-in-Ok
 returns-in-Ok g c = record {
-  steps = λ world sound.
+  steps = as_taken (layer_taken c.args.event.now c.requires.event) (λ world sound.
       let own = g.met.S.Runs.runs c.args.s c.args.running world sound.fits in
       let up = is_up (g.S.Runs.holder c.args.s c.args.running) g.S.Runs.level (g.B.Board.seen c.args.b.now) world sound own.phase in
       let used : IsUse g.S.Runs.level g.L.Place.place (g.S.Runs.holder c.args.s c.args.running) c.args.running c.args.event.now (g.B.Board.seen c.args.b.now).memory (g.B.Board.seen c.args.b.now).power (g.B.Board.seen c.args.b.now).level (g.B.Board.seen c.args.b.now).meter world = record {
@@ -52,7 +52,7 @@ returns-in-Ok g c = record {
       use_told g.S.Runs.level g.L.Place.place (g.S.Runs.holder c.args.s c.args.running) c.args.running c.args.event.now (g.B.Board.seen c.args.b.now).memory (g.B.Board.seen c.args.b.now).power (g.B.Board.seen c.args.b.now).level (g.B.Board.seen c.args.b.now).meter world used
       c.into_device-in-Ok.result c.ask.new.running c.in-Ok.reply (g.B.Board.seen c.ask.new.b).memory (g.B.Board.seen c.ask.new.b).power (g.B.Board.seen c.ask.new.b).level (g.B.Board.seen c.ask.new.b).meter
       (c.in-Ok.ensures.answers.told own.state ready runs own.knows) (c.in-Ok.ensures.answers.ran.ran.power ∙ sym up.on) c.in-Ok.ensures.answers.ran.ran.level c.in-Ok.ensures.answers.ran.ran.meter.armed up.on up.at_level
-      (λ w is. subst (λ (d : Device). Fits d w) (sym c.into_device-in-Ok.ensures) (g.met.S.Runs.fits c.in-Ok.s c.ask.new.running w is)) (c.in-Ok.ensures.answers.known own.state ready own.knows);
+      (λ w is. subst (λ (d : Device). Fits d w) (sym c.into_device-in-Ok.ensures) (g.met.S.Runs.fits c.in-Ok.s c.ask.new.running w is)) (c.in-Ok.ensures.answers.known own.state ready own.knows));
   untold = λ unwritten. c.in-Ok.ensures.answers.writes (uncut c.in-Ok.reply unwritten);
   quiet = layer_boots_none c.args.event.now c.requires.event;
   spared = same_flash_spared _ _ c.in-Ok.ensures.answers.ran.flash;
@@ -83,14 +83,14 @@ returns-in-Ok g c = record {
       trees_held g.L.Place.place c.args.event.now c.in-Ok.reply (g.S.Runs.holder c.args.s c.args.running) c.into_device-in-Ok.result (Some c.args.running.known.trees.value) (Some c.ask.new.running.known.trees.value)
       c.requires.region (g.met.S.Runs.trees c.args.s c.args.running) (ap trees_of c.into_device-in-Ok.ensures ∙ g.met.S.Runs.trees c.in-Ok.s c.ask.new.running) c.in-Ok.ensures.signs.trees;
   done = layer_done_none c.args.event.now c.in-Ok.reply c.into_device-in-Ok.result c.requires.event;
-  order = λ world keys sound makes. absurd (layer_makes_none c.args.event.now world keys c.requires.event makes);
+  order = λ earlier world keys sound same makes. absurd (layer_makes_none c.args.event.now world keys c.requires.event makes);
   cost = c.ask.ensures.signs.cost;
   again = λ own. c.ask.ensures.signs.again (tree_to_sign g.L.Place.place c.args.event.now (g.S.Runs.holder c.args.s c.args.running) (Some c.args.running.known.trees.value) c.requires.region (g.met.S.Runs.trees c.args.s c.args.running) own);
 }
 
 pub returns-in-Err : goal.returns-in-Err
 returns-in-Err g c = record {
-  steps = λ world sound.
+  steps = as_taken (layer_taken c.args.event.now c.requires.event) (λ world sound.
       let own = g.met.S.Runs.runs c.args.s c.args.running world sound.fits in
       let up = is_up (g.S.Runs.holder c.args.s c.args.running) g.S.Runs.level (g.B.Board.seen c.args.b.now) world sound own.phase in
       let used : IsUse g.S.Runs.level g.L.Place.place (g.S.Runs.holder c.args.s c.args.running) c.args.running c.args.event.now (g.B.Board.seen c.args.b.now).memory (g.B.Board.seen c.args.b.now).power (g.B.Board.seen c.args.b.now).level (g.B.Board.seen c.args.b.now).meter world = record {
@@ -105,14 +105,14 @@ returns-in-Err g c = record {
       let ready = use_ready g.S.Runs.level g.L.Place.place (g.S.Runs.holder c.args.s c.args.running) c.args.running c.args.event.now (g.B.Board.seen c.args.b.now).memory (g.B.Board.seen c.args.b.now).power (g.B.Board.seen c.args.b.now).level (g.B.Board.seen c.args.b.now).meter world used in
       let runs = use_runs g.S.Runs.level g.L.Place.place (g.S.Runs.holder c.args.s c.args.running) c.args.running c.args.event.now (g.B.Board.seen c.args.b.now).memory (g.B.Board.seen c.args.b.now).power (g.B.Board.seen c.args.b.now).level (g.B.Board.seen c.args.b.now).meter world used in
       use_cut g.S.Runs.level g.L.Place.place (g.S.Runs.holder c.args.s c.args.running) c.args.running c.args.event.now (g.B.Board.seen c.args.b.now).memory (g.B.Board.seen c.args.b.now).power (g.B.Board.seen c.args.b.now).level (g.B.Board.seen c.args.b.now).meter world used
-      c.in-Err.off (g.B.Board.seen c.ask.new.b).memory (g.B.Board.seen c.ask.new.b).power (g.B.Board.seen c.ask.new.b).level (g.B.Board.seen c.ask.new.b).meter (c.in-Err.ensures.answers.told own.state ready runs own.knows) c.in-Err.ensures.answers.ran.ran.power c.in-Err.ensures.answers.ran.ran.meter.armed c.in-Err.ensures.answers.ran.ran.meter.cut;
+      c.in-Err.off (g.B.Board.seen c.ask.new.b).memory (g.B.Board.seen c.ask.new.b).power (g.B.Board.seen c.ask.new.b).level (g.B.Board.seen c.ask.new.b).meter (c.in-Err.ensures.answers.told own.state ready runs own.knows) c.in-Err.ensures.answers.ran.ran.power c.in-Err.ensures.answers.ran.ran.meter.armed c.in-Err.ensures.answers.ran.ran.meter.cut);
   untold = λ unwritten. absurd (cc);
   quiet = layer_boots_none c.args.event.now c.requires.event;
   spared = same_flash_spared _ _ c.in-Err.ensures.answers.ran.flash;
   events = record { ledger = c.in-Err.ensures.answers.ran.ran.ledger; meter = stopped_by 3 c.in-Err.off _ _ c.in-Err.ensures.answers.ran.ran.meter };
   trees = trees_go (region_named c.args.event.now) c.args.event.now reply.Stopped (trees_of (g.S.Runs.holder c.args.s c.args.running)) None refl refl refl;
   done = layer_done_none c.args.event.now reply.Stopped _ c.requires.event;
-  order = λ world keys sound makes. absurd (layer_makes_none c.args.event.now world keys c.requires.event makes);
+  order = λ earlier world keys sound same makes. absurd (layer_makes_none c.args.event.now world keys c.requires.event makes);
   cost = c.ask.ensures.signs.cost;
   again = λ own. c.ask.ensures.signs.again (tree_to_sign g.L.Place.place c.args.event.now (g.S.Runs.holder c.args.s c.args.running) (Some c.args.running.known.trees.value) c.requires.region (g.met.S.Runs.trees c.args.s c.args.running) own);
 }

@@ -30,83 +30,72 @@ step-next-requires-clause-can_step g c =
 
 pub answer-requires-clause-step : goal.answer-requires-clause-step
 answer-requires-clause-step g c =
-    let told = c.step-next.ensures (held_by (g.B.Board.seen c.events.b).memory (g.B.Board.seen c.events.b).power (g.B.Board.seen c.events.b).level (g.B.Board.seen c.events.b).meter)
-    (taken_by c.in-Some.event (g.B.Board.seen c.events.b).memory (g.B.Board.seen c.take.new.self).memory (g.B.Board.seen c.events.b).power (g.B.Board.seen c.take.new.self).power (g.B.Board.seen c.events.b).level (g.B.Board.seen c.take.new.self).level (g.B.Board.seen c.events.b).meter (g.B.Board.seen c.take.new.self).meter
-    c.in-Some.ensures.memory c.in-Some.ensures.power c.in-Some.ensures.level (ap (λ (m : Meter). m.armed) c.in-Some.ensures.meter)) in
     let some = c.in-Some.ensures.some in
     let before : Held = held_by (g.B.Board.seen c.events.b).memory (g.B.Board.seen c.events.b).power (g.B.Board.seen c.events.b).level (g.B.Board.seen c.events.b).meter in
     let after : Held = held_by (g.B.Board.seen c.step-next.new.b).memory (g.B.Board.seen c.step-next.new.b).power (g.B.Board.seen c.step-next.new.b).level (g.B.Board.seen c.step-next.new.b).meter in
     may_answer _ _ _ c.events.device c.step-next.result.0 (g.B.Board.seen c.events.b).ledger (g.B.Board.seen c.take.new.self).ledger (g.B.Board.seen c.step-next.new.b).ledger before after c.in-Some.event some.0 c.step-next.result.1
-    c.events.invariant.0 some.2 told.events.ledger
-    told.steps
+    c.events.invariant.0 some.2 c.step-next.ensures.events.ledger
+    (λ world sound. c.step-next.ensures.steps before world sound
+    (taken_by c.in-Some.event (g.B.Board.seen c.events.b).memory (g.B.Board.seen c.take.new.self).memory (g.B.Board.seen c.events.b).power (g.B.Board.seen c.take.new.self).power (g.B.Board.seen c.events.b).level (g.B.Board.seen c.take.new.self).level (g.B.Board.seen c.events.b).meter (g.B.Board.seen c.take.new.self).meter
+    c.in-Some.ensures.memory c.in-Some.ensures.power c.in-Some.ensures.level (ap (λ (m : Meter). m.armed) c.in-Some.ensures.meter)))
     (record {
       bytes = subst AreBytes c.in-Some.ensures.memory (record { flash = c.in-Some.ensures.flash_bytes; bbram = c.in-Some.ensures.bbram_bytes });
-      untold = λ quiet. (told.untold quiet).0 ∙ c.in-Some.ensures.memory;
-      spared = subst (λ (m : Memory). SparesSectors m (g.B.Board.seen c.step-next.new.b).memory) c.in-Some.ensures.memory told.spared;
+      untold = λ quiet. (c.step-next.ensures.untold quiet).0 ∙ c.in-Some.ensures.memory;
+      spared = subst (λ (m : Memory). SparesSectors m (g.B.Board.seen c.step-next.new.b).memory) c.in-Some.ensures.memory c.step-next.ensures.spared;
       quiet = λ is state clean. (
           let same : (g.B.Board.seen c.take.new.self).memory ≡ (g.B.Board.seen c.events.b).memory = c.in-Some.ensures.memory ∙ ap (λ (x : Event). memory_after (Some x) (g.B.Board.seen c.events.b).memory) is in
-          let boots = subst (λ (x : Event). IfBoot x (IsQuiet (g.B.Board.seen c.take.new.self).memory (g.B.Board.seen c.step-next.new.b).memory (g.B.Board.seen c.take.new.self).meter (g.B.Board.seen c.step-next.new.b).meter)) is told.quiet in
+          let boots = subst (λ (x : Event). IfBoot x (IsQuiet (g.B.Board.seen c.take.new.self).memory (g.B.Board.seen c.step-next.new.b).memory (g.B.Board.seen c.take.new.self).meter (g.B.Board.seen c.step-next.new.b).meter)) is c.step-next.ensures.quiet in
           (boots.quiet state (subst (λ (m : Memory). Clean m.bbram (Some state)) (sym same) clean)).0 ∙ same);
     })
 
 -- the answer is `stopped` exactly if a write call was stopped
 pub answer-requires-clause-stops : goal.answer-requires-clause-stops
 answer-requires-clause-stops g c =
-    let told = c.step-next.ensures (held_by (g.B.Board.seen c.events.b).memory (g.B.Board.seen c.events.b).power (g.B.Board.seen c.events.b).level (g.B.Board.seen c.events.b).meter)
-    (taken_by c.in-Some.event (g.B.Board.seen c.events.b).memory (g.B.Board.seen c.take.new.self).memory (g.B.Board.seen c.events.b).power (g.B.Board.seen c.take.new.self).power (g.B.Board.seen c.events.b).level (g.B.Board.seen c.take.new.self).level (g.B.Board.seen c.events.b).meter (g.B.Board.seen c.take.new.self).meter
-    c.in-Some.ensures.memory c.in-Some.ensures.power c.in-Some.ensures.level (ap (λ (m : Meter). m.armed) c.in-Some.ensures.meter)) in
     let some = c.in-Some.ensures.some in
     let same : (g.B.Board.seen c.step-next.new.b).ledger.stops ≡ (g.B.Board.seen c.take.new.self).meter.stops =
-    ap (λ (l : Ledger). l.stops) (told.events.ledger ∙ some.2) ∙ c.events.invariant.1
+    ap (λ (l : Ledger). l.stops) (c.step-next.ensures.events.ledger ∙ some.2) ∙ c.events.invariant.1
     ∙ sym (ap (λ (m : Meter). m.stops) c.in-Some.ensures.meter) in
-    told.events.meter.stops ∙ counted_by_answer c.step-next.result.1 (g.B.Board.seen c.take.new.self).meter.stops
+    c.step-next.ensures.events.meter.stops ∙ counted_by_answer c.step-next.result.1 (g.B.Board.seen c.take.new.self).meter.stops
     ∙ ap (stops_by_answer c.step-next.result.1) (sym same)
 
 pub answer-requires-clause-writes : goal.answer-requires-clause-writes
 answer-requires-clause-writes g c =
-    let told = c.step-next.ensures (held_by (g.B.Board.seen c.events.b).memory (g.B.Board.seen c.events.b).power (g.B.Board.seen c.events.b).level (g.B.Board.seen c.events.b).meter)
-    (taken_by c.in-Some.event (g.B.Board.seen c.events.b).memory (g.B.Board.seen c.take.new.self).memory (g.B.Board.seen c.events.b).power (g.B.Board.seen c.take.new.self).power (g.B.Board.seen c.events.b).level (g.B.Board.seen c.take.new.self).level (g.B.Board.seen c.events.b).meter (g.B.Board.seen c.take.new.self).meter
-    c.in-Some.ensures.memory c.in-Some.ensures.power c.in-Some.ensures.level (ap (λ (m : Meter). m.armed) c.in-Some.ensures.meter)) in
-    omega (arith, told.events.meter.writes, ap (λ (m : Meter). m.writes) c.in-Some.ensures.meter)
+    omega (arith, c.step-next.ensures.events.meter.writes, ap (λ (m : Meter). m.writes) c.in-Some.ensures.meter)
 
 pub events-smaller : goal.events-smaller
 events-smaller g c =
-    let told = c.step-next.ensures (held_by (g.B.Board.seen c.events.b).memory (g.B.Board.seen c.events.b).power (g.B.Board.seen c.events.b).level (g.B.Board.seen c.events.b).meter)
-    (taken_by c.in-Some.event (g.B.Board.seen c.events.b).memory (g.B.Board.seen c.take.new.self).memory (g.B.Board.seen c.events.b).power (g.B.Board.seen c.take.new.self).power (g.B.Board.seen c.events.b).level (g.B.Board.seen c.take.new.self).level (g.B.Board.seen c.events.b).meter (g.B.Board.seen c.take.new.self).meter
-    c.in-Some.ensures.memory c.in-Some.ensures.power c.in-Some.ensures.level (ap (λ (m : Meter). m.armed) c.in-Some.ensures.meter)) in
     let some = c.in-Some.ensures.some in
-    let now : (g.B.Board.seen c.answer.new.self).ledger.waiting ≡ some.0 = ap (λ (l : Ledger). l.waiting) c.answer.ensures.ledger ∙ ap (λ (l : Ledger). l.waiting) (told.events.ledger ∙ some.2) in
+    let now : (g.B.Board.seen c.answer.new.self).ledger.waiting ≡ some.0 = ap (λ (l : Ledger). l.waiting) c.answer.ensures.ledger ∙ ap (λ (l : Ledger). l.waiting) (c.step-next.ensures.events.ledger ∙ some.2) in
     omega (arith, ap length now, ap length some.1)
 
 pub events-preserved : goal.events-preserved
 events-preserved g c =
-    let told = c.step-next.ensures (held_by (g.B.Board.seen c.events.b).memory (g.B.Board.seen c.events.b).power (g.B.Board.seen c.events.b).level (g.B.Board.seen c.events.b).meter)
-    (taken_by c.in-Some.event (g.B.Board.seen c.events.b).memory (g.B.Board.seen c.take.new.self).memory (g.B.Board.seen c.events.b).power (g.B.Board.seen c.take.new.self).power (g.B.Board.seen c.events.b).level (g.B.Board.seen c.take.new.self).level (g.B.Board.seen c.events.b).meter (g.B.Board.seen c.take.new.self).meter
-    c.in-Some.ensures.memory c.in-Some.ensures.power c.in-Some.ensures.level (ap (λ (m : Meter). m.armed) c.in-Some.ensures.meter)) in
     let some = c.in-Some.ensures.some in
     let before : Held = held_by (g.B.Board.seen c.events.b).memory (g.B.Board.seen c.events.b).power (g.B.Board.seen c.events.b).level (g.B.Board.seen c.events.b).meter in
     let after : Held = held_by (g.B.Board.seen c.step-next.new.b).memory (g.B.Board.seen c.step-next.new.b).power (g.B.Board.seen c.step-next.new.b).level (g.B.Board.seen c.step-next.new.b).meter in
     let now : Held = held_by (g.B.Board.seen c.answer.new.self).memory (g.B.Board.seen c.answer.new.self).power (g.B.Board.seen c.answer.new.self).level (g.B.Board.seen c.answer.new.self).meter in
     let served_on = serves_more _ _ _ c.events.device c.step-next.result.0 (g.B.Board.seen c.events.b).ledger (g.B.Board.seen c.take.new.self).ledger (g.B.Board.seen c.step-next.new.b).ledger (g.B.Board.seen c.answer.new.self).ledger before after now (g.B.Board.seen c.step-next.new.b).meter.stops c.in-Some.event some.0 c.step-next.result.1
-    c.events.invariant.0 some.1 some.2 told.events.ledger
-    told.steps
+    c.events.invariant.0 some.1 some.2 c.step-next.ensures.events.ledger
+    (λ world sound. c.step-next.ensures.steps before world sound
+    (taken_by c.in-Some.event (g.B.Board.seen c.events.b).memory (g.B.Board.seen c.take.new.self).memory (g.B.Board.seen c.events.b).power (g.B.Board.seen c.take.new.self).power (g.B.Board.seen c.events.b).level (g.B.Board.seen c.take.new.self).level (g.B.Board.seen c.events.b).meter (g.B.Board.seen c.take.new.self).meter
+    c.in-Some.ensures.memory c.in-Some.ensures.power c.in-Some.ensures.level (ap (λ (m : Meter). m.armed) c.in-Some.ensures.meter)))
     (record {
       bytes = subst AreBytes c.in-Some.ensures.memory (record { flash = c.in-Some.ensures.flash_bytes; bbram = c.in-Some.ensures.bbram_bytes });
-      untold = λ quiet. (told.untold quiet).0 ∙ c.in-Some.ensures.memory;
-      spared = subst (λ (m : Memory). SparesSectors m (g.B.Board.seen c.step-next.new.b).memory) c.in-Some.ensures.memory told.spared;
+      untold = λ quiet. (c.step-next.ensures.untold quiet).0 ∙ c.in-Some.ensures.memory;
+      spared = subst (λ (m : Memory). SparesSectors m (g.B.Board.seen c.step-next.new.b).memory) c.in-Some.ensures.memory c.step-next.ensures.spared;
       quiet = λ is state clean. (
           let same : (g.B.Board.seen c.take.new.self).memory ≡ (g.B.Board.seen c.events.b).memory = c.in-Some.ensures.memory ∙ ap (λ (x : Event). memory_after (Some x) (g.B.Board.seen c.events.b).memory) is in
-          let boots = subst (λ (x : Event). IfBoot x (IsQuiet (g.B.Board.seen c.take.new.self).memory (g.B.Board.seen c.step-next.new.b).memory (g.B.Board.seen c.take.new.self).meter (g.B.Board.seen c.step-next.new.b).meter)) is told.quiet in
+          let boots = subst (λ (x : Event). IfBoot x (IsQuiet (g.B.Board.seen c.take.new.self).memory (g.B.Board.seen c.step-next.new.b).memory (g.B.Board.seen c.take.new.self).meter (g.B.Board.seen c.step-next.new.b).meter)) is c.step-next.ensures.quiet in
           (boots.quiet state (subst (λ (m : Memory). Clean m.bbram (Some state)) (sym same) clean)).0 ∙ same);
     })
     c.answer.ensures.ledger
     (same_parts (g.B.Board.seen c.step-next.new.b).memory (g.B.Board.seen c.answer.new.self).memory (g.B.Board.seen c.step-next.new.b).power (g.B.Board.seen c.answer.new.self).power (g.B.Board.seen c.step-next.new.b).level (g.B.Board.seen c.answer.new.self).level (g.B.Board.seen c.step-next.new.b).meter (g.B.Board.seen c.answer.new.self).meter
     c.answer.ensures.memory c.answer.ensures.power c.answer.ensures.level (ap (λ (m : Meter). m.armed) c.answer.ensures.meter)) in
     let waiting : (g.B.Board.seen c.answer.new.self).ledger.waiting ≡ some.0 =
-    ap (λ (l : Ledger). l.waiting) c.answer.ensures.ledger ∙ ap (λ (l : Ledger). l.waiting) (told.events.ledger ∙ some.2) in (
+    ap (λ (l : Ledger). l.waiting) c.answer.ensures.ledger ∙ ap (λ (l : Ledger). l.waiting) (c.step-next.ensures.events.ledger ∙ some.2) in (
       served_on,
       ap (λ (l : Ledger). l.stops) c.answer.ensures.ledger ∙ sym (ap (λ (m : Meter). m.stops) c.answer.ensures.meter),
-      omega (arith, c.events.invariant.2, told.cost, ap length waiting, ap length some.1),
+      omega (arith, c.events.invariant.2, c.step-next.ensures.cost, ap length waiting, ap length some.1),
     )
 
 pub returns-clause-served : goal.returns-clause-served
