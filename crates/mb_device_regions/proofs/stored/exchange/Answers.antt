@@ -1,6 +1,6 @@
-use Rattle.std.proofs.Common.{OnOk, sym, subst}
+use Rattle.std.proofs.Common.{OnOk, sym, subst, rules}
 use Rattle.mb_model.specs.declared.region.Region.{Region}
-use Rattle.mb_outbound.proofs.Bound.{replaced_on, either_then}
+use Rattle.mb_outbound.proofs.Bound.{replaced_on, either_then, ran_on}
 use Rattle.mb_region.specs.Regions.{ReplacesRegion, KeepsOrReplaces}
 use Rattle.mb_device_regions.proofs.stored.exchange.Goals as goal
 
@@ -14,6 +14,6 @@ returns g c = record {
       (either_then g.L.Place.place c.args.region.now _ _ _ c.in_ok-s.ensures.done c.wipe_region.ensures.contents);
   blank = search rules;
   besides = search rules;
-  ran = search rules;
+  ran = ran_on g.L.Place.place c.in_ok-s.s c.wipe_region.result _ _ _ c.in_ok-s.ensures.ran c.wipe_region.ensures.ran;
   plans = search rules;
 }

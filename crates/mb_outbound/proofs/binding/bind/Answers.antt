@@ -1,4 +1,4 @@
-use Rattle.std.proofs.Common.{◌≡◌, inl, refl}
+use Rattle.std.proofs.Common.{inl, refl, rules}
 use Rattle.mb_outbound.proofs.Bound.{means_used, means_kept_or_used, stores_use, keeps_or_stores, at_place, refused_as}
 use Rattle.mb_outbound.proofs.binding.bind.Goals as goal
 

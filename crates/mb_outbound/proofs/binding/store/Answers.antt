@@ -1,4 +1,5 @@
-use Rattle.mb_outbound.proofs.Bound.{replaced_on, either_then, stands_still}
+use Rattle.std.proofs.Common.{rules}
+use Rattle.mb_outbound.proofs.Bound.{replaced_on, either_then, stands_still, ran_on}
 use Rattle.mb_outbound.proofs.binding.store.Goals as goal
 
 pub returns : goal.returns
@@ -7,6 +8,6 @@ returns g c = record {
   either = λ region spelled. either_then g.L.Place.place region _ _ _ (c.in_ok-s.ensures.done region (stands_still region c.deref.ensures.value spelled)) c.wipe_region.ensures.contents;
   blank = search rules;
   besides = search rules;
-  ran = search rules;
+  ran = ran_on g.L.Place.place c.in_ok-s.s c.wipe_region.result _ _ _ c.in_ok-s.ensures.ran c.wipe_region.ensures.ran;
   plans = search rules;
 }
