@@ -194,12 +194,6 @@ fate_means slot fate before after state which sized is either means =
         (subst (λ (r : Root). HasIndex r r.pending) (sym (root_in (slot == 2) _ _ contents)) index)
         (done_means slot fate contents which pending ∙ same)
 
--- the place is that of the slot
-pub fate_keeps_meaning : (slot place : ℕ) (fate : Fate) (before after : Memory) (state : State) → slot ≡ place → IsRegionSlot place → IsLoaded after → IsPending place fate before
-    → KeepsOrApplies slot fate before after → Means before state → Means after state
-fate_keeps_meaning slot place fate before after state same which sized is either =
-    fate_means slot fate before after state (subst IsRegionSlot (sym same) which) sized (subst (λ (n : ℕ). IsPending n fate before) (sym same) is) either
-
 -- ---- what was read
 
 pub bytes_read : {read known : List ℕ} → read ≡ known → IsBytes known → IsBytes read
