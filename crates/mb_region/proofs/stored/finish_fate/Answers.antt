@@ -1,17 +1,9 @@
-use Rattle.std.proofs.Common.{inl, refl, rules}
-use Rattle.mb_region.proofs.Replaced.{fate_kept, fate_done, fate_either, fate_means}
+use Rattle.std.proofs.Common.{rules}
+use Rattle.mb_region.proofs.Replaced.{keep_finished, fate_done, fate_either, fate_means}
 use Rattle.mb_region.proofs.stored.finish_fate.Goals as goal
 
 pub returns-in-Keep : goal.returns-in-Keep
-returns-in-Keep g c = record {
-  done = fate_kept c.args.slot c.args.fate.now _ c.in-Keep.is;
-  either = λ contents holds. inl holds;
-  meaning = λ state means. means;
-  idle = λ is. (refl, refl, refl);
-  besides = search rules;
-  ran = search rules;
-  plans = search rules;
-}
+returns-in-Keep g c = keep_finished c.args.slot c.args.fate.now c.args.room.now (g.B.Board.seen c.args.b.now) c.requires.can_use c.in-Keep.is
 
 pub returns : goal.returns
 returns g c =
