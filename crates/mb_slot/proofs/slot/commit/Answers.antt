@@ -4,8 +4,8 @@ use Rattle.mb_slot.proofs.slot.commit.Goals as goal
 
 pub returns-in_err-write_other : goal.returns-in_err-write_other
 returns-in_err-write_other g c = record {
-  done = tt;
-  left = tt;
+  done = search rules;
+  left = search rules;
   either = inl c.write_other.ensures.current;
   besides = agree_besides c.args.slot _ _ c.requires.can_use.least c.requires.can_use.most c.requires.can_use.loaded.bbram (but_other c.args.slot _ _ c.write_other.ensures.ran.rest);
   ran = search rules;
