@@ -10,7 +10,7 @@ use Rattle.mb_model.specs.declared.stored.Pending.{Pending}
 use Rattle.mb_model.specs.declared.stored.Root.{Root}
 use Rattle.mb_model.specs.records.RootFormat.{pending_format, root_format}
 use Rattle.mb_model.specs.outside.Board.{Memory, IsLoaded}
-use Rattle.mb_model.specs.memories.Memory.{IsBlank, area_of_slot, HoldsRecord}
+use Rattle.mb_model.specs.memories.Memory.{IsBlank, area_of_slot, HoldsInArea, HoldsRecord}
 use Rattle.mb_model.specs.memories.Meaning.{RootIn, Contents, HoldsContents, state_of_contents}
 use Rattle.mb_model.specs.memories.Clean.{root_of}
 use Rattle.mb_model_lemmas.proofs.MeaningLemmas.{one_root}
@@ -25,7 +25,10 @@ use Rattle.mb_model_memory.proofs.FrameLemmas.{contents_agree, root_replaced}
 use Rattle.mb_model_memory.proofs.RestLemmas.{work_finished, rest_stands, meant_layers}
 use Rattle.mb_model_memory.proofs.StorableFormats.{none_allowed}
 use Rattle.mb_model_memory.proofs.StorableRecords.{root_room}
-use Rattle.mb_area.specs.Roots.{HoldsSomeRoot, HasSomeRoot, CommitsRoot, settled_root, Finishes, KeepsOrFinishes, MeansByRoot, KeepsOrMeansByRoot, MeansAsReady}
+use Rattle.mb_model.proofs.RecordFormatLaws.{root_exact}
+use Rattle.mb_model_lemmas.proofs.PublicLemmas.{bounded_by}
+use Rattle.mb_layout.proofs.Areas.{one_held as one_bytes}
+use Rattle.mb_area.specs.Roots.{HoldsSomeRoot, HasSomeRoot, IsOnlyRoot, CommitsRoot, settled_root, Finishes, KeepsOrFinishes, MeansByRoot, KeepsOrMeansByRoot, MeansAsReady}
 
 -- ---- reading
 
@@ -80,6 +83,23 @@ kept_in_force before after agree same flash = record {
 }
 
 -- ---- a root put in force
+
+pub small_area : (bbram : List ℕ) (root : Root) → IsOnlyRoot bbram root → root.area ≤ 1
+small_area bbram root is = (bounded_by root is.holds.holds.spelled.allowed).area
+
+-- an area that was filled with the bytes of a root holds no other
+pub only_held : (area filled bytes : List ℕ) (root : Root) → area ≡ filled → HoldsInArea filled bytes → IsBytes bytes → Spells root_format bytes root → (any : Root) → HoldsRecord root_format area any → any ≡ root
+only_held area filled bytes root same holds are spelled any other =
+    let own : other.bytes ≡ bytes = one_bytes other.bytes bytes other.holds (subst (λ (xs : List ℕ). HoldsInArea xs bytes) (sym same) holds) in
+    (IsClearWhole-from_exact root_exact).one_value bytes any root are (subst (λ (xs : List ℕ). Spells root_format xs any) own other.spelled) spelled
+
+-- where a device is live, the root that its slot holds alone is the only one
+pub held_alone : (root : Root) (before after : Memory) → AgreeBesides 1 before.bbram after.bbram → HoldsRecord root_format (area_of_slot after.bbram 1) root
+    → ((any : Root) → HoldsRecord root_format (area_of_slot after.bbram 1) any → any ≡ root) → HasSomeRoot before → IsOnlyRoot after.bbram root
+held_alone root before after agree own only some = record {
+  holds = record { alive = agree.life ∙ some.holds.alive; blank = subst IsBlank (sym agree.between) some.holds.blank; holds = own };
+  only = λ any has. only any has.holds;
+}
 
 pub root_committed : (root : Root) (before after : Memory) → AgreeBesides 1 before.bbram after.bbram → HoldsRecord root_format (area_of_slot after.bbram 1) root → after.flash ≡ before.flash → CommitsRoot root before after
 root_committed root before after agree own flash = record {

@@ -1,7 +1,7 @@
 //! The root record in its slot.
 
 ghost use Rattle.std.specs.Prelude.{◌≡◌, ◌≤◌, length, vec_capacity};
-ghost use Rattle.mb_format.specs.Format.{Spells};
+ghost use Rattle.mb_format.specs.Format.{IsBytes, Spells};
 ghost use Rattle.mb_layout.specs.Plans.{SamePlans};
 ghost use Rattle.mb_model.specs.declared.limits.TheConstants.{AREA_LENGTH, RECORD_LIMIT};
 ghost use Rattle.mb_model.specs.declared.stored.Root.{Root};
@@ -52,6 +52,7 @@ fn root_bytes(root: &Root, out: &mut Vec<u8>)
     requires allowed { root_format.Allowed root.now }
     requires room { AREA_LENGTH ≤ vec_capacity out.old }
     ensures spelled { Spells root_format out.new.items root.now }
+    ensures bytes { IsBytes out.new.items }
     ensures short { length out.new.items ≤ RECORD_LIMIT }
     ensures capacity { vec_capacity out.old ≤ vec_capacity out.new }
 {
@@ -74,7 +75,6 @@ fn store_root<B: Board>(b: &mut B, root: &Root, room: &mut Room) -> Result<(), S
 
 /// Commits the root record that an order leaves; the header area that it names holds the header after the order. If
 /// power fails, this root record or the one before is current. There are at most two write calls.
-#[tactic(auto, using(crate::proofs::Rooted::root_committed, crate::proofs::Rooted::committed_or_kept, crate::proofs::Rooted::committed_means, crate::proofs::Rooted::committed_means_or_kept))]
 pub fn commit_root<B: Board>(
     up: Up<R1>,
     b: &mut B,
@@ -109,7 +109,7 @@ fn settled_root(root: &Root) -> Root
 /// and the inactive header area counts every entry as signed. If power fails, this root record or the one before is
 /// current. There are at most two write calls. Its condition is a premise of its clauses (`Finishes`), and no
 /// `requires`: so it stands once, and a caller shows it where it uses them.
-#[tactic(auto, using(crate::proofs::Rooted::root_finished, crate::proofs::Rooted::finished_or_kept, crate::proofs::Rooted::finished_means, crate::proofs::Rooted::settled_allowed))]
+#[tactic(auto, using(crate::proofs::Rooted::small_area, crate::proofs::Rooted::settled_allowed))]
 pub fn finish_root<B: Board>(
     w: Working,
     b: &mut B,
@@ -134,7 +134,6 @@ fn unwiped(w: Working) -> Unwiped {
 
 /// Sets each byte of the root's inactive area to zero, and writes nothing if each is zero already. There is at most one
 /// write call.
-#[tactic(auto, using(crate::proofs::Rooted::kept_in_force))]
 pub fn wipe_root<B: Board>(w: Unwiped, b: &mut B) -> Result<Up<R1>, Off>
     requires up { IsUp 1 (B.seen b.old) }
     ensures { WipesRoot result (B.seen b.old) (B.seen b.new) }

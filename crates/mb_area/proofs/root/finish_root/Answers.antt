@@ -1,18 +1,33 @@
-use Rattle.std.proofs.Common.{◌≡◌, ◌⊎◌, subst}
+use Rattle.std.proofs.Common.{inr, subst, rules}
 use Rattle.mb_model.specs.declared.stored.Root.{Root}
-use Rattle.mb_model.specs.records.RootFormat.{root_format}
-use Rattle.mb_model.specs.memories.Memory.{area_of_slot, HoldsRecord}
-use Rattle.mb_area.proofs.Rooted.{finished_or_kept, finished_means}
+use Rattle.mb_area.specs.Calls.{StoresRoot}
+use Rattle.mb_area.proofs.Rooted.{root_finished, finished_or_kept, finished_means}
 use Rattle.mb_area.proofs.root.finish_root.Goals as goal
 
-pub returns-in-Ok-clause-means : goal.returns-in-Ok-clause-means
-returns-in-Ok-clause-means g c =
-    finished_means (g.B.Board.seen c.args.b.now).memory (g.B.Board.seen c.store_root.new.b).memory c.store_root.ensures.ran.ran.sized
-    (finished_or_kept c.read_root.result (g.B.Board.seen c.args.b.now).memory (g.B.Board.seen c.store_root.new.b).memory c.read_root.ensures.root c.store_root.ensures.besides c.store_root.ensures.ran.flash
-    (subst (λ (r : Root). (area_of_slot (g.B.Board.seen c.store_root.new.b).memory.bbram 1 ≡ area_of_slot (g.B.Board.seen c.args.b.now).memory.bbram 1) ⊎ HoldsRecord root_format (area_of_slot (g.B.Board.seen c.store_root.new.b).memory.bbram 1) r) c.settled_root-root.ensures c.store_root.ensures.either))
+pub returns-in-Ok : goal.returns-in-Ok
+returns-in-Ok g c =
+    let before = g.B.Board.seen c.args.b.now in
+    let after = g.B.Board.seen c.store_root.new.b in
+    let stored = subst (λ (r : Root). StoresRoot r c.args.room.now c.store_root.new.room _ before after) c.settled_root.ensures c.in-Ok.ensures in
+    let done = root_finished c.args.root.now before.memory after.memory c.requires.root.only stored.besides stored.done stored.ran.flash in
+    record {
+      done = done;
+      either = inr done;
+      means = finished_means before.memory after.memory stored.ran.ran.sized (inr done);
+      ran = search rules;
+      plans = stored.plans;
+    }
 
-pub returns-in-Err-clause-means : goal.returns-in-Err-clause-means
-returns-in-Err-clause-means g c =
-    finished_means (g.B.Board.seen c.args.b.now).memory (g.B.Board.seen c.store_root.new.b).memory c.store_root.ensures.ran.ran.sized
-    (finished_or_kept c.read_root.result (g.B.Board.seen c.args.b.now).memory (g.B.Board.seen c.store_root.new.b).memory c.read_root.ensures.root c.store_root.ensures.besides c.store_root.ensures.ran.flash
-    (subst (λ (r : Root). (area_of_slot (g.B.Board.seen c.store_root.new.b).memory.bbram 1 ≡ area_of_slot (g.B.Board.seen c.args.b.now).memory.bbram 1) ⊎ HoldsRecord root_format (area_of_slot (g.B.Board.seen c.store_root.new.b).memory.bbram 1) r) c.settled_root-root.ensures c.store_root.ensures.either))
+pub returns-in-Err : goal.returns-in-Err
+returns-in-Err g c =
+    let before = g.B.Board.seen c.args.b.now in
+    let after = g.B.Board.seen c.store_root.new.b in
+    let stored = subst (λ (r : Root). StoresRoot r c.args.room.now c.store_root.new.room _ before after) c.settled_root.ensures c.in-Err.ensures in
+    let either = finished_or_kept c.args.root.now before.memory after.memory c.requires.root.only stored.besides stored.ran.flash stored.either in
+    record {
+      done = tt;
+      either = either;
+      means = finished_means before.memory after.memory stored.ran.ran.sized either;
+      ran = search rules;
+      plans = stored.plans;
+    }
