@@ -169,8 +169,8 @@ log_agrees before after position n is few sized free same root has =
 
 -- ---- the same with another result of its kind
 
-pub public_ok : {A B E F : Type 0} (area : ℕ) (room room_after : Room) (before after : Seen) (value : A) (other : B) → WritesPublic {A} {E} area room room_after (Ok value) before after
-    → WritesPublic {B} {F} area room room_after (Ok other) before after
+pub public_ok : {A B E F : Type 0} (area : ℕ) (room room_after : Room) (before after : Seen) (value : A) (other : B) → WritesPublic area room room_after {A = A} {E = E} (Ok value) before after
+    → WritesPublic area room room_after {A = B} {E = F} (Ok other) before after
 public_ok area room room_after before after value other writes = record {
   contents = writes.contents;
   agree = writes.agree;
@@ -179,8 +179,8 @@ public_ok area room room_after before after value other writes = record {
   plans = writes.plans;
 }
 
-pub public_err : {A B E F : Type 0} (area : ℕ) (room room_after : Room) (before after : Seen) (error : E) (other : F) → WritesPublic {A} {E} area room room_after (Err error) before after
-    → WritesPublic {B} {F} area room room_after (Err other) before after
+pub public_err : {A B E F : Type 0} (area : ℕ) (room room_after : Room) (before after : Seen) (error : E) (other : F) → WritesPublic area room room_after {A = A} {E = E} (Err error) before after
+    → WritesPublic area room room_after {A = B} {E = F} (Err other) before after
 public_err area room room_after before after error other writes = record {
   contents = writes.contents;
   agree = writes.agree;
