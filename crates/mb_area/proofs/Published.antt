@@ -15,7 +15,7 @@ use Rattle.mb_model_lemmas.proofs.HeldSegments.{front_of_sector, front_of_slot}
 use Rattle.mb_model_lemmas.proofs.PublicLemmas.{bounded_by}
 use Rattle.mb_model_memory.specs.FlashInForce.{slot_in, AgreeForArea, IsFreeSlot, IsUncounted, DiffersOnlyIn, BeginsWithBytes, IsSectorWritten}
 use Rattle.mb_model_memory.specs.Holding.{KeepsContents}
-use Rattle.mb_model_memory.specs.NextHeaders.{free_slot}
+use Rattle.mb_model_memory.specs.NextHeaders.{free_slot, IsCodeWritten}
 use Rattle.mb_model_memory.proofs.FlashFrames.{sector_apart, torn_log, torn_header, torn_code}
 use Rattle.mb_model_memory.proofs.FrameLemmas.{other_flash}
 use Rattle.mb_model_memory.proofs.FlashWrites.{one_or_two, not_named}
@@ -24,7 +24,7 @@ use Rattle.mb_slot.proofs.Slotted.{on_ok}
 use Rattle.mb_flash.specs.Sectors.{sectors_for}
 use Rattle.mb_layout.specs.declared.room.Room.{Room}
 use Rattle.mb_board.specs.Calls.{Seen}
-use Rattle.mb_area.specs.Flashes.{IsCurrentArea, IsSpared, code_sectors}
+use Rattle.mb_area.specs.Flashes.{IsCurrentArea, IsPublicWritten, IsSpared, code_to_write, code_sectors}
 use Rattle.mb_area.specs.Calls.{WritesPublic}
 
 -- ---- sectors
@@ -166,6 +166,14 @@ pub log_agrees : (before after : Memory) (position n : ℕ) → n ≡ log_sector
 log_agrees before after position n is few sized free same root has =
     torn_log before.flash after.flash root.area position (bounded_by root has.holds.spelled.allowed).area few (free root has) sized
     (subst (λ k. DiffersOnlyIn k 1 before.flash after.flash) is same)
+
+-- the header is written after the code
+pub public_written : {E : Type 0} (room : Room) (current : Header) (area n : ℕ) (bytes before between after : List ℕ) (result : Result (Unit {0}) E) → n ≡ header_sector (1 - area) → bytes ≡ room.header.items
+    → IsCodeWritten room.code_layer (slot_in current room.code_layer) (code_to_write room) before between → OnOk result (IsSectorWritten n bytes between after) → OnOk result (IsPublicWritten room current area before after)
+public_written room current area n bytes before between after result is same code written =
+    on_ok result
+    (λ header. record { between = between; code = code; header = subst (λ (xs : List ℕ). IsSectorWritten (header_sector (1 - area)) xs between after) same (subst (λ k. IsSectorWritten k bytes between after) is header) })
+    written
 
 -- ---- the same with another result of its kind
 

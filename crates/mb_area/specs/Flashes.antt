@@ -5,7 +5,7 @@ use Rattle.mb_model.specs.declared.limits.TheConstants.{CODE_LIMIT, ENTRY_LIMIT,
 use Rattle.mb_model.specs.declared.stored.Header.{Header}
 use Rattle.mb_model.specs.declared.stored.Root.{Root}
 use Rattle.mb_model.specs.outside.Board.{Memory}
-use Rattle.mb_model.specs.memories.Flash.{sector, code_slot, HoldsHeader}
+use Rattle.mb_model.specs.memories.Flash.{sector, code_slot}
 use Rattle.mb_model.specs.records.HeaderFormat.{header_format}
 use Rattle.mb_model.specs.memories.Meaning.{RootIn}
 use Rattle.mb_model.specs.memories.Sectors.{header_sector, code_sector, BeginsAs}

@@ -10,7 +10,7 @@ ghost use Rattle.mb_area.specs.Roots.{HasSomeRoot};
 ghost use Rattle.mb_area.specs.Look.{IsLooked};
 
 use crate::root::{ROOT_SLOT, read_root};
-use crate::state::{Unsettled, Unwiped, unsettled};
+use crate::state::{Unsettled, Unwiped, unsettled_by};
 use mb_board::Board;
 use mb_layout::Room;
 use mb_ratchet::{R1, Up};
@@ -38,7 +38,7 @@ pub fn look<B: Board>(up: Up<R1>, b: &mut B, room: &mut Room) -> Looked
 {
     let root = read_root(b, room);
     if root.pending.is_some() {
-        return Looked::Unsettled(unsettled(up, &root));
+        return Looked::Unsettled(unsettled_by(up, &root));
     }
     if is_other_blank(b, ROOT_SLOT) {
         return Looked::Settled(up);

@@ -121,7 +121,6 @@ fn free_slot(named: Slot) -> u8
 
 /// Writes the code of the room, if it has any, into the slot of its layer that the header of the current area does not
 /// name.
-#[tactic(auto, using(crate::proofs::Published::area_small))]
 fn write_code<B: Board>(b: &mut B, area: u8, room: &mut Room) -> Result<(), Stopped>
     requires { CanWritePublic area room.old (B.seen b.old) }
     ensures { WritesCode area room.old room.new result (B.seen b.old) (B.seen b.new) }
@@ -134,7 +133,6 @@ fn write_code<B: Board>(b: &mut B, area: u8, room: &mut Room) -> Result<(), Stop
 }
 
 /// Writes the code of the room, if it has any, and then its header into the header area that is not the current one.
-#[tactic(auto, using(crate::proofs::Published::area_small))]
 fn write_both<B: Board>(b: &mut B, area: u8, room: &mut Room) -> Result<(), Stopped>
     requires { CanWritePublic area room.old (B.seen b.old) }
     ensures { WritesPublic area room.old room.new result (B.seen b.old) (B.seen b.new) }

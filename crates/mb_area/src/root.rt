@@ -12,7 +12,7 @@ ghost use Rattle.mb_slot.specs.Slots.{CanUse};
 ghost use Rattle.mb_area.specs.Roots.{HoldsSomeRoot, HasSomeRoot, IsOnlyRoot, settled_root};
 ghost use Rattle.mb_area.specs.Calls.{StoresRoot, MakesRootCurrent, FinishesRoot, WipesRoot};
 
-use crate::state::{Unsettled, Unwiped, Working, unsettled};
+use crate::state::{Unsettled, Unwiped, Working, unsettled_by};
 use mb_board::{Board, Stopped};
 use mb_layout::{Room, fill_area, make_area, root_in, write_root};
 use mb_model::Root;
@@ -86,7 +86,7 @@ pub fn commit_root<B: Board>(
     ensures { MakesRootCurrent root.now room.old room.new result (B.seen b.old) (B.seen b.new) }
 {
     match store_root(b, root, room) {
-        Ok(()) => Ok(unsettled(up, root)),
+        Ok(()) => Ok(unsettled_by(up, root)),
         Err(Stopped) => Err(Reaches::<One>::lost(up, b)),
     }
 }
@@ -109,7 +109,6 @@ fn settled_root(root: &Root) -> Root
 /// and the inactive header area counts every entry as signed. If power fails, this root record or the one before is
 /// current. There are at most two write calls. Its condition is a premise of its clauses (`Finishes`), and no
 /// `requires`: so it stands once, and a caller shows it where it uses them.
-#[tactic(auto, using(crate::proofs::Rooted::small_area, crate::proofs::Rooted::settled_allowed))]
 pub fn finish_root<B: Board>(
     w: Working,
     b: &mut B,

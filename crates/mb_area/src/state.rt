@@ -1,6 +1,6 @@
 //! The states of a device in which work is left.
 
-ghost use Rattle.std.proofs.Common.{rules};
+ghost use Rattle.std.proofs.Common.{◌≡◌, rules};
 
 use mb_model::Root;
 use mb_ratchet::{Off, One, Place, R1, Reaches, Register, Up};
@@ -26,7 +26,7 @@ pub struct Unwiped {
 }
 
 /// The state of a device with this root record, by which work is pending in it.
-pub(crate) fn unsettled(up: Up<R1>, root: &Root) -> Unsettled
+pub(crate) fn unsettled_by(up: Up<R1>, root: &Root) -> Unsettled
     ensures { result.root ≡ root.now }
 {
     Unsettled {

@@ -2,6 +2,9 @@ use Rattle.std.proofs.Common.{length, ap, arith, rules}
 use Rattle.mb_area.proofs.Published.{area_small, code_agrees, is_free, slot_there}
 use Rattle.mb_area.proofs.public.write_code.Goals as goal
 
+pub slot_named-named-requires-clause-area : goal.slot_named-named-requires-clause-area
+slot_named-named-requires-clause-area g c = area_small (g.B.Board.seen c.args.b.now).memory c.args.area c.requires.current
+
 pub returns : goal.returns
 returns g c =
     let slot = slot_there c.free_slot.result c.slot_named-named.result c.free_slot.ensures in

@@ -5,7 +5,7 @@ use Rattle.mb_area.proofs.public.write_log.Goals as goal
 pub returns-in-Ok : goal.returns-in-Ok
 returns-in-Ok g c =
     let agree = log_agrees (g.B.Board.seen c.args.b.now).memory (g.B.Board.seen c.store_sector.new.b).memory c.args.position c.log_sector.result c.log_sector.ensures c.requires.position.within
-        c.requires.up.loaded.flash c.requires.position.uncounted c.store_sector.ensures.same in
+    c.requires.up.loaded.flash c.requires.position.uncounted c.store_sector.ensures.same in
     record {
       contents = flash_kept (g.B.Board.seen c.args.b.now).memory (g.B.Board.seen c.store_sector.new.b).memory agree c.store_sector.ensures.ran.bbram;
       agree = agree;
@@ -19,7 +19,7 @@ returns-in-Ok g c =
 pub returns-in-Err : goal.returns-in-Err
 returns-in-Err g c =
     let agree = log_agrees (g.B.Board.seen c.args.b.now).memory (g.B.Board.seen c.store_sector.new.b).memory c.args.position c.log_sector.result c.log_sector.ensures c.requires.position.within
-        c.requires.up.loaded.flash c.requires.position.uncounted c.store_sector.ensures.same in
+    c.requires.up.loaded.flash c.requires.position.uncounted c.store_sector.ensures.same in
     record {
       contents = flash_kept (g.B.Board.seen c.args.b.now).memory (g.B.Board.seen c.store_sector.new.b).memory agree c.store_sector.ensures.ran.bbram;
       agree = agree;
