@@ -26,9 +26,10 @@ pub record SignsOnce (key : KeySeed) (bench bench_after : Bench) (hashes hashes_
   pub cost : hashes_after ≤ hashes + SIGNING_HASHES
   pub again : HasTree bench key → hashes_after ≤ hashes + LEAF_HASHES
 
--- The unsigned entries for this root were signed. On Ok the tree of the device key is on the bench if that key signs, or
--- if its tree was there and could stay. No tree is built if those of the keys that sign were there.
-pub record UsesTrees {A E : Type 0} (flash : List ℕ) (root : Root) (result : Result A E) (bench bench_after : Bench) (hashes hashes_after : ℕ) : Type 0 where
+-- The unsigned entries for this root were signed. On Ok the tree of the device key is on the bench if that key signs,
+-- or if its tree was there and could stay. No tree is built if those of the keys that sign were there.
+pub record UsesTrees (flash : List ℕ) (root : Root) {A E : Type 0} (result : Result A E)
+    (bench bench_after : Bench) (hashes hashes_after : ℕ) : Type 0 where
   pub kept : DeviceKeySigns flash root → OnOk result (HasTree bench_after root.device)
   pub held : HoldsDeviceTree bench root → OnOk result (HasTree bench_after root.device)
   pub again : HasSigners bench root → hashes_after ≤ hashes + 2 * LEAF_HASHES
@@ -37,16 +38,18 @@ pub record UsesTrees {A E : Type 0} (flash : List ℕ) (root : Root) (result : R
 
 -- What was written to the flash, in at most n write calls, leaves the contents of the memory and what this header area
 -- counts; on Ok `Done` holds of the memory before and after.
-pub record WritesBeside (Done : Memory → Memory → Type 0) (area n : ℕ) {A E : Type 0} (result : Result A E) (before after : Seen) : Type 0 where
+pub record WritesBeside (Done : Memory → Memory → Type 0) (area n : ℕ)
+    {A E : Type 0} (result : Result A E) (before after : Seen) : Type 0 where
   pub done : OnOk result (Done before.memory after.memory)
   pub contents : KeepsContents before.memory after.memory
   pub agree : AgreeForArea before.memory.flash after.memory.flash area
   pub ran : RanOnFlash n result before after
 
 -- Work was done, in at most n write calls: on Ok `Done` holds of the memory before and after, and wherever power fails,
--- the memory means what it meant. The sectors of the log that the header before counts keep their bytes, and so do those
--- that hold nothing.
-pub record DoesWork (Done : Memory → Memory → Type 0) (n : ℕ) {A E : Type 0} (result : Result A E) (before after : Seen) (hashes hashes_after : ℕ) : Type 0 where
+-- the memory means what it meant. The sectors of the log that the header before counts keep their bytes, and so do
+-- those that hold nothing.
+pub record DoesWork (Done : Memory → Memory → Type 0) (n : ℕ)
+    {A E : Type 0} (result : Result A E) (before after : Seen) (hashes hashes_after : ℕ) : Type 0 where
   pub done : OnOk result (Done before.memory after.memory)
   pub meaning : KeepsMeaning before.memory after.memory
   pub spared : SparesSectors before.memory after.memory
@@ -65,7 +68,8 @@ pub record ReachesLevel (reached : ℕ) (before after : Seen) : Type 0 where
 -- meant, a state or a dead device. Nothing is written to a clean memory, to that of a dead device, or if an allocation
 -- fails. It has `power`, `level` and `events` in place of `Ran`, since it ends at three levels, and since power did not
 -- fail at two of its errors.
-pub record Boots {A : Type 0} (result : Result A BootEnd) (before after : Seen) (hashes hashes_after : ℕ) : Type 0 where
+pub record Boots {A : Type 0} (result : Result A BootEnd) (before after : Seen) (hashes hashes_after : ℕ)
+    : Type 0 where
   pub clean : OnOk result (Cleans before.memory after.memory)
   pub meaning : KeepsState before.memory after.memory
   pub spared : SparesSectors before.memory after.memory

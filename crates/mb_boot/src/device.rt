@@ -42,7 +42,6 @@ fn is_dead<B: Board>(b: &B) -> bool
 }
 
 /// Does the pending work, and wipes the root's inactive area. There are at most 13 write calls.
-#[tactic(auto, using(crate::proofs::Booted::settled_rests, mb_model_memory::proofs::HoldingLemmas::contents_keep, mb_model_memory::proofs::HoldingLemmas::keeps_then, crate::proofs::Settled::spared_then))]
 fn settle_and_wipe<B: Board, L: Ledger>(
     u: Unsettled,
     b: &mut B,
@@ -58,7 +57,7 @@ fn settle_and_wipe<B: Board, L: Ledger>(
 }
 
 /// Does the work that is left in a live device, and wipes the root's inactive area. There are at most 13 write calls.
-#[tactic(auto, using(crate::proofs::Booted::already_rests, crate::proofs::Booted::wiped_rests, crate::proofs::Booted::already_quiet, crate::proofs::Booted::unwiped_quiet, crate::proofs::Booted::unsettled_quiet, mb_model_memory::proofs::HoldingLemmas::contents_keep, mb_model_memory::proofs::HoldingLemmas::keeps_then, crate::proofs::Booted::keeps_all))]
+#[tactic(auto, using(crate::proofs::Booted::found_live, crate::proofs::Booted::already_works, crate::proofs::Booted::unwiped_works, crate::proofs::Booted::already_quiet, crate::proofs::Booted::unwiped_quiet, crate::proofs::Booted::unsettled_quiet))]
 fn bring_to_rest<B: Board, L: Ledger>(
     looked: Looked,
     b: &mut B,
@@ -96,7 +95,7 @@ fn wipe_regions<B: Board>(up: Up<R1>, b: &mut B) -> Result<Up<R1>, Off>
 }
 
 /// Does all work that is left in a live device, and wipes all inactive areas. There are at most 15 write calls.
-#[tactic(auto, using(crate::proofs::Booted::found_as, crate::proofs::Settled::some_root, crate::proofs::Booted::cleaned, mb_model_memory::proofs::HoldingLemmas::contents_keep, mb_model_memory::proofs::HoldingLemmas::keeps_then, crate::proofs::Booted::quiet_then, crate::proofs::Settled::spared_then))]
+#[tactic(auto, using(crate::proofs::Settled::some_root))]
 fn come_up<B: Board, L: Ledger>(
     up: Up<R1>,
     b: &mut B,
@@ -120,7 +119,6 @@ fn come_up<B: Board, L: Ledger>(
 /// clean. There are at most 15 write calls, and 70,946 hashes; 2,148 if the trees of the keys that sign are on the
 /// bench. The tree of the device key is there afterwards if no key gives way and it signs, or if it was there before and
 /// the key that signs first found its own tree or room for it.
-#[tactic(auto, using(crate::proofs::Booted::settled_rests, crate::proofs::Booted::cleaned, mb_model_memory::proofs::HoldingLemmas::contents_keep, mb_model_memory::proofs::HoldingLemmas::keeps_then, crate::proofs::Settled::spared_then))]
 pub fn finish_order<B: Board, L: Ledger>(
     u: Unsettled,
     b: &mut B,
@@ -170,7 +168,7 @@ fn give_up<B: Board>(up: Up<R1>, b: &mut B) -> Off
 ///
 /// Errors: `Zeroised` exactly if the device is dead; `Stopped` if power failed; `NoMemory` if an allocation failed,
 /// before anything was written.
-#[tactic(auto, using(crate::proofs::Booted::live_from, crate::proofs::Booted::dead_from, crate::proofs::Booted::alive_from, crate::proofs::Booted::state_kept_from, crate::proofs::Booted::cleans_from, crate::proofs::Booted::quiet_from, crate::proofs::Booted::state_same, crate::proofs::Booted::same_quiet, crate::proofs::Booted::loaded_as))]
+#[tactic(auto, using(crate::proofs::Booted::loaded_as))]
 pub fn boot<B: Board, L: Ledger>(
     alloc: Global,
     off: Off,

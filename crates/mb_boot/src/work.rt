@@ -146,7 +146,6 @@ fn write_signed<B: Board, L: Ledger>(
 /// power fails, and afterwards nothing is pending. The sectors of the log that the header before counts keep their
 /// bytes. There are at most 12 write calls, and 70,946 hashes. Not public: `boot` and `finish_order` alone call it, and
 /// their clauses say what is left.
-#[tactic(auto, using(mb_model_memory::proofs::HoldingLemmas::contents_keep, mb_model_memory::proofs::HoldingLemmas::keeps_then, crate::proofs::Settled::settled))]
 pub(crate) fn settle<B: Board, L: Ledger>(
     u: Unsettled,
     b: &mut B,
