@@ -9,8 +9,8 @@ use Rattle.mb_device_orders.proofs.Committed.{IsCommitted, root_committed, root_
 use Rattle.mb_device_orders.proofs.KeptTrees.{device_key_signs}
 use Rattle.mb_device_orders.proofs.committing.commit.Goals as goal
 
-pub overflow_sub : goal.overflow_sub
-overflow_sub g c = small_next (g.B.Board.seen c.args.b.now).memory c.args.root.now c.args.room.now c.requires.commit
+pub overflow_sub-root : goal.overflow_sub-root
+overflow_sub-root g c = small_next (g.B.Board.seen c.args.b.now).memory c.args.root.now c.args.room.now c.requires.commit
 
 pub write_public-requires-clause-current : goal.write_public-requires-clause-current
 write_public-requires-clause-current g c = area_there (g.B.Board.seen c.args.b.now).memory c.args.root.now c.args.room.now c.requires.commit

@@ -21,7 +21,7 @@ returns-in_err-order g c =
 
 pub returns-in_err-check_text : goal.returns-in_err-check_text
 returns-in_err-check_text g c =
-    let p = err_from_is_err_and c.from_residual.result c.from_residual.ensures.1 in
+    let p = err_from_is_err_and c.from_residual-in_err-check_text.result c.from_residual-in_err-check_text.ensures.1 in
     rw (p.1, p.2) (record {
       judged = λ state ready knows.
           refused_step state c.view_now-view.result c.args.text.now c.args.draw.now c.in_ok-order.order _ (c.view_now-view.ensures.view state ready knows) c.in_ok-order.ensures c.in_err-check_text.ensures;
