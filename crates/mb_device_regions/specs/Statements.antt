@@ -1,6 +1,7 @@
 -- What is prepared for a statement, and its bytes. Does signing find the memory that it needs?
 use Rattle.std.specs.Prelude.{◌≡◌, ℕ, ◌≤◌, List, [], false, Option, Result, Ok, Err}
 use Rattle.std.specs.Vec.{vec_len, vec_capacity}
+use Rattle.mb_model.specs.declared.entry.Statement.{Statement}
 use Rattle.mb_model.specs.declared.key.KeySeed.{KeySeed}
 use Rattle.mb_model.specs.records.ChainFormat.{statement_format}
 use Rattle.mb_model.specs.chains.Listing.{is_signed}
@@ -21,13 +22,15 @@ pub record IsPreparedMessage (message : List ℕ) (prepared : Prepared) : Type 0
   pub none : vec_len prepared.bytes ≡ 0
   pub room : STATEMENT_LENGTH ≤ vec_capacity prepared.bytes
 
+-- the statement of a message, at this configuration number and with this signature
+abbrev pub signed_statement : ℕ → List ℕ → List ℕ → Statement
+signed_statement number message signature = record { number = number; message = message; signature = signature }
+
 -- the bytes of the statement of a message that a key signs at the index, for this subject
 abbrev pub signed_statement_bytes : KeySeed → ℕ → Subject → List ℕ → List ℕ
-signed_statement_bytes seed index subject message = statement_format.spelling (record {
-  number = subject.number;
-  message = message;
-  signature = signature_of seed index (statement_text subject.serial subject.key subject.number message);
-})
+signed_statement_bytes seed index subject message =
+    let text = statement_text subject.serial subject.key subject.number message in
+    statement_format.spelling (signed_statement subject.number message (signature_of seed index text))
 
 -- once the key has signed, its tree is kept
 abbrev pub KeepsTree : {S E : Type 0} → Result (S × Reply) E → Option RegionTree → ℕ → ℕ → Type 0

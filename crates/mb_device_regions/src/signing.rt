@@ -3,10 +3,11 @@
 ghost use Rattle.std.specs.Prelude.{◌≡◌, ◌+◌, ◌≤◌, length, IfOk};
 ghost use Rattle.mb_model.specs.machine.LayerEvents.{sign_event};
 ghost use Rattle.mb_model.specs.chains.Script.{FitsMessage};
+ghost use Rattle.mb_model.specs.records.ChainFormat.{statement_format};
 ghost use Rattle.mb_signer.specs.Tree.{IsTreeOf};
 ghost use Rattle.mb_device_orders.specs.Remembering.{CanAnswer};
 ghost use Rattle.mb_device_regions.specs.Calls.{AnswersIn, SignsByTree};
-ghost use Rattle.mb_device_regions.specs.Statements.{IsPreparedMessage, signed_statement_bytes};
+ghost use Rattle.mb_device_regions.specs.Statements.{IsPreparedMessage, signed_statement, signed_statement_bytes};
 ghost use Rattle.mb_lms.specs.declared.hash_count.TheConstants.{LEAF_HASHES};
 
 use mb_board::Board;
@@ -43,9 +44,22 @@ fn prepare(alloc: Global, message: &Bytes) -> Result<Prepared, NoMemory>
     })
 }
 
+/// The statement of a message, with this signature.
+#[tactic(auto, using(mb_model_lemmas::proofs::AttachLemmas::statement_allowed))]
+fn statement_with(number: u32, message: Bytes, signature: [u8; SIGNATURE_LENGTH]) -> Statement
+    requires { length message ≤ MESSAGE_LIMIT }
+    ensures is { result ≡ signed_statement number message signature }
+    ensures allowed { statement_format.Allowed result }
+{
+    Statement {
+        number,
+        message,
+        signature,
+    }
+}
+
 /// Signs a statement with the subject's key, and spells it. The seed and the tree are the key's. The right is spent.
 /// Takes no memory.
-#[tactic(auto, using(mb_model_lemmas::proofs::AttachLemmas::statement_allowed, crate::proofs::Stated::finds_room))]
 fn make_statement<Lg: Ledger>(
     right: OneUse,
     seed: &KeySeed,
@@ -71,11 +85,7 @@ fn make_statement<Lg: Ledger>(
         &mut signature,
         hashes,
     );
-    let statement = Statement {
-        number: subject.number,
-        message,
-        signature,
-    };
+    let statement = statement_with(subject.number, message, signature);
     match write_statement(&statement, &mut bytes) {
         Ok(()) => Bytes::from_vec(bytes),
         Err(NoMemory) => unreachable!(),
