@@ -11,7 +11,7 @@ ghost use Rattle.mb_test_cuts.specs.Staged.{IsLiveImage, IsReadyForCalls};
 
 use super::board::{armed_board, wake};
 use super::states::{Device, is_clean, read};
-use mb_area::commit_root;
+use mb_area::{Unsettled, commit_root};
 use mb_board::{Board, SimBoard};
 use mb_boot::{BootEnd, boot};
 use mb_layout::{ReadEnd, Room, region_of_bytes, root_of_bytes};
@@ -149,9 +149,9 @@ fn put_root(alloc: Global, board: &mut SimBoard, record: &str) -> Result<bool, F
     let root = root_of(alloc, record)?;
     let up = wake(board);
     match commit_root(up, board, &root, &mut room) {
-        Ok(unsettled) => {
+        Ok(Unsettled { working, root: _root }) => {
             board.power_off();
-            let _off = Reaches::<One>::lost(unsettled, board);
+            let _off = Reaches::<One>::lost(working, board);
             Ok(false)
         }
         Err(_off) => Ok(true),
