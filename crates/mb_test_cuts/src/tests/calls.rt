@@ -149,7 +149,12 @@ fn put_root(alloc: Global, board: &mut SimBoard, record: &str) -> Result<bool, F
     let root = root_of(alloc, record)?;
     let up = wake(board);
     match commit_root(up, board, &root, &mut room) {
-        Ok(Unsettled { working, root: _root }) => {
+        Ok(
+            Unsettled {
+                working,
+                root: _root,
+            },
+        ) => {
             board.power_off();
             let _off = Reaches::<One>::lost(working, board);
             Ok(false)
