@@ -149,13 +149,12 @@ fn put_root(alloc: Global, board: &mut SimBoard, record: &str) -> Result<bool, F
     let root = root_of(alloc, record)?;
     let up = wake(board);
     match commit_root(up, board, &root, &mut room) {
-        Ok(
-            Unsettled {
+        Ok(unsettled) => {
+            board.power_off();
+            let Unsettled {
                 working,
                 root: _root,
-            },
-        ) => {
-            board.power_off();
+            } = unsettled;
             let _off = Reaches::<One>::lost(working, board);
             Ok(false)
         }
