@@ -1,4 +1,4 @@
-use Rattle.std.proofs.Common.{List, ℕ, subst}
+use Rattle.std.proofs.Common.{subst}
 use Rattle.mb_area.specs.declared.first_look.Looked.{Looked}
 use Rattle.mb_boot.specs.Booting.{IsFoundAs}
 use Rattle.mb_boot.proofs.Booted.{already_works, found_live, unwiped_works}

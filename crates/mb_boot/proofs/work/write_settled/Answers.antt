@@ -1,5 +1,4 @@
-use Rattle.std.proofs.Common.{rules, arith}
-use Rattle.std.proofs.lemmas.Result.{err_from_is_err_and}
+use Rattle.std.proofs.Common.{rules}
 use Rattle.mb_boot.proofs.Settled.{header_is_read, current_area, log_counted}
 use Rattle.mb_boot.proofs.work.write_settled.Goals as goal
 
