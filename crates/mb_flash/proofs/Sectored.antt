@@ -139,6 +139,7 @@ both_same first count all before mid after is one more = record {
     after_first : (offset : ℕ) → IsOutside (4096 * first) (4096 * all) offset → IsOutside (4096 * (first + 1)) (4096 * count) offset
     after_first offset (inl below) = inl (omega arith)
     after_first offset (inr above) = inr (omega (arith, is))
+
     before_rest : (offset : ℕ) → IsOutside (4096 * first) (4096 * all) offset → IsOutside (4096 * first) 4096 offset
     before_rest offset (inl below) = inl below
     before_rest offset (inr above) = inr (omega (arith, is))

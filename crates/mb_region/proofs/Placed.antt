@@ -1,5 +1,5 @@
 -- The calls on the stored regions by the place that holds one, from those by the number of its slot.
-use Rattle.std.proofs.Common.{◌≡◌, ℕ, List, Result, Ok, Err, sym, subst, rules}
+use Rattle.std.proofs.Common.{◌≡◌, ℕ, List, Ok, Err, sym, subst, rules}
 use Rattle.std.specs.Global.{Vec}
 use Rattle.mb_model.specs.declared.region.Region.{Region}
 use Rattle.mb_model.specs.declared.stored.Fate.{Fate}
