@@ -1,7 +1,6 @@
 -- How the steps of a boot join.
-use Rattle.std.proofs.Common.{◌≡◌, ℕ, ◌==◌, Bool, true, false, List, [], ◌∷◌, length, Option, None, Some, Result, Ok, Err, refl, sym, ap, subst, ◌∙◌, arith}
+use Rattle.std.proofs.Common.{◌≡◌, ℕ, ◌==◌, Bool, false, List, [], ◌∷◌, length, Option, None, Some, Result, Ok, Err, refl, sym, ap, subst, ◌∙◌, arith}
 use Rattle.std.specs.Option.{is_none}
-use Rattle.std.proofs.lemmas.Bool.{eqb-true}
 use Rattle.mb_ratchet.specs.declared.state.Up.{Up}
 use Rattle.mb_ratchet.specs.declared.state.R1.{R1}
 use Rattle.mb_model.specs.declared.state.State.{State}
@@ -18,14 +17,12 @@ use Rattle.mb_model_memory.proofs.CommitLemmas.{live_contents}
 use Rattle.mb_model_memory.proofs.RestLemmas.{nothing_pending}
 use Rattle.mb_slot.specs.Slots.{IsSameButOther}
 use Rattle.mb_slot.proofs.Slotted.{but_other, other_other}
-use Rattle.mb_area.specs.declared.first_look.Looked.{Looked}
 use Rattle.mb_area.specs.declared.first_look.Looked.TheVariants as looked
 use Rattle.mb_area.specs.declared.state.Unsettled.{Unsettled}
 use Rattle.mb_area.specs.declared.state.Unwiped.{Unwiped}
 use Rattle.mb_area.specs.Calls.{WipesRoot}
 use Rattle.mb_board.specs.Calls.{Seen, IsMetered, IsSwitched, KeepsEvents}
 use Rattle.mb_model.specs.memories.Spared.{SparesSectors}
-use Rattle.mb_ratchet.specs.declared.state.Dead.{Dead}
 use Rattle.mb_ratchet.specs.declared.state.Off.{Off}
 use Rattle.mb_boot.specs.declared.device.BootEnd.TheVariants as end
 use Rattle.mb_boot.specs.Calls.{Boots, DoesWork, ReachesLevel}
@@ -165,9 +162,6 @@ cleaned first between after rests kept root wiped sized = record {
 
 -- ---- alive or dead
 
-is_zero : (n : ℕ) → (n == 0) ≡ true → n ≡ 0
-is_zero n e = eqb-true n 0 e
-
 blank_life : (bbram : List ℕ) → IsBlank bbram → life_byte bbram ≡ 0
 blank_life [] blank = refl
 blank_life (byte ∷ bytes) blank = blank 0 0 (omega arith)
@@ -186,13 +180,6 @@ live_state memory known stands valid (is_live contents holds index live) alive =
 pub alive_is_live : (memory : Memory) → StandsForValid memory → (life_byte memory.bbram == 0) ≡ false → IsLive memory
 alive_is_live memory is alive = live_state memory is.state is.stands is.valid is.stands.meaning alive
 
-dead_by : (flash bbram : List ℕ) (known : Option State) → HasMeaning flash bbram known → (life_byte bbram == 0) ≡ true → true ≡ is_none known
-dead_by flash bbram known (is_dead blank none) dead = ap is_none (sym none)
-dead_by flash bbram known (is_live contents holds index live) dead = absurd (omega (arith, is_zero (life_byte bbram) dead, holds.root.alive))
-
-pub dead_is_none : (memory : Memory) (known : Option State) → (life_byte memory.bbram == 0) ≡ true → StandsFor memory.flash memory.bbram known → true ≡ is_none known
-dead_is_none memory known dead stands = dead_by memory.flash memory.bbram known stands.meaning dead
-
 live_by : (flash bbram : List ℕ) (known : Option State) → HasMeaning flash bbram known → (life_byte bbram == 0) ≡ false → false ≡ is_none known
 live_by flash bbram known (is_dead blank none) alive =
     let zero : life_byte bbram ≡ 0 = blank_life bbram blank in
@@ -210,26 +197,13 @@ kept_by before after (Some state) kept some stands = kept.kept state stands
 state_kept : (before after : Memory) → (life_byte before.bbram == 0) ≡ false → KeepsMeaning before after → KeepsState before after
 state_kept before after alive kept = record { kept = λ known stands. kept_by before after known kept (alive_is_some before known alive stands) stands }
 
-state_same : (before after : Memory) → after ≡ before → KeepsState before after
-state_same before after same = record { kept = λ known stands. subst (λ (m : Memory). StandsFor m.flash m.bbram known) (sym same) stands }
-
-same_quiet : (before after : Memory) (counted later : Meter) → after ≡ before → later ≡ counted → IsQuiet before after counted later
-same_quiet before after counted later memory meter = record { quiet = λ state clean. (memory, meter) }
-
 -- ---- the whole boot, from a board that waking has left as it was
 
 pub loaded_as : (first now : Memory) → now ≡ first → StandsForValid first → IsLoaded now
 loaded_as first now same is = subst (λ (m : Memory). IsLoaded m) (sym same) is.stands.sized
 
-pub switched_then : (first between last : Seen) → IsSwitched first between → IsSwitched between last → IsSwitched first last
+switched_then : (first between last : Seen) → IsSwitched first between → IsSwitched between last → IsSwitched first last
 switched_then first between last one two = record { memory = two.memory ∙ one.memory; ledger = two.ledger ∙ one.ledger; meter = two.meter ∙ one.meter }
-
--- switching is no event, and writes nothing
-kept_events : (n : ℕ) (before after : Seen) → IsSwitched before after → KeepsEvents n {A = Unit {0}} {E = Unit {0}} (Ok tt) before after
-kept_events n before after same = record {
-  ledger = same.ledger;
-  meter = record { armed = ap (λ (m : Meter). m.armed) same.meter; stops = ap (λ (m : Meter). m.stops) same.meter; writes = omega (arith, ap (λ (m : Meter). m.writes) same.meter); cut = tt };
-}
 
 events_from : (first climbed last : Seen) (result : Result (Unit {0}) (Unit {0})) → IsSwitched first climbed → KeepsEvents 15 result climbed last → KeepsEvents 15 result first last
 events_from first climbed last result same keeps =
@@ -249,40 +223,6 @@ climbed_live first woken climbed dead same climbs is tells alive =
     record {
       up = record { on = climbs.power; at_level = climbs.level; loaded = loaded_as first.memory climbed.memory switched.memory is };
       live = subst IsLive (sym switched.memory) (alive_is_live first.memory is (told_of first woken dead false same tells alive));
-    }
-
--- a dead device
-pub boots_dead : {A : Type 0} (dead_device : Dead) (first woken : Seen) (dead : Bool) (hashes : ℕ) → ReachesLevel 0 first woken → dead ≡ (life_byte woken.memory.bbram == 0) → dead ≡ true
-    → Boots {A = A} (Err (end.Zeroised dead_device)) first woken hashes hashes
-boots_dead dead_device first woken dead hashes wakes tells is = record {
-  clean = tt;
-  meaning = state_same first.memory woken.memory wakes.switched.memory;
-  spared = spared_same first.memory woken.memory (ap (λ (m : Memory). m.flash) wakes.switched.memory);
-  zeroised = λ known stands. dead_is_none first.memory known (told_of first woken dead true wakes.switched tells is) stands;
-  quiet = same_quiet first.memory woken.memory first.meter woken.meter wakes.switched.memory wakes.switched.meter;
-  unwritten = (wakes.switched.memory, wakes.switched.meter);
-  power = wakes.power;
-  level = wakes.level;
-  events = kept_events 15 first woken wakes.switched;
-  cost = omega arith;
-}
-
--- a device that lacks memory
-pub boots_not : {A : Type 0} (off : Off) (first woken last : Seen) (dead : Bool) (hashes : ℕ) → IsSwitched first woken → IsSwitched woken last → last.power ≡ false → dead ≡ (life_byte woken.memory.bbram == 0) → dead ≡ false
-    → Boots {A = A} (Err (end.NoMemory off)) first last hashes hashes
-boots_not off first woken last dead hashes same goes power tells is =
-    let switched = switched_then first woken last same goes in
-    record {
-      clean = tt;
-      meaning = state_same first.memory last.memory switched.memory;
-      spared = spared_same first.memory last.memory (ap (λ (m : Memory). m.flash) switched.memory);
-      zeroised = λ known stands. alive_is_some first.memory known (told_of first woken dead false same tells is) stands;
-      quiet = same_quiet first.memory last.memory first.meter last.meter switched.memory switched.meter;
-      unwritten = (switched.memory, switched.meter);
-      power = power;
-      level = tt;
-      events = kept_events 15 first last switched;
-      cost = omega arith;
     }
 
 -- a device that comes up, or whose work power stops

@@ -1,6 +1,6 @@
 -- Whose tree is on the bench when unsigned entries are signed.
 use Rattle.std.proofs.Common.{◌≡◌, ◌⊎◌, inr, ℕ, true, false, Option, None, Some, refl, sym, ap, subst, ◌∙◌}
-use Rattle.std.specs.Prelude.{List, IsSome}
+use Rattle.std.specs.Prelude.{IsSome}
 use Rattle.mb_model.specs.declared.stored.Header.{Header}
 use Rattle.mb_model.specs.declared.stored.Outgoing.{Outgoing}
 use Rattle.mb_model.specs.declared.stored.Root.{Root}

@@ -57,7 +57,7 @@ fn settle_and_wipe<B: Board, L: Ledger>(
 }
 
 /// Does the work that is left in a live device, and wipes the root's inactive area. There are at most 13 write calls.
-#[tactic(auto, using(crate::proofs::Booted::found_live, crate::proofs::Booted::already_works, crate::proofs::Booted::unwiped_works, crate::proofs::Booted::already_quiet, crate::proofs::Booted::unwiped_quiet, crate::proofs::Booted::unsettled_quiet))]
+#[tactic(auto, using(crate::proofs::Booted::already_quiet, crate::proofs::Booted::unwiped_quiet, crate::proofs::Booted::unsettled_quiet))]
 fn bring_to_rest<B: Board, L: Ledger>(
     looked: Looked,
     b: &mut B,

@@ -1,4 +1,5 @@
 use Rattle.std.proofs.Common.{arith, sym, subst}
+use Rattle.std.proofs.lemmas.Result.{err_from_is_err_and}
 use Rattle.mb_board.specs.Calls.{Seen}
 use Rattle.mb_boot.specs.Booting.{IsFoundAs, Rests, Cleans}
 use Rattle.mb_boot.specs.Settling.{IsLiveBoard}
@@ -16,14 +17,15 @@ bring_to_rest-requires-clause-looked g c =
 pub wipe_regions-requires : goal.wipe_regions-requires
 wipe_regions-requires g c =
     let live : IsLiveBoard (g.B.Board.seen c.look-looked.new.b) = subst IsLiveBoard (sym c.look-looked.ensures.same) c.requires in
-    still_up 13 _ (g.B.Board.seen c.look-looked.new.b) (g.B.Board.seen c.bring_to_rest.new.b) c.in_ok-up.ensures.work.ran live.up
+    record { up = still_up 13 _ (g.B.Board.seen c.look-looked.new.b) (g.B.Board.seen c.bring_to_rest.new.b) c.in_ok-up.ensures.work.ran live.up }
 
 pub returns-in_err-up-clause-work : goal.returns-in_err-up-clause-work
 returns-in_err-up-clause-work g c =
     let looked = g.B.Board.seen c.look-looked.new.b in
     let rested = g.B.Board.seen c.bring_to_rest.new.b in
-    work_from Cleans 15 _ (g.B.Board.seen c.args.b.now) looked rested _ _ c.look-looked.ensures.same
-    (work_stopped Rests Cleans 13 15 _ _ looked rested _ _ (omega arith) c.in_err-up.ensures.work)
+    let p = err_from_is_err_and c.from_residual.result c.from_residual.ensures.1 in
+    rw p.1 (work_from Cleans 15 _ (g.B.Board.seen c.args.b.now) looked rested _ _ c.look-looked.ensures.same
+    (work_stopped Rests Cleans 13 15 _ _ looked rested _ _ (omega arith) c.in_err-up.ensures.work))
 
 pub returns-in_err-up-clause-quiet : goal.returns-in_err-up-clause-quiet
 returns-in_err-up-clause-quiet g c =
@@ -34,8 +36,10 @@ returns-in_err-up-2-clause-work g c =
     let looked = g.B.Board.seen c.look-looked.new.b in
     let rested = g.B.Board.seen c.bring_to_rest.new.b in
     let last = g.B.Board.seen c.wipe_regions.new.b in
-    work_from Cleans 15 _ (g.B.Board.seen c.args.b.now) looked last _ _ c.look-looked.ensures.same
-    (work_then Rests Cleans 13 2 _ _ looked rested last _ _ c.in_ok-up.ensures.work c.wipe_regions.ensures.contents c.wipe_regions.ensures.ran.flash c.in_err-up-2.ensures.ran.ran tt)
+    let p = err_from_is_err_and c.from_residual-in_err-up-2.result c.from_residual-in_err-up-2.ensures.1 in
+    rw p.1 (work_from Cleans 15 _ (g.B.Board.seen c.args.b.now) looked last _ _ c.look-looked.ensures.same
+    (work_stopped Cleans Cleans 15 15 _ _ looked last _ _ (omega arith)
+    (work_then Rests Cleans 13 2 _ _ looked rested last _ _ c.in_ok-up.ensures.work c.wipe_regions.ensures.contents c.wipe_regions.ensures.ran.flash c.in_err-up-2.ensures.ran.ran tt)))
 
 pub returns-in_err-up-2-clause-quiet : goal.returns-in_err-up-2-clause-quiet
 returns-in_err-up-2-clause-quiet g c =

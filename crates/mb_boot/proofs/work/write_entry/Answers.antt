@@ -1,7 +1,8 @@
-use Rattle.std.proofs.Common.{Option, ℕ, subst}
+use Rattle.std.proofs.Common.{Option, ℕ, refl, subst, arith}
+use Rattle.std.proofs.lemmas.Result.{err_from_is_err_and}
 use Rattle.mb_boot.specs.Completions.{SignsTextAt}
 use Rattle.mb_model_memory.proofs.FlashFrames.{agree_same}
-use Rattle.mb_boot.proofs.Joined.{ran_not}
+use Rattle.mb_boot.proofs.Joined.{err_most, ran_not}
 use Rattle.mb_boot.proofs.Settled.{bounded, header_is_read, can_be_written, entry_added, none_added}
 use Rattle.mb_boot.proofs.work.write_entry.Goals as goal
 
@@ -37,12 +38,14 @@ write_log-requires-clause-log g c =
     (can.some, can.short)
 
 pub returns-in_err-w-clause-written : goal.returns-in_err-w-clause-written
-returns-in_err-w-clause-written g c = record {
-  done = tt;
-  contents = c.write_log.ensures.contents;
-  agree = c.write_log.ensures.agree c.args.root.now c.requires.root.root.holds;
-  ran = c.write_log.ensures.ran;
-}
+returns-in_err-w-clause-written g c =
+    let p = err_from_is_err_and c.from_residual.result c.from_residual.ensures.1 in
+    rw p.1 (record {
+      done = tt;
+      contents = c.write_log.ensures.contents;
+      agree = c.write_log.ensures.agree c.args.root.now c.requires.root.root.holds;
+      ran = record { ran = err_most 2 2 _ _ (g.B.Board.seen c.args.b.now) (g.B.Board.seen c.write_log.new.b) (omega arith) c.in_err-w.ensures.ran.ran; bbram = c.write_log.ensures.ran.bbram };
+    })
 
 pub returns-clause-written : goal.returns-clause-written
 returns-clause-written g c = record {

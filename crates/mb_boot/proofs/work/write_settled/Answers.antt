@@ -1,4 +1,4 @@
-use Rattle.std.proofs.Common.{arith}
+use Rattle.std.proofs.Common.{rules}
 use Rattle.mb_boot.proofs.Settled.{header_is_read, current_area, log_counted}
 use Rattle.mb_boot.proofs.work.write_settled.Goals as goal
 
