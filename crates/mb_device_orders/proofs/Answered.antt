@@ -10,6 +10,7 @@ use Rattle.mb_model.specs.outside.Board.{Memory}
 use Rattle.mb_model.specs.chains.Listing.{is_done}
 use Rattle.mb_model.specs.owners.Log.{entries_of, figures_of, number_of}
 use Rattle.mb_board.specs.Calls.{Seen, IsUp}
+use Rattle.mb_boot.proofs.Joined.{ran_not}
 use Rattle.mb_lms.specs.declared.hash_count.TheConstants.{TREE_HASHES}
 use Rattle.mb_model.specs.machine.OrderEffects.{state_after_order}
 use Rattle.mb_model.specs.machine.OrderStep.{OrderStep, is_obeyed}
@@ -87,7 +88,7 @@ answered_before known known_after text draw handed answer seen hashes hashes_aft
   keeps = λ done. absurd (cc);
   writes = λ uncut. (refl, refl);
   spared = same_memory_spared seen.memory seen.memory refl;
-  ran = record { power = up.on; level = refl; sized = up.loaded; ledger = refl; meter = record { armed = refl; stops = refl; writes = omega arith; cut = tt } };
+  ran = ran_not 35 (handed, answer) seen up;
   cost = omega (arith, cost);
   again = λ state count ready knows some makes. omega (arith, keys state count ready knows makes);
 }

@@ -26,12 +26,7 @@ use mb_region::Named;
 use std::alloc::Global;
 
 /// A secret of its own memory, put at this configuration number.
-fn secret_with(
-    alloc: Global,
-    name: &Bytes,
-    value: &Bytes,
-    number: u32,
-) -> Result<Secret, NoMemory>
+fn secret_with(alloc: Global, name: &Bytes, value: &Bytes, number: u32) -> Result<Secret, NoMemory>
     requires name { IsName name.now }
     requires value { FitsMessage value.now }
     ensures { IfOk result (IsSecretOf name.now value.now number) }

@@ -27,11 +27,11 @@ pub returns-then-not-may_run : goal.returns-then-not-may_run
 returns-then-not-may_run g c =
     refused _ _ (g.S.Runs.holder c.args.s c.args.running) c.into_device.result c.args.event.now c.reply.result WrongLayer (g.B.Board.seen c.args.b.now) c.args.hashes.now (sym c.into_device.ensures) c.reply.ensures (layer_taken c.args.event.now c.requires.event)
     (λ world held.
-        let sound = subst (λ (d : Device). IsSoundDevice d (held_in (g.B.Board.seen c.args.b.now)) world) c.into_device.ensures held in
-        let own = g.met.S.Runs.runs c.args.s c.args.running world sound.fits in
-        let barred : is_runnable c.args.running.known.figures.layers g.L.Place.place ≡ false = subst (λ (n : ℕ). is_runnable c.args.running.known.figures.layers n ≡ false) c.number.ensures (sym c.if-not-may_run.ensures) in
-        subst (λ (d : Device). Steps world c.args.event.now c.reply.result d (held_in (g.B.Board.seen c.args.b.now))) (sym c.into_device.ensures)
-        (use_refused (g.S.Runs.holder c.args.s c.args.running) g.S.Runs.level g.L.Place.place c.args.running (held_in (g.B.Board.seen c.args.b.now)) world c.args.event.now c.reply.result c.requires.event c.requires.region c.reply.ensures sound own sound.fits (inr barred)))
+    let sound = subst (λ (d : Device). IsSoundDevice d (held_in (g.B.Board.seen c.args.b.now)) world) c.into_device.ensures held in
+    let own = g.met.S.Runs.runs c.args.s c.args.running world sound.fits in
+    let barred : is_runnable c.args.running.known.figures.layers g.L.Place.place ≡ false = subst (λ (n : ℕ). is_runnable c.args.running.known.figures.layers n ≡ false) c.number.ensures (sym c.if-not-may_run.ensures) in
+    subst (λ (d : Device). Steps world c.args.event.now c.reply.result d (held_in (g.B.Board.seen c.args.b.now))) (sym c.into_device.ensures)
+    (use_refused (g.S.Runs.holder c.args.s c.args.running) g.S.Runs.level g.L.Place.place c.args.running (held_in (g.B.Board.seen c.args.b.now)) world c.args.event.now c.reply.result c.requires.event c.requires.region c.reply.ensures sound own sound.fits (inr barred)))
 
 pub returns-in-Ok : goal.returns-in-Ok
 returns-in-Ok g c = record {

@@ -9,7 +9,7 @@ use Rattle.mb_signer.specs.Tree.{IsTreeOf}
 use Rattle.mb_device_orders.proofs.Planned.{knows_next, device_committed}
 use Rattle.mb_device_orders.proofs.Remembered.{device_in_force}
 use Rattle.mb_device_orders.proofs.Answered.{has_commit, answered_before, answered_done, order_cut}
-use Rattle.mb_device_orders.proofs.Committed.{ok_most, err_most}
+use Rattle.mb_boot.proofs.Joined.{ok_most, err_most}
 use Rattle.mb_device_orders.proofs.KeptTrees.{commits_plan, keys_planned, signers_there, device_tree_kept}
 use Rattle.mb_device_orders.proofs.obeying.obey.Goals as goal
 
@@ -23,8 +23,8 @@ returns-in-Err-plan_commit g c =
     answered_before c.args.running.now.known c.judge_text.new.running.known c.args.text.now c.args.draw.now c.args.up _ (g.B.Board.seen c.args.b.now) c.args.hashes.now c.judge_text.new.hashes
     c.requires.up c.judge_text.ensures.stays refl (λ state ready knows. inl refl) c.judge_text.ensures.cost
     (λ state keys ready knows makes.
-        let counted = keys_planned state c.args.text.now c.args.draw.now c.in-Ok.judged keys (c.in-Ok.ensures.judged state ready knows) makes in
-        omega (arith, c.in-Ok.ensures.keys, counted))
+    let counted = keys_planned state c.args.text.now c.args.draw.now c.in-Ok.judged keys (c.in-Ok.ensures.judged state ready knows) makes in
+    omega (arith, c.in-Ok.ensures.keys, counted))
 
 pub lend-requires : goal.lend-requires
 lend-requires g c =

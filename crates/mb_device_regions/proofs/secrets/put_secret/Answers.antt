@@ -17,8 +17,8 @@ pub returns-in-Err-Full-clause-answers : goal.returns-in-Err-Full-clause-answers
 returns-in-Err-Full-clause-answers g c =
     answers_idle g.L.Place.place _ (put_event g.L.Place.place c.args.name.now c.args.value.now) c.args.running.now _ c.args.s c.reply.result (g.B.Board.seen c.args.b.now) c.requires.can_answer.up refl c.region_with.ensures.plans
     (λ state ready.
-        put_refused g.L.Place.place c.args.name.now c.args.value.now state c.reply.result _ c.reply.ensures
-        (subst (λ (secret : Secret). PutsInto (region_of state g.L.Place.place) secret (Err Full)) c.in-Ok.ensures.is (rw c.in-Err-Full.field-0-is at (c.in-Err-Full.ensures.put state ready))) ready)
+    put_refused g.L.Place.place c.args.name.now c.args.value.now state c.reply.result _ c.reply.ensures
+    (subst (λ (secret : Secret). PutsInto (region_of state g.L.Place.place) secret (Err Full)) c.in-Ok.ensures.is (rw c.in-Err-Full.field-0-is at (c.in-Err-Full.ensures.put state ready))) ready)
 
 pub returns-in_err-s-clause-answers : goal.returns-in_err-s-clause-answers
 returns-in_err-s-clause-answers g c =

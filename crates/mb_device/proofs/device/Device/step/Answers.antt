@@ -18,16 +18,16 @@ returns-in-Off g c =
     answers_more {n = 35} {limit = 139744} (omega arith) (omega arith) c.in-Off.is
     (switches 35 139744 c.args.self c.power_off.result event.Off reply.Off (g.B.Board.seen c.args.b.now) (g.B.Board.seen c.power_off.new.b) c.args.hashes.now c.power_off.ensures.switched refl (trees_go 0 event.Off reply.Off (trees_of c.args.self) (trees_of c.power_off.result) refl refl refl) tt
     (λ earlier world sound same.
-        goes_off c.args.self c.power_off.result earlier (held_in (g.B.Board.seen c.power_off.new.b)) world sound c.power_off.ensures.device
-        (off_same (g.B.Board.seen c.args.b.now).memory (g.B.Board.seen c.power_off.new.b).memory (g.B.Board.seen c.args.b.now).power (g.B.Board.seen c.power_off.new.b).power (g.B.Board.seen c.args.b.now).level (g.B.Board.seen c.power_off.new.b).level (g.B.Board.seen c.args.b.now).meter (g.B.Board.seen c.power_off.new.b).meter (taken event.Off earlier) same refl c.power_off.ensures.switched.memory c.power_off.ensures.power c.power_off.ensures.switched.meter)))
+    goes_off c.args.self c.power_off.result earlier (held_in (g.B.Board.seen c.power_off.new.b)) world sound c.power_off.ensures.device
+    (off_same (g.B.Board.seen c.args.b.now).memory (g.B.Board.seen c.power_off.new.b).memory (g.B.Board.seen c.args.b.now).power (g.B.Board.seen c.power_off.new.b).power (g.B.Board.seen c.args.b.now).level (g.B.Board.seen c.power_off.new.b).level (g.B.Board.seen c.args.b.now).meter (g.B.Board.seen c.power_off.new.b).meter (taken event.Off earlier) same refl c.power_off.ensures.switched.memory c.power_off.ensures.power c.power_off.ensures.switched.meter)))
 
 pub returns-in-Tamper : goal.returns-in-Tamper
 returns-in-Tamper g c =
     answers_more {n = 35} {limit = 139744} (omega arith) (omega arith) c.in-Tamper.is
     (switches 35 139744 c.args.self c.power_off-in-Tamper.result event.Tamper reply.Tampered (g.B.Board.seen c.args.b.now) (g.B.Board.seen c.power_off-in-Tamper.new.b) c.args.hashes.now c.power_off-in-Tamper.ensures.switched refl (trees_go 0 event.Tamper reply.Tampered (trees_of c.args.self) (trees_of c.power_off-in-Tamper.result) refl refl refl) tt
     (λ earlier world sound same.
-        is_tampered c.args.self c.power_off-in-Tamper.result earlier (held_in (g.B.Board.seen c.power_off-in-Tamper.new.b)) world sound c.power_off-in-Tamper.ensures.device
-        (off_same (g.B.Board.seen c.args.b.now).memory (g.B.Board.seen c.power_off-in-Tamper.new.b).memory (g.B.Board.seen c.args.b.now).power (g.B.Board.seen c.power_off-in-Tamper.new.b).power (g.B.Board.seen c.args.b.now).level (g.B.Board.seen c.power_off-in-Tamper.new.b).level (g.B.Board.seen c.args.b.now).meter (g.B.Board.seen c.power_off-in-Tamper.new.b).meter (taken event.Tamper earlier) same refl c.power_off-in-Tamper.ensures.switched.memory c.power_off-in-Tamper.ensures.power c.power_off-in-Tamper.ensures.switched.meter)))
+    is_tampered c.args.self c.power_off-in-Tamper.result earlier (held_in (g.B.Board.seen c.power_off-in-Tamper.new.b)) world sound c.power_off-in-Tamper.ensures.device
+    (off_same (g.B.Board.seen c.args.b.now).memory (g.B.Board.seen c.power_off-in-Tamper.new.b).memory (g.B.Board.seen c.args.b.now).power (g.B.Board.seen c.power_off-in-Tamper.new.b).power (g.B.Board.seen c.args.b.now).level (g.B.Board.seen c.power_off-in-Tamper.new.b).level (g.B.Board.seen c.args.b.now).meter (g.B.Board.seen c.power_off-in-Tamper.new.b).meter (taken event.Tamper earlier) same refl c.power_off-in-Tamper.ensures.switched.memory c.power_off-in-Tamper.ensures.power c.power_off-in-Tamper.ensures.switched.meter)))
 
 pub returns-in-Cut : goal.returns-in-Cut
 returns-in-Cut g c =

@@ -35,8 +35,8 @@ pub returns-then-region-eq2-3 : goal.returns-then-region-eq2-3
 returns-then-region-eq2-3 g c =
     refused _ _ c.args.self (device.Three c.in-Three.up c.in-Three.running) c.args.event.now c.reply-then-region-eq2-3.result WrongLayer (g.B.Board.seen c.args.b.now) c.args.hashes.now c.in-Three.is c.reply-then-region-eq2-3.ensures (layer_taken c.args.event.now c.requires.event)
     (λ world own.
-        use_refused (device.Three c.in-Three.up c.in-Three.running) 3 2 c.in-Three.running (held_in (g.B.Board.seen c.args.b.now)) world c.args.event.now c.reply-then-region-eq2-3.result c.requires.event
-        (sym c.if-region-eq2-3.true ∙ c.requires.region) c.reply-then-region-eq2-3.ensures own own.fits own.fits (inl refl))
+    use_refused (device.Three c.in-Three.up c.in-Three.running) 3 2 c.in-Three.running (held_in (g.B.Board.seen c.args.b.now)) world c.args.event.now c.reply-then-region-eq2-3.result c.requires.event
+    (sym c.if-region-eq2-3.true ∙ c.requires.region) c.reply-then-region-eq2-3.ensures own own.fits own.fits (inl refl))
 
 pub use_at-requires-else-region-eq2-3-clause-region : goal.use_at-requires-else-region-eq2-3-clause-region
 use_at-requires-else-region-eq2-3-clause-region g c = named_three c.args.event.now c.args.region c.requires.event c.requires.script c.requires.region c.if-region-eq2-3.false
