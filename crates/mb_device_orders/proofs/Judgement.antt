@@ -31,7 +31,7 @@ use Rattle.mb_model_memory.specs.Holding.{IsReady}
 use Rattle.mb_model_memory.specs.Storable.{IsStorableState}
 use Rattle.mb_model_memory.proofs.StorableMemories.{stands_storable}
 use Rattle.mb_region.specs.Regions.{HoldsSomeRegion}
-use Rattle.mb_boot.specs.Settling.{IsOnlyRoot}
+use Rattle.mb_area.specs.Roots.{IsOnlyRoot}
 use Rattle.mb_device_orders.specs.declared.remembering.Known.{Known}
 use Rattle.mb_device_orders.specs.Remembering.{Knows, IsRemembered}
 use Rattle.mb_device_orders.specs.Planning.{ReadsText, FailsWith}

@@ -24,7 +24,7 @@ use Rattle.mb_model_memory.specs.Holding.{IsReady}
 use Rattle.mb_layout.specs.declared.room.Room.{Room}
 use Rattle.mb_orders.specs.declared.plan.Plan.{Plan}
 use Rattle.mb_orders.specs.Judging.{plan_by}
-use Rattle.mb_boot.specs.Settling.{IsOnlyRoot}
+use Rattle.mb_area.specs.Roots.{IsOnlyRoot}
 use Rattle.mb_boot.specs.Signers.{HasSigners, HoldsDeviceTree, DeviceKeySigns}
 use Rattle.mb_boot.proofs.Signers.{second_signs}
 use Rattle.mb_signer.specs.declared.bench.Bench.{Bench}

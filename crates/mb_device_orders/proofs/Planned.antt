@@ -47,7 +47,7 @@ use Rattle.mb_model_memory.proofs.FlashHeaders.{entries_have_texts, code_brought
 use Rattle.mb_model_memory.proofs.StorableMemories.{stands_storable}
 use Rattle.mb_model_memory.proofs.StorableOrders.{obeyed_storable, least_one, may_be_for}
 use Rattle.mb_layout.specs.declared.room.Room.{Room}
-use Rattle.mb_boot.specs.Settling.{IsOnlyRoot}
+use Rattle.mb_area.specs.Roots.{IsOnlyRoot}
 use Rattle.mb_device_orders.specs.declared.judging.Judged.{Judged}
 use Rattle.mb_outbound.specs.declared.kept.RegionTree.{RegionTree}
 use Rattle.mb_outbound.specs.KeptTrees.{IsKeptIn}

@@ -30,7 +30,7 @@ use Rattle.mb_model_memory.specs.Commits.{root_for, new_entries, at_rest}
 use Rattle.mb_model_memory.specs.Holding.{Holds, IsReady}
 use Rattle.mb_model_memory.specs.NextHeaders.{code_brought, header_after}
 use Rattle.mb_layout.specs.declared.room.Room.{Room}
-use Rattle.mb_boot.specs.Settling.{IsOnlyRoot}
+use Rattle.mb_area.specs.Roots.{IsOnlyRoot}
 use Rattle.mb_device_orders.specs.declared.judging.Judged.{Judged}
 
 -- ---- judging

@@ -12,4 +12,4 @@ mod stating;
 
 pub use binding::{BindEnd, bind};
 pub use kept::{RegionTree, region_tree};
-pub use stating::state_text;
+pub use stating::{Subject, state_text};
