@@ -3,7 +3,7 @@
 ghost use Rattle.std.proofs.Common.{◌≡◌, rules};
 
 use mb_model::Root;
-use mb_ratchet::{Off, One, Compartment, R1, Reaches, Register, Up};
+use mb_ratchet::{Compartment, Off, One, R1, Reaches, Register, Up};
 
 /// A device at level 1 with the root record that says that work is pending in it. It cannot be dropped: the work has to
 /// be done first.
