@@ -1,8 +1,7 @@
 //! The records that a device stores, read from bytes and written to bytes.
 //!
 //! This crate owns how layers, entries, root and region records are read and written, and how a record is found in an
-//! area of the battery-backed memory. It also owns the buffers in which a device works. It stands on the formats of
-//! `mb_model` (`LayerFormat`, `EntryFormat`, `RootFormat`, `RegionFormat`, `Memory`) and the fields of `mb_bytes`.
+//! area of the battery-backed memory. It also owns the buffers in which a device works.
 #![tactic(auto)]
 
 mod area;
