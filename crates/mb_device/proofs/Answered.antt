@@ -2,6 +2,7 @@
 use Rattle.std.proofs.Common.{◌≡◌, ℕ, ◌≤◌, List, false, Err, refl, sym, ap, subst, ◌∙◌, arith}
 use Rattle.std.specs.Prelude.{Ok}
 use Rattle.mb_board.specs.Calls.{Seen, IsMetered, IsSwitched, held_in}
+use Rattle.mb_boot.specs.Booting.{IsQuiet}
 use Rattle.mb_device_orders.proofs.Spared.{same_memory_spared}
 use Rattle.mb_model.specs.chains.Listing.{is_done}
 use Rattle.mb_model.specs.declared.event.Event.{Event}
@@ -24,18 +25,18 @@ use Rattle.mb_device.proofs.Uses.{unmetered}
 
 -- ---- by cases on events and on answers
 
-pub if_boot : (e : Event) {P : Type 0} → P → IfBoot e P
-if_boot event.Boot is = is
-if_boot event.Off is = tt
-if_boot event.Tamper is = tt
-if_boot event.Status is = tt
-if_boot event.Go is = tt
-if_boot (event.Cut count tear) is = tt
-if_boot (event.Order text draw) is = tt
-if_boot (event.Put M name value) is = tt
-if_boot (event.Get M name) is = tt
-if_boot (event.Drop M name) is = tt
-if_boot (event.Sign M key message) is = tt
+pub if_boot : (e : Event) (P : Type 0) → P → IfBoot e P
+if_boot event.Boot P is = is
+if_boot event.Off P is = tt
+if_boot event.Tamper P is = tt
+if_boot event.Status P is = tt
+if_boot event.Go P is = tt
+if_boot (event.Cut count tear) P is = tt
+if_boot (event.Order text draw) P is = tt
+if_boot (event.Put M name value) P is = tt
+if_boot (event.Get M name) P is = tt
+if_boot (event.Drop M name) P is = tt
+if_boot (event.Sign M key message) P is = tt
 
 pub undone_kept : (e : Event) (answer : Reply) (after : Device) → is_done answer ≡ false → KeepsTreeOnceDone e answer after
 undone_kept event.Boot answer after undone = tt
@@ -51,18 +52,18 @@ undone_kept (event.Drop M name) answer after undone = tt
 undone_kept (event.Sign M key message) answer after undone = tt
 
 -- of a layer's use of its region nothing is said that is of boots and orders
-pub layer_boots_none : (e : Event) {P : Type 0} → IsLayerEvent e → IfBoot e P
-layer_boots_none event.Boot is = absurd is
-layer_boots_none event.Off is = absurd is
-layer_boots_none event.Tamper is = absurd is
-layer_boots_none event.Status is = absurd is
-layer_boots_none event.Go is = absurd is
-layer_boots_none (event.Cut count tear) is = absurd is
-layer_boots_none (event.Order text draw) is = absurd is
-layer_boots_none (event.Put M name value) is = tt
-layer_boots_none (event.Get M name) is = tt
-layer_boots_none (event.Drop M name) is = tt
-layer_boots_none (event.Sign M key message) is = tt
+pub layer_boots_none : (e : Event) (P : Type 0) → IsLayerEvent e → IfBoot e P
+layer_boots_none event.Boot P is = absurd is
+layer_boots_none event.Off P is = absurd is
+layer_boots_none event.Tamper P is = absurd is
+layer_boots_none event.Status P is = absurd is
+layer_boots_none event.Go P is = absurd is
+layer_boots_none (event.Cut count tear) P is = absurd is
+layer_boots_none (event.Order text draw) P is = absurd is
+layer_boots_none (event.Put M name value) P is = tt
+layer_boots_none (event.Get M name) P is = tt
+layer_boots_none (event.Drop M name) P is = tt
+layer_boots_none (event.Sign M key message) P is = tt
 
 pub layer_done_none : (e : Event) (answer : Reply) (after : Device) → IsLayerEvent e → KeepsTreeOnceDone e answer after
 layer_done_none event.Boot answer after is = absurd is
@@ -126,12 +127,12 @@ layer_taken (event.Sign M key message) is held = refl
 abbrev pub StepsTaken : Device → Event → Reply → Device → Held → Held → Type 0
 StepsTaken before e answer after now new = (earlier : Held) (world : World) → IsSoundDevice before earlier world → now ≡ taken e earlier → Steps world e answer after new
 
-pub sound_taken : {before : Device} {e : Event} {now earlier : Held} {world : World} → ((held : Held) → taken e held ≡ held) → now ≡ taken e earlier → IsSoundDevice before earlier world → IsSoundDevice before now world
-sound_taken {before} {e} {now} {earlier} {world} still same sound = subst (λ (h : Held). IsSoundDevice before h world) (sym (same ∙ still earlier)) sound
+pub sound_taken : (e : Event) {before : Device} {now earlier : Held} {world : World} → ((held : Held) → taken e held ≡ held) → now ≡ taken e earlier → IsSoundDevice before earlier world → IsSoundDevice before now world
+sound_taken e {before} {now} {earlier} {world} still same sound = subst (λ (h : Held). IsSoundDevice before h world) (sym (same ∙ still earlier)) sound
 
-pub as_taken : {before after : Device} {e : Event} {answer : Reply} {now new : Held} → ((held : Held) → taken e held ≡ held) → ((world : World) → IsSoundDevice before now world → Steps world e answer after new)
+pub as_taken : (e : Event) {before after : Device} {answer : Reply} {now new : Held} → ((held : Held) → taken e held ≡ held) → ((world : World) → IsSoundDevice before now world → Steps world e answer after new)
     → StepsTaken before e answer after now new
-as_taken still steps = λ earlier world sound same. steps world (sound_taken still same sound)
+as_taken e still steps = λ earlier world sound same. steps world (sound_taken e still same sound)
 
 -- ---- answers that change nothing but power and level
 
@@ -141,7 +142,7 @@ pub switches : (n limit : ℕ) (before after : Device) (e : Event) (answer : Rep
 switches n limit before after e answer old new hashes switched goes_on trees done steps = record {
   steps = steps;
   untold = λ unwritten. (switched.memory, switched.meter);
-  quiet = if_boot e (record { quiet = λ state clean. (switched.memory, switched.meter) });
+  quiet = if_boot e (IsQuiet old.memory new.memory old.meter new.meter) (record { quiet = λ state clean. (switched.memory, switched.meter) });
   spared = same_memory_spared old.memory new.memory switched.memory;
   events = record { ledger = switched.ledger; meter = unmetered n answer old.meter new.meter goes_on switched.meter };
   trees = trees;
@@ -158,7 +159,7 @@ pub refused : (n limit : ℕ) (before after : Device) (e : Event) (answer : Repl
 refused n limit before after e answer refusal seen hashes same told still steps =
     subst (λ (device : Device). Answers n limit device e (after, answer) seen seen hashes hashes) (sym same)
     (switches n limit after after e answer seen seen hashes (record { memory = refl; ledger = refl; meter = refl }) (ap stop_told told)
-    (trees_refused after after after e answer refusal refl refl told) (undone_kept e answer after (refused_undone refusal answer told)) (as_taken still steps))
+    (trees_refused after after after e answer refusal refl refl told) (undone_kept e answer after (refused_undone refusal answer told)) (as_taken e still steps))
 
 -- one that the machine makes too
 pub refused_by : (n limit : ℕ) (before after : Device) (e : Event) (answer : Reply) (refusal : Refusal) (seen : Seen) (hashes : ℕ) → before ≡ after → answer ≡ refusal_reply refusal

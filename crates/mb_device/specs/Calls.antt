@@ -18,10 +18,10 @@ use Rattle.mb_device.specs.Stepping.{stop_told, IfNothingTold, IfBoot}
 -- A device has answered an event, in at most n write calls and so many hashes. It was sound for what its board held
 -- earlier, before the event was handed out.
 pub record Answers
-    (n limit : ℕ) (device : Device) (event : Event) (told : Device × Reply) (before after : Seen) (hashes hashes_after : ℕ)
-    : Type 0 where
-  pub steps : (earlier : Held) (world : World) → IsSoundDevice device earlier world → held_in before ≡ taken event earlier
-      → Steps world event told.1 told.0 (held_in after)
+    (n limit : ℕ) (device : Device) (event : Event) (told : Device × Reply) (before after : Seen)
+    (hashes hashes_after : ℕ) : Type 0 where
+  pub steps : (earlier : Held) (world : World) → IsSoundDevice device earlier world
+      → held_in before ≡ taken event earlier → Steps world event told.1 told.0 (held_in after)
   pub untold : IfNothingTold told.1 before.memory after.memory before.meter after.meter
   pub quiet : IfBoot event (IsQuiet before.memory after.memory before.meter after.meter)
   pub spared : SparesSectors before.memory after.memory

@@ -10,33 +10,11 @@ ghost use Rattle.mb_device.specs.declared.step.TheConstants.{STEP_HASHES};
 
 use crate::device::Device;
 use mb_board::Board;
-use mb_device_orders::{Running, obey};
+use mb_device_orders::obey;
 use mb_lms::HashCount;
 use mb_model::{Refusal, Reply};
-use mb_ratchet::{R1, Up};
 use std::alloc::Global;
 use std::sync::ledger::Ledger;
-
-/// Answers an order while layer 1 runs.
-fn take_order<B: Board, L: Ledger>(
-    alloc: Global,
-    up: Up<R1>,
-    running: Running,
-    b: &mut B,
-    text: &[u8],
-    draw: &[u8; 32],
-    hashes: &mut HashCount<L>,
-) -> (Device, Reply)
-    requires bytes { AreBytes (B.seen b.old).memory }
-    requires sound { HasSound (Device.One up running) (held_in (B.seen b.old)) }
-    ensures { Answers WRITE_LIMIT STEP_HASHES (Device.One up running) (event.Order text.now draw.now) result (B.seen b.old) (B.seen b.new) hashes.old hashes.new }
-{
-    let mut running = running;
-    match obey(alloc, up, b, &mut running, text, draw, hashes) {
-        Ok((up, reply)) => (Device::One(up, running), reply),
-        Err(off) => (Device::Off(off), Reply::Stopped),
-    }
-}
 
 impl Device {
     /// Answers an order. Only layer 1 takes one.
@@ -55,7 +33,13 @@ impl Device {
         match self {
             Device::Off(off) => (Device::Off(off), Refusal::PoweredOff.reply()),
             Device::Dead(dead) => (Device::Dead(dead), Refusal::Zeroised.reply()),
-            Device::One(up, running) => take_order(alloc, up, running, b, text, draw, hashes),
+            Device::One(up, running) => {
+                let mut running = running;
+                match obey(alloc, up, b, &mut running, text, draw, hashes) {
+                    Ok((up, reply)) => (Device::One(up, running), reply),
+                    Err(off) => (Device::Off(off), Reply::Stopped),
+                }
+            }
             Device::Two(up, running) => (Device::Two(up, running), Refusal::WrongPhase.reply()),
             Device::Three(up, running) => (Device::Three(up, running), Refusal::WrongPhase.reply()),
         }

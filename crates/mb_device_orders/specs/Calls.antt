@@ -1,5 +1,6 @@
 -- What the calls of this crate promise, where that is longer than a line.
-use Rattle.std.specs.Prelude.{◌≡◌, ℕ, ◌+◌, ◌*◌, ◌≤◌, ◌⊎◌, List, true, false, None, IsSome, Result, IfOk, IfErr, OnOk, OnErr}
+use Rattle.std.specs.Prelude.{◌≡◌, ℕ, ◌+◌, ◌*◌, ◌≤◌, ◌⊎◌, List, true, false, None, IsSome}
+use Rattle.std.specs.Prelude.{Result, IfOk, IfErr, OnOk, OnErr}
 use Rattle.mb_area.specs.Roots.{IsOnlyRoot}
 use Rattle.mb_board.specs.Calls.{Seen, Ran}
 use Rattle.mb_boot.specs.Signers.{HasSigners, HoldsDeviceTree}
@@ -33,7 +34,9 @@ pub record Judges
   pub judged : (state : State) → IsReady memory state → Knows known state → JudgesText state text draw result
   pub undone : IfErr result (λ answer. is_done answer ≡ false)
   pub root : IfOk result (λ judged. IsOnlyRoot memory.bbram judged.root)
-  pub at_hand : IfOk result (λ judged. IsSome judged.plan.bodies.outgoing → HasTree bench_after judged.plan.bodies.device)
+  pub at_hand : IfOk
+      result
+      (λ judged. IsSome judged.plan.bodies.outgoing → HasTree bench_after judged.plan.bodies.device)
   pub room : IsBare bench → HasRoom bench_after
   pub stays : known_after ≡ known
   pub cost : hashes_after ≤ hashes + 2 * TREE_HASHES

@@ -33,8 +33,8 @@ pub record IsRemembered (known : Known) (memory : Memory) : Type 0 where
   pub ready : IsReady memory state
   pub knows : Knows known state
 
--- A board that shows this can be used at the level, and its battery-backed memory holds bytes. The device is ready for an
--- event, and remembers its state.
+-- A board that shows this can be used at the level, and its battery-backed memory holds bytes. The device is ready for
+-- an event, and remembers its state.
 pub record CanAnswer (level : ℕ) (known : Known) (seen : Seen) : Type 0 where
   pub up : IsUp level seen
   pub bytes : IsBytes seen.memory.bbram

@@ -22,7 +22,7 @@ returns-in-Put-clause-answers g c =
 pub returns-in-Get-clause-answers : goal.returns-in-Get-clause-answers
 returns-in-Get-clause-answers g c =
     subst (λ (e : Event). AnswersIn g.L.Compartment.place (layer_outcome g.L.Compartment.place e) c.args.running.now (record c.args.running.now { room = c.get_secret-reply.new.room }) (Ok (c.args.s, c.get_secret-reply.result)) (g.B.Board.seen c.args.b.now) (g.B.Board.seen c.args.b.now)) (sym c.in-Get.is)
-    (answers_idle g.L.Compartment.place _ (get_event g.L.Compartment.place c.in-Get.name.now) c.args.running.now _ c.args.s c.get_secret-reply.result (g.B.Board.seen c.args.b.now) c.requires.can_answer.up refl c.get_secret-reply.ensures.plans c.get_secret-reply.ensures.told)
+    (answers_idle g.L.Compartment.place _ (get_event g.L.Compartment.place c.in-Get.name) c.args.running.now _ c.args.s c.get_secret-reply.result (g.B.Board.seen c.args.b.now) c.requires.can_answer.up refl c.get_secret-reply.ensures.plans c.get_secret-reply.ensures.told)
 
 pub returns-in-Drop-clause-answers : goal.returns-in-Drop-clause-answers
 returns-in-Drop-clause-answers g c =

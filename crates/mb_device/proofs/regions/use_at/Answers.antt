@@ -35,7 +35,7 @@ returns-then-not-may_run g c =
 
 pub returns-in-Ok : goal.returns-in-Ok
 returns-in-Ok g c = record {
-  steps = as_taken (layer_taken c.args.event.now c.requires.event) (λ world sound.
+  steps = as_taken c.args.event.now (layer_taken c.args.event.now c.requires.event) (λ world sound.
       let own = g.met.S.Runs.runs c.args.s c.args.running world sound.fits in
       let up = is_up (g.S.Runs.holder c.args.s c.args.running) g.S.Runs.level (g.B.Board.seen c.args.b.now) world sound own.phase in
       let used : IsUse g.S.Runs.level g.L.Compartment.place (g.S.Runs.holder c.args.s c.args.running) c.args.running c.args.event.now (g.B.Board.seen c.args.b.now).memory (g.B.Board.seen c.args.b.now).power (g.B.Board.seen c.args.b.now).level (g.B.Board.seen c.args.b.now).meter world = record {
@@ -54,7 +54,7 @@ returns-in-Ok g c = record {
       (c.in-Ok.ensures.answers.told own.state ready runs own.knows) (c.in-Ok.ensures.answers.ran.ran.power ∙ sym up.on) c.in-Ok.ensures.answers.ran.ran.level c.in-Ok.ensures.answers.ran.ran.meter.armed up.on up.at_level
       (λ w is. subst (λ (d : Device). Fits d w) (sym c.into_device-in-Ok.ensures) (g.met.S.Runs.fits c.in-Ok.s c.ask.new.running w is)) (c.in-Ok.ensures.answers.known own.state ready own.knows));
   untold = λ unwritten. c.in-Ok.ensures.answers.writes (uncut c.in-Ok.reply unwritten);
-  quiet = layer_boots_none c.args.event.now c.requires.event;
+  quiet = layer_boots_none c.args.event.now _ c.requires.event;
   spared = same_flash_spared _ _ c.in-Ok.ensures.answers.ran.flash;
   events = (
       let world = c.requires.sound.world in
@@ -90,7 +90,7 @@ returns-in-Ok g c = record {
 
 pub returns-in-Err : goal.returns-in-Err
 returns-in-Err g c = record {
-  steps = as_taken (layer_taken c.args.event.now c.requires.event) (λ world sound.
+  steps = as_taken c.args.event.now (layer_taken c.args.event.now c.requires.event) (λ world sound.
       let own = g.met.S.Runs.runs c.args.s c.args.running world sound.fits in
       let up = is_up (g.S.Runs.holder c.args.s c.args.running) g.S.Runs.level (g.B.Board.seen c.args.b.now) world sound own.phase in
       let used : IsUse g.S.Runs.level g.L.Compartment.place (g.S.Runs.holder c.args.s c.args.running) c.args.running c.args.event.now (g.B.Board.seen c.args.b.now).memory (g.B.Board.seen c.args.b.now).power (g.B.Board.seen c.args.b.now).level (g.B.Board.seen c.args.b.now).meter world = record {
@@ -107,7 +107,7 @@ returns-in-Err g c = record {
       use_cut g.S.Runs.level g.L.Compartment.place (g.S.Runs.holder c.args.s c.args.running) c.args.running c.args.event.now (g.B.Board.seen c.args.b.now).memory (g.B.Board.seen c.args.b.now).power (g.B.Board.seen c.args.b.now).level (g.B.Board.seen c.args.b.now).meter world used
       c.in-Err.off (g.B.Board.seen c.ask.new.b).memory (g.B.Board.seen c.ask.new.b).power (g.B.Board.seen c.ask.new.b).level (g.B.Board.seen c.ask.new.b).meter (c.in-Err.ensures.answers.told own.state ready runs own.knows) c.in-Err.ensures.answers.ran.ran.power c.in-Err.ensures.answers.ran.ran.meter.armed c.in-Err.ensures.answers.ran.ran.meter.cut);
   untold = λ unwritten. absurd (cc);
-  quiet = layer_boots_none c.args.event.now c.requires.event;
+  quiet = layer_boots_none c.args.event.now _ c.requires.event;
   spared = same_flash_spared _ _ c.in-Err.ensures.answers.ran.flash;
   events = record { ledger = c.in-Err.ensures.answers.ran.ran.ledger; meter = stopped_by 3 c.in-Err.off _ _ c.in-Err.ensures.answers.ran.ran.meter };
   trees = trees_go (region_named c.args.event.now) c.args.event.now reply.Stopped (trees_of (g.S.Runs.holder c.args.s c.args.running)) None refl refl refl;

@@ -1,3 +1,4 @@
+use Rattle.std.proofs.Common.{refl}
 use Rattle.mb_model.specs.declared.event.Event.TheVariants as event
 use Rattle.mb_model.specs.declared.reply.Refusal.TheVariants.{WrongPhase, Zeroised}
 use Rattle.mb_device.specs.declared.device.Device.TheVariants as device

@@ -41,12 +41,12 @@ returns-in-Status g c =
     answers_more {n = 35} {limit = 139744} (omega arith) (omega arith) c.in-Status.is
     (switches 35 139744 c.args.self c.args.self event.Status c.status-reply.result (g.B.Board.seen c.args.b.now) (g.B.Board.seen c.args.b.now) c.args.hashes.now (record { memory = refl; ledger = refl; meter = refl }) c.status-reply.ensures.goes_on
     (trees_stay c.args.self c.args.self c.args.self event.Status c.status-reply.result refl refl tt) tt
-    (as_taken (λ held. refl) (λ world sound. stays c.args.self c.args.self (held_in (g.B.Board.seen c.args.b.now)) world event.Status c.status-reply.result (c.status-reply.ensures.told world sound.fits sound.valid) sound sound.fits)))
+    (as_taken event.Status (λ held. refl) (λ world sound. stays c.args.self c.args.self (held_in (g.B.Board.seen c.args.b.now)) world event.Status c.status-reply.result (c.status-reply.ensures.told world sound.fits sound.valid) sound sound.fits)))
 
 pub returns-in-Go : goal.returns-in-Go
 returns-in-Go g c =
     answers_more {n = 35} {limit = 139744} (omega arith) (omega arith) c.in-Go.is
-    (switches 35 139744 c.args.self c.go.result.0 event.Go c.go.result.1 (g.B.Board.seen c.args.b.now) (g.B.Board.seen c.go.new.b) c.args.hashes.now c.go.ensures.switched c.go.ensures.goes_on c.go.ensures.trees tt (as_taken (λ held. refl) c.go.ensures.steps))
+    (switches 35 139744 c.args.self c.go.result.0 event.Go c.go.result.1 (g.B.Board.seen c.args.b.now) (g.B.Board.seen c.go.new.b) c.args.hashes.now c.go.ensures.switched c.go.ensures.goes_on c.go.ensures.trees tt (as_taken event.Go (λ held. refl) c.go.ensures.steps))
 
 pub returns-in-Order : goal.returns-in-Order
 returns-in-Order g c = answers_more (omega arith) (omega arith) (sliced c.in-Order.is c.as_slice.ensures) c.command.ensures
