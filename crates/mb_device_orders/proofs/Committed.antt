@@ -1,12 +1,12 @@
 -- How the steps of a commit join.
-use Rattle.std.proofs.Common.{◌≡◌, ◌≤◌, ◌<◌, ◌⊎◌, inl, inr, ℕ, ◌+◌, ◌-◌, ◌/◌, List, length, Bool, true, false, Option, None, Some, Result, Ok, Err, refl, sym, ap, subst, ◌∙◌, arith, eqb-true}
+use Rattle.std.proofs.Common.{◌≡◌, ◌≤◌, ◌<◌, ◌⊎◌, inl, inr, ℕ, ◌+◌, ◌-◌, ◌/◌, List, length, Bool, true, false, Option, None, Some, refl, sym, ap, subst, ◌∙◌, arith, eqb-true}
 use Rattle.std.specs.Prelude.{◌==◌, IfSome, if◌then◌else◌}
 use Rattle.mb_model.specs.declared.order.Order.{Order}
 use Rattle.mb_model.specs.declared.state.Codes.{Codes}
 use Rattle.mb_model.specs.declared.state.State.{State}
 use Rattle.mb_model.specs.declared.stored.Header.{Header}
 use Rattle.mb_model.specs.declared.stored.Root.{Root}
-use Rattle.mb_model.specs.outside.Board.{Memory, Meter, IsLoaded}
+use Rattle.mb_model.specs.outside.Board.{Memory, IsLoaded}
 use Rattle.mb_model.specs.memories.Clean.{root_of}
 use Rattle.mb_model.specs.memories.Flash.{sector, HoldsHeader, HoldsPublic}
 use Rattle.mb_model.specs.records.HeaderFormat.{header_format}
@@ -29,7 +29,6 @@ use Rattle.mb_model_memory.proofs.FlashWrites.{order_written}
 use Rattle.mb_model_memory.proofs.HoldingLemmas.{contents_keep}
 use Rattle.mb_model_memory.proofs.StorableMemories.{stands_storable}
 use Rattle.mb_model_memory.proofs.StorableRecords.{committed_root}
-use Rattle.mb_board.specs.Calls.{IsMetered, Seen, Ran}
 use Rattle.mb_layout.specs.declared.room.Room.{Room}
 use Rattle.mb_area.specs.Flashes.{HoldsSomeHeader, IsCurrentArea, IsPlan, IsPublicWritten, code_to_write, code_sectors}
 use Rattle.mb_area.specs.Roots.{HasSomeRoot, CommitsRoot}

@@ -1,17 +1,16 @@
 -- What calls hand on of what the calls beneath them promise.
 use Rattle.std.proofs.Common.{◌≡◌, ℕ, Ok, Err, refl, arith, ◌∙◌}
-use Rattle.mb_board.specs.Calls.{Seen, IsUp, IsMetered, Ran, RanOnBbram}
+use Rattle.mb_board.specs.Calls.{Seen, IsUp, RanOnBbram}
 use Rattle.mb_layout.specs.declared.room.Room.{Room}
 use Rattle.mb_layout.specs.Plans.{SamePlans}
 use Rattle.mb_model.specs.declared.reply.Reply.{Reply}
 use Rattle.mb_model.specs.declared.state.State.{State}
 use Rattle.mb_model.specs.machine.LayerEvents.{Outcome}
-use Rattle.mb_model.specs.owners.Layers.{Runnable}
 use Rattle.mb_model_memory.specs.Answering.{IsAnswered}
 use Rattle.mb_model_memory.specs.Holding.{IsReady, HasReady}
 use Rattle.mb_device_orders.specs.declared.remembering.Known.{Known}
 use Rattle.mb_device_orders.specs.declared.remembering.Running.{Running}
-use Rattle.mb_device_orders.specs.Remembering.{Knows, CanAnswer, IsRemembered}
+use Rattle.mb_device_orders.specs.Remembering.{CanAnswer}
 use Rattle.mb_slot.specs.Slots.{RanInSlot}
 use Rattle.mb_device_regions.specs.Calls.{AnswersIn}
 

@@ -3,7 +3,6 @@ use Rattle.mb_model.specs.declared.event.Event.{Event}
 use Rattle.mb_model.specs.declared.event.Event.TheVariants as event
 use Rattle.mb_model.specs.machine.LayerEvents.{get_event}
 use Rattle.mb_device_orders.specs.declared.remembering.Known.{Known}
-use Rattle.mb_device_orders.specs.Remembering.{CanAnswer}
 use Rattle.mb_device_regions.specs.Calls.{AnswersIn}
 use Rattle.mb_device_regions.proofs.Promised.{remembered_ready, answers_idle}
 use Rattle.mb_device.specs.Calls.{SignsIn}

@@ -5,7 +5,7 @@ use Rattle.mb_area.specs.Roots.{IsOnlyRoot}
 use Rattle.mb_boot.specs.Calls.{UsesTrees}
 use Rattle.mb_boot.specs.Signers.{HasSigners, HoldsDeviceTree, DeviceKeySigns}
 use Rattle.mb_signer.specs.Benches.{HasTree}
-use Rattle.mb_device_orders.proofs.Committed.{IsCommitted, root_committed, root_still, small_next, area_there, plan_is, root_allowed, live_committed, means_old, means_either, means_committed, ready_committed, spared_before, spared_after, few_sectors}
+use Rattle.mb_device_orders.proofs.Committed.{IsCommitted, root_still, small_next, area_there, plan_is, root_allowed, live_committed, means_old, means_either, means_committed, ready_committed, spared_before, spared_after, few_sectors}
 use Rattle.mb_boot.proofs.Joined.{ran_then, ok_most, err_most}
 use Rattle.mb_device_orders.proofs.KeptTrees.{device_key_signs}
 use Rattle.mb_device_orders.proofs.committing.commit.Goals as goal

@@ -3,7 +3,6 @@ use Rattle.std.proofs.lemmas.Result.{err_from_is_err_and}
 use Rattle.mb_model.specs.declared.region.Secret.{Secret}
 use Rattle.mb_model.specs.machine.LayerEvents.{put_event}
 use Rattle.mb_model.specs.owners.Regions.{region_of}
-use Rattle.mb_model_memory.specs.Answering.{lacks}
 use Rattle.mb_device_regions.specs.declared.end.NotPut.TheVariants.{Full}
 use Rattle.mb_device_regions.specs.Secrets.{PutsInto}
 use Rattle.mb_device_regions.proofs.Outcomes.{put_refused, put_told, put_cut}
