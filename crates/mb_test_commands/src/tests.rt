@@ -13,6 +13,7 @@ mod limits;
 mod policies;
 mod runs;
 mod short_files;
+mod short_orders;
 mod shown;
 mod sign;
 mod statuses;

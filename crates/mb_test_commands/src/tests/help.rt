@@ -4,7 +4,8 @@ use super::{Play, Step, perform};
 use std::test::Fail;
 
 /// The text of `--help`. `checks/documents.sh` finds it in docs/use/commands.md.
-const HELP: &str = "miniboot simulates a secure coprocessor, and provides the tools of its maker, owners and verifiers.
+const HELP: &str =
+    "miniboot simulates a secure coprocessor, and provides the tools of its maker, owners and verifiers.
 
 to make keys and devices:
   miniboot keygen NOISE KEY PUBLIC
