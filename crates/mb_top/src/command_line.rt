@@ -18,7 +18,8 @@ use mb_host::Host;
 use std::alloc::Global;
 
 /// The beginning of the text that `--help` prints.
-pub const HEAD: &str = "miniboot simulates a secure coprocessor, and provides the tools of its maker, owners and verifiers.
+pub const HEAD: &str =
+    "miniboot simulates a secure coprocessor, and provides the tools of its maker, owners and verifiers.
 ";
 
 /// The end of the text that `--help` prints.
