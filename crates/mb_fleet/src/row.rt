@@ -43,7 +43,7 @@ impl CodeHashes {
 }
 
 /// The row of the device whose chain shows this. Takes no memory.
-#[tactic(auto, using(crate::proofs::Rowing::shown_row, crate::proofs::Rowing::shown_few))]
+#[tactic(auto, using(crate::proofs::Rowing::shown_row))]
 pub(crate) fn row_of(shown: Shown) -> Row
     ensures row { (maker : PublicKey) (bytes : List ℕ) → ChainShows maker bytes shown → IsShown maker bytes result }
     ensures few { (maker : PublicKey) (bytes : List ℕ) → ChainShows maker bytes shown → HasFewEntries result }
