@@ -7,7 +7,7 @@ set -euo pipefail
 export LC_ALL=C
 cd "$(dirname "${BASH_SOURCE[0]}")/.."
 . bench/program.sh
-program orders mb_files mb_host mb_lms mb_signer mb_model mb_command mb_orders
+program orders mb_files mb_host mb_lms mb_signer mb_model mb_command mb_log mb_orders
 
 PYTHONPATH=peers python3 - "$work" <<'PYTHON'
 import pathlib

@@ -11,15 +11,17 @@
 # each file of code that is named by its end; no line but that of a table has over 120 columns; each row of a crate's
 # page, its README.md, names public calls of the crate, and clauses that these calls have, and so does what the page has
 # that they do not say; each clause of each public call has a row there, but for those that the table of common clauses
-# in docs/believe/crates.md has; each crate has a line in crates.txt, with what it owns above it; the tables of commands
-# in docs/use/commands.md and docs/believe/statuses.md, and the lists of commands in peers/commands.py, checks/fuzz,
-# checks/hostile and mb_test_commands have the commands of --help, with as many words and the same files; the version
-# that CHANGELOG.md names is the one that a test expects of --version, and that of the library's header and of its crate
-# for Rust; each block of a tutorial in docs/start/ stands in an example, and each line in its tables is listed, with its
-# status, in docs/use/commands.md or docs/use/formats.md; each file of definitions that a clause of `top` reaches is
-# named in a section of docs/believe/definitions.md, and the counts of such files and their lines there and in
-# docs/believe/theorem.md are right within a tenth. A method of a trait is a call of the type that implements it if it
-# has clauses of its own there. Prints a line for each that is wrong, and nothing if none is.
+# in docs/believe/crates.md has. A clause that cites a record of specs/Calls.antt, the file of what the calls of the
+# crate promise, is as many clauses as the record has fields, with their names. Each crate has a line in crates.txt,
+# with what it owns above it; the tables of commands in docs/use/commands.md and docs/believe/statuses.md, and the lists
+# of commands in peers/commands.py, checks/fuzz, checks/hostile and mb_test_commands have the commands of --help, with
+# as many words and the same files; the version that CHANGELOG.md names is the one that a test expects of --version, and
+# that of the library's header and of its crate for Rust; each block of a tutorial in docs/start/ stands in an example,
+# and each line in its tables is listed, with its status, in docs/use/commands.md or docs/use/formats.md; each file of
+# definitions that a clause of `top` reaches is named in a section of docs/believe/definitions.md, and the counts of
+# such files and their lines there and in docs/believe/theorem.md are right within a tenth. A method of a trait is a
+# call of the type that implements it if it has clauses of its own there. Prints a line for each that is wrong, and
+# nothing if none is.
 set -u
 cd "$(dirname "$0")/.." || exit 2
 
@@ -44,7 +46,12 @@ CODE = re.compile(r"`([a-z_/]+\.rt)`")
 WIDEST = 120
 HEADER = re.compile(r"^(?:pub )?(?:unsafe )?(impl|trait)\b(.*)")
 CALL = re.compile(r'^\s*(pub )?(?:const )?(?:extern "C" )?fn ([a-z_0-9]+)')
-CLAUSE = re.compile(r"^\s*ensures (?:([a-z_0-9]+) )?\{")
+CLAUSE = re.compile(
+    r"^\s*ensures (?:(?P<name>[a-z_0-9]+) )?\{(?P<text>.*?)(?=^\s*(?:ensures|requires|decreases)\b|\Z)", re.M | re.S
+)
+PROMISES = "-- What the calls of this crate promise"
+RECORD = re.compile(r"^pub record (\w+)(.*?)(?=^\S|\Z)", re.M | re.S)
+FIELD = re.compile(r"^  pub (\w+) :", re.M)
 UNNAMED = "its one clause"
 COMMON = "common clause"
 LIBRARY_VERSIONS = {
@@ -142,9 +149,25 @@ def exported_by(root):
     return names
 
 
+def promises_of(crate):
+    """The records of what the calls of a crate promise, by name, with their fields."""
+    path = crate / "specs/Calls.antt"
+    text = path.read_text() if path.exists() else ""
+    return {name: FIELD.findall(rest) for name, rest in RECORD.findall(text)} if text.startswith(PROMISES) else {}
+
+
+def clauses_in(contract, promises):
+    """The names of what a contract ensures: of its clauses, or of the fields of the records that they cite."""
+    names = set()
+    for clause in CLAUSE.finditer("\n".join(contract)):
+        fields = [name for word in re.findall(r"\w+", clause["text"]) for name in promises.get(word, [])]
+        names.update(fields or [clause["name"] or UNNAMED])
+    return names
+
+
 def calls_of(crate):
     """The public calls of a crate, by name and by type and name, with their clauses."""
-    calls = {}
+    calls, promises = {}, promises_of(crate)
     exported = exported_by(crate / "src/lib.rt")
     for path in sorted((crate / "src").rglob("*.rt")):
         if "tests" in path.parts or path.name == "tests.rt":
@@ -161,7 +184,7 @@ def calls_of(crate):
             call = CALL.match(line)
             if not call or not (call[1] or in_trait or of_trait) or (owner or call[2]) not in exported:
                 continue
-            clauses = {c[1] or UNNAMED for c in map(CLAUSE.match, contract_from(lines, at)) if c}
+            clauses = clauses_in(contract_from(lines, at), promises)
             if of_trait and not clauses:
                 continue
             name = f"{owner}::{call[2]}" if owner else call[2]

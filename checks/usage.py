@@ -35,7 +35,7 @@ class Command:
 @functools.lru_cache(None)
 def printed():
     """What --help and --version print."""
-    expected = dict(re.findall(r'^const ([A-Z]+): &str = "([^"]*)";', TEST.read_text(), re.M))
+    expected = dict(re.findall(r'^const ([A-Z]+): &str =\s*"([^"]*)";', TEST.read_text(), re.M))
     return expected["HELP"], expected["VERSION"].replace("\\n", "")
 
 

@@ -6,8 +6,8 @@ use Rattle.std.specs.Global.{Vec}
 use Rattle.mb_model.specs.declared.limits.TheConstants.{CODE_LIMIT}
 use Rattle.mb_bytes.specs.Puts.{Appends}
 use Rattle.mb_model.specs.chains.Lines.{HasLines}
-use Rattle.mb_appvm.specs.declared.assembling.AsmEnd.{AsmEnd}
-use Rattle.mb_appvm.specs.declared.assembling.AsmEnd.TheVariants as end
+use Rattle.mb_words.specs.declared.end.TextEnd.{TextEnd}
+use Rattle.mb_words.specs.declared.end.TextEnd.TheVariants as end
 use Rattle.mb_appvm.specs.declared.lines.Said.{Said}
 use Rattle.mb_appvm.specs.declared.lines.Said.TheVariants as says
 use Rattle.mb_appvm.specs.Assembly.{SaysAssemblyLine, size_of, is_label, LabelsDiffer, GivesLabel, Makes, piece}
@@ -77,7 +77,7 @@ pub record IsCode (all said : List Said) (code : List ℕ) : Type 0 where
   pub size : length code ≡ sum_by size_of said
 
 -- a text was assembled, or a line is the first that is wrong; of a failed allocation nothing is said
-abbrev pub AssemblesTo : List ℕ → Result (List ℕ) AsmEnd → Type 0
+abbrev pub AssemblesTo : List ℕ → Result (List ℕ) TextEnd → Type 0
 AssemblesTo text (Ok code) = Assembles text code
 AssemblesTo text (Err (end.BadLine line)) = AssemblyFailsAt text line
 AssemblesTo text (Err end.NoMemory) = Unit {0}

@@ -9,31 +9,12 @@ use crate::encoding::write_code;
 use crate::given::{Later, Lines};
 use crate::lines::{Said, read_line};
 use mb_model::{Bytes, NoMemory};
-use mb_words::split_line;
+use mb_words::{TextEnd, split_line};
 use std::alloc::Global;
 
-/// Why a text was not assembled.
-#[derive(Clone, Copy, Debug, PartialEq, Eq)]
-pub enum AsmEnd {
-    /// A line is not in the grammar, repeats a label, names a label that no line gives, or takes the code past 32,768
-    /// bytes.
-    BadLine {
-        /// The number of the first such line, from 1.
-        line: u32,
-    },
-    /// An allocation failed.
-    NoMemory,
-}
-
-impl From<NoMemory> for AsmEnd {
-    ghost use Rattle.mb_appvm.specs.declared.assembling.AsmEnd.TheVariants as end;
-
-    ghost from_gives = { λ _ e. e ≡ end.NoMemory };
-
-    fn from(_error: NoMemory) -> AsmEnd {
-        AsmEnd::NoMemory
-    }
-}
+/// Why a text was not assembled: a line is not in the grammar, repeats a label, names a label that no line gives, or
+/// takes the code past 32,768 bytes; or an allocation failed.
+pub type AsmEnd = TextEnd;
 
 /// Assembles a text of at most 4,194,304 bytes to code of at most 32,768 bytes. A line is `label NAME`, or the name of
 /// an instruction with its operand; lines end with LF, which the last may lack.

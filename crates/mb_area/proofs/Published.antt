@@ -1,7 +1,6 @@
 -- What writes of code, header and log leave of a flash, and of what the memory holds.
-use Rattle.std.proofs.Common.{◌≡◌, ◌≢◌, ℕ, ◌+◌, ◌*◌, ◌-◌, ◌<◌, ◌≤◌, ◌==◌, ◌⊎◌, inl, inr, Bool, false, List, length, drop, OnOk, Result, refl, sym, ap, subst, ◌∙◌, arith}
-use Rattle.std.specs.Prelude.{IfSome, None, Some, if◌then◌else◌}
-use Rattle.std.specs.Global.{Vec}
+use Rattle.std.proofs.Common.{◌≡◌, ◌≢◌, ℕ, ◌+◌, ◌*◌, ◌-◌, ◌<◌, ◌≤◌, ◌==◌, ◌⊎◌, inl, inr, Bool, false, List, length, drop, OnOk, Result, Ok, Err, refl, sym, ap, subst, ◌∙◌, arith, rules}
+use Rattle.std.specs.Prelude.{if◌then◌else◌}
 use Rattle.std.proofs.lemmas.Bool.{cases_order, ne_eqb}
 use Rattle.std.proofs.lemmas.List.{take-take}
 use Rattle.mb_model.specs.declared.stored.Root.{Root}
@@ -24,8 +23,9 @@ use Rattle.mb_slot.specs.Slots.{IsSameOutside}
 use Rattle.mb_slot.proofs.Slotted.{on_ok}
 use Rattle.mb_flash.specs.Sectors.{sectors_for}
 use Rattle.mb_layout.specs.declared.room.Room.{Room}
-use Rattle.mb_layout.specs.Plans.{SamePlans}
-use Rattle.mb_area.specs.Flashes.{HasSomeHeader, HoldsSomeHeader, IsPublicWritten, IsPublicThere, IsSpared, code_sectors}
+use Rattle.mb_board.specs.Calls.{Seen}
+use Rattle.mb_area.specs.Flashes.{IsCurrentArea, IsPublicWritten, IsSpared, code_to_write, code_sectors}
+use Rattle.mb_area.specs.Calls.{WritesPublic}
 
 -- ---- sectors
 
@@ -136,54 +136,15 @@ spared_header before after area m n less sized is other same = by_order (cases_o
 pub header_agrees : (before after : List ℕ) (area n : ℕ) → area ≤ 1 → n ≡ header_sector (1 - area) → length before ≡ 1048576 → DiffersOnlyIn n 1 before after → AgreeForArea before after area
 header_agrees before after area n low is sized same = torn_header before after area low sized (subst (λ k. DiffersOnlyIn k 1 before after) is same)
 
--- ---- what is written next, as it was before
+-- ---- the current area
 
--- the same is written of a room with the same plans
-pub written_moved : (old room : Room) (header : Header) (area : ℕ) (before after : List ℕ) → SamePlans old room → IsPublicWritten room header area before after
-    → IsPublicWritten old header area before after
-written_moved old room header area before after same written = record {
-  between = written.between;
-  code = subst (λ (n : ℕ). IsCodeWritten n (slot_in header n) (if n == 0 then None else Some old.code.items) before written.between) same.code_layer
-      (subst (λ (v : Vec ℕ). IsCodeWritten room.code_layer (slot_in header room.code_layer) (if room.code_layer == 0 then None else Some v.items) before written.between) same.code written.code);
-  header = subst (λ (v : Vec ℕ). IsSectorWritten (header_sector (1 - area)) v.items written.between after) same.header written.header;
-}
+pub area_small : (memory : Memory) (area : ℕ) → IsCurrentArea memory area → area ≤ 1
+area_small memory area is = omega (arith, is.area_is, (bounded_by is.root is.only.holds.holds.spelled.allowed).area)
 
--- and the same sectors are spared
-pub spared_moved : (old room : Room) (header : Header) (area n : ℕ) → SamePlans old room → IsSpared old header area n → IsSpared room header area n
-spared_moved old room header area n same spared = record {
-  not_header = spared.not_header;
-  not_code = subst (λ (k : ℕ). (n < code_sector k (free_slot (slot_in header k))) ⊎ (code_sector k (free_slot (slot_in header k)) + (if k == 0 then 0 else sectors_for (length room.code.items)) ≤ n) ⊎ (k ≡ 0))
-      (sym same.code_layer)
-      (subst (λ (v : Vec ℕ). (n < code_sector old.code_layer (free_slot (slot_in header old.code_layer)))
-      ⊎ (code_sector old.code_layer (free_slot (slot_in header old.code_layer)) + (if old.code_layer == 0 then 0 else sectors_for (length v.items)) ≤ n) ⊎ (old.code_layer ≡ 0))
-      (sym same.code) spared.not_code);
-}
-
--- and the same stands there already
-pub there_moved : (old room : Room) (header : Header) (area : ℕ) (flash : List ℕ) → SamePlans old room → IsPublicThere old header area flash → IsPublicThere room header area flash
-there_moved old room header area flash same there = record {
-  code = subst (λ (n : ℕ). IfSome (if n == 0 then None else Some room.code.items) (BeginsWithBytes (code_slot flash n (free_slot (slot_in header n))))) (sym same.code_layer)
-      (subst (λ (v : Vec ℕ). IfSome (if old.code_layer == 0 then None else Some v.items) (BeginsWithBytes (code_slot flash old.code_layer (free_slot (slot_in header old.code_layer)))))
-      (sym same.code) there.code);
-  header = subst (λ (v : Vec ℕ). BeginsWithBytes (sector flash (header_sector (1 - area))) v.items) (sym same.header) there.header;
-}
-
--- ---- the root in force
-
--- there is a header in the area of the only root
-pub some_header : (memory : Memory) (root : Root) → ((any : Root) → RootIn memory.bbram any → any ≡ root) → HasSomeHeader memory → HoldsSomeHeader memory.flash root.area
-some_header memory root only some = record {
-  header = some.header;
-  begins = subst (λ (r : Root). HoldsHeader memory.flash r.area some.header) (only some.root some.in_force) some.holds;
-}
-
--- what holds for the area of the only root holds for that of each root in force
-pub for_root : (P : ℕ → Type 0) (root any : Root) → any ≡ root → P root.area → P any.area
-for_root P root any same p = subst (λ (r : Root). P r.area) (sym same) p
-
-pub agree_for_roots : (before after : Memory) (root : Root) → ((any : Root) → RootIn before.bbram any → any ≡ root) → AgreeForArea before.flash after.flash root.area
-    → (any : Root) → RootIn before.bbram any → AgreeForArea before.flash after.flash any.area
-agree_for_roots before after root only agree any has = for_root (AgreeForArea before.flash after.flash) root any (only any has) agree
+agree_for_roots : (before after : Memory) (area : ℕ) → IsCurrentArea before area → AgreeForArea before.flash after.flash area
+    → (root : Root) → RootIn before.bbram root → AgreeForArea before.flash after.flash root.area
+agree_for_roots before after area is agree root has =
+    subst (AgreeForArea before.flash after.flash) (sym (ap (λ (r : Root). r.area) (is.only.only root has) ∙ is.area_is)) agree
 
 -- a write to the flash that leaves what counts for each root in force leaves the contents
 pub flash_kept : (before after : Memory) → ((root : Root) → RootIn before.bbram root → AgreeForArea before.flash after.flash root.area) → after.bbram ≡ before.bbram
@@ -194,10 +155,44 @@ flash_kept before after agree same = record {
       (other_flash before.flash before.bbram after.flash contents (agree contents.root holds.root) holds);
 }
 
--- so does the write of a sector of the log that the header in force does not count
+-- so does one that leaves what counts for the current area
+pub public_kept : (before after : Memory) (area : ℕ) → IsCurrentArea before area → AgreeForArea before.flash after.flash area → after.bbram ≡ before.bbram → KeepsContents before after
+public_kept before after area is agree same = flash_kept before after (agree_for_roots before after area is agree) same
+
+-- and the write of a sector of the log that the current header does not count
 pub log_agrees : (before after : Memory) (position n : ℕ) → n ≡ log_sector position → position < 128 → length before.flash ≡ 1048576
     → ((root : Root) → RootIn before.bbram root → IsUncounted before.flash root.area position) → DiffersOnlyIn n 1 before.flash after.flash
     → (root : Root) → RootIn before.bbram root → AgreeForArea before.flash after.flash root.area
 log_agrees before after position n is few sized free same root has =
     torn_log before.flash after.flash root.area position (bounded_by root has.holds.spelled.allowed).area few (free root has) sized
     (subst (λ k. DiffersOnlyIn k 1 before.flash after.flash) is same)
+
+-- the header is written after the code
+pub public_written : {E : Type 0} (room : Room) (current : Header) (area n : ℕ) (bytes before between after : List ℕ) (result : Result (Unit {0}) E) → n ≡ header_sector (1 - area) → bytes ≡ room.header.items
+    → IsCodeWritten room.code_layer (slot_in current room.code_layer) (code_to_write room) before between → OnOk result (IsSectorWritten n bytes between after) → OnOk result (IsPublicWritten room current area before after)
+public_written room current area n bytes before between after result is same code written =
+    on_ok result
+    (λ header. record { between = between; code = code; header = subst (λ (xs : List ℕ). IsSectorWritten (header_sector (1 - area)) xs between after) same (subst (λ k. IsSectorWritten k bytes between after) is header) })
+    written
+
+-- ---- the same with another result of its kind
+
+pub public_ok : {A B E F : Type 0} (area : ℕ) (room room_after : Room) (before after : Seen) (value : A) (other : B) → WritesPublic area room room_after {A = A} {E = E} (Ok value) before after
+    → WritesPublic area room room_after {A = B} {E = F} (Ok other) before after
+public_ok area room room_after before after value other writes = record {
+  contents = writes.contents;
+  agree = writes.agree;
+  public = λ header holds. record { written = (writes.public header holds).written; spared = (writes.public header holds).spared; idle = (writes.public header holds).idle };
+  ran = search rules;
+  plans = writes.plans;
+}
+
+pub public_err : {A B E F : Type 0} (area : ℕ) (room room_after : Room) (before after : Seen) (error : E) (other : F) → WritesPublic area room room_after {A = A} {E = E} (Err error) before after
+    → WritesPublic area room room_after {A = B} {E = F} (Err other) before after
+public_err area room room_after before after error other writes = record {
+  contents = writes.contents;
+  agree = writes.agree;
+  public = λ header holds. record { written = tt; spared = (writes.public header holds).spared; idle = (writes.public header holds).idle };
+  ran = search rules;
+  plans = writes.plans;
+}

@@ -1,16 +1,17 @@
 -- Roots as they are read, written and put in force.
-use Rattle.std.proofs.Common.{◌≡◌, ◌↔◌, ℕ, ◌-◌, ◌≤◌, ◌⊎◌, inl, inr, true, false, List, [], ◌++◌, length, Option, None, Some, Result, Ok, Err, refl, sym, ap, subst, ◌∙◌, arith}
+use Rattle.std.proofs.Common.{◌≡◌, ◌↔◌, ℕ, ◌-◌, ◌≤◌, ◌⊎◌, inl, inr, true, false, List, [], ◌++◌, length, Option, None, Some, Result, Ok, Err, refl, sym, ap, subst, ◌∙◌, arith, rules}
 use Rattle.std.specs.Bool.{IsTrue}
 use Rattle.std.specs.Option.{is_some}
 use Rattle.std.specs.Global.{Vec}
 use Rattle.std.specs.Vec.{vec_len, vec_capacity}
 use Rattle.mb_format.specs.Format.{IsBytes, Spells}
+use Rattle.mb_format.proofs.Whole.{IsClearWhole-from_exact}
 use Rattle.mb_bytes.specs.Puts.{Writes}
 use Rattle.mb_model.specs.declared.stored.Pending.{Pending}
 use Rattle.mb_model.specs.declared.stored.Root.{Root}
 use Rattle.mb_model.specs.records.RootFormat.{pending_format, root_format}
 use Rattle.mb_model.specs.outside.Board.{Memory, IsLoaded}
-use Rattle.mb_model.specs.memories.Memory.{IsBlank, area_of_slot, HoldsRecord}
+use Rattle.mb_model.specs.memories.Memory.{IsBlank, area_of_slot, HoldsInArea, HoldsRecord}
 use Rattle.mb_model.specs.memories.Meaning.{RootIn, Contents, HoldsContents, state_of_contents}
 use Rattle.mb_model.specs.memories.Clean.{root_of}
 use Rattle.mb_model_lemmas.proofs.MeaningLemmas.{one_root}
@@ -25,7 +26,14 @@ use Rattle.mb_model_memory.proofs.FrameLemmas.{contents_agree, root_replaced}
 use Rattle.mb_model_memory.proofs.RestLemmas.{work_finished, rest_stands, meant_layers}
 use Rattle.mb_model_memory.proofs.StorableFormats.{none_allowed}
 use Rattle.mb_model_memory.proofs.StorableRecords.{root_room}
-use Rattle.mb_area.specs.Roots.{HoldsSomeRoot, HasSomeRoot, CommitsRoot, settled_root, Finishes, KeepsOrFinishes, MeansByRoot, KeepsOrMeansByRoot, MeansAsReady}
+use Rattle.mb_model.proofs.RecordFormatLaws.{root_exact}
+use Rattle.mb_model_lemmas.proofs.PublicLemmas.{bounded_by}
+use Rattle.mb_layout.proofs.Areas.{one_held as one_bytes}
+use Rattle.mb_board.specs.Calls.{Seen}
+use Rattle.mb_layout.specs.declared.room.Room.{Room}
+use Rattle.mb_area.specs.declared.state.Unsettled.{Unsettled}
+use Rattle.mb_area.specs.Calls.{StoresRoot, MakesRootCurrent, FinishesRoot}
+use Rattle.mb_area.specs.Roots.{HoldsSomeRoot, HasSomeRoot, IsOnlyRoot, CommitsRoot, settled_root, Finishes, KeepsOrFinishes, MeansByRoot, KeepsOrMeansByRoot, MeansAsReady}
 
 -- ---- reading
 
@@ -80,6 +88,31 @@ kept_in_force before after agree same flash = record {
 }
 
 -- ---- a root put in force
+
+pub small_area : (bbram : List ℕ) (root : Root) → IsOnlyRoot bbram root → root.area ≤ 1
+small_area bbram root is = (bounded_by root is.holds.holds.spelled.allowed).area
+
+-- an area that was filled with the bytes of a root holds no other
+pub only_held : (area filled bytes : List ℕ) (root : Root) → area ≡ filled → HoldsInArea filled bytes → IsBytes bytes → Spells root_format bytes root → (any : Root) → HoldsRecord root_format area any → any ≡ root
+only_held area filled bytes root same holds are spelled any other =
+    let own : other.bytes ≡ bytes = one_bytes other.bytes bytes other.holds (subst (λ (xs : List ℕ). HoldsInArea xs bytes) (sym same) holds) in
+    (IsClearWhole-from_exact root_exact).one_value bytes any root are (subst (λ (xs : List ℕ). Spells root_format xs any) own other.spelled) spelled
+
+-- it holds that root
+pub root_stands : (area filled bytes : List ℕ) (root : Root) → area ≡ filled → HoldsInArea filled bytes → Spells root_format bytes root → HoldsRecord root_format area root
+root_stands area filled bytes root same holds spelled = record { bytes = bytes; holds = subst (λ (xs : List ℕ). HoldsInArea xs bytes) (sym same) holds; spelled = spelled }
+
+pub root_stands_or_not : (area before filled bytes : List ℕ) (root : Root) → (area ≡ before) ⊎ (area ≡ filled) → HoldsInArea filled bytes → Spells root_format bytes root → (area ≡ before) ⊎ HoldsRecord root_format area root
+root_stands_or_not area before filled bytes root (inl same) holds spelled = inl same
+root_stands_or_not area before filled bytes root (inr same) holds spelled = inr (root_stands area filled bytes root same holds spelled)
+
+-- where a device is live, the root that its slot holds alone is the only one
+pub held_alone : (root : Root) (before after : Memory) → AgreeBesides 1 before.bbram after.bbram → HoldsRecord root_format (area_of_slot after.bbram 1) root
+    → ((any : Root) → HoldsRecord root_format (area_of_slot after.bbram 1) any → any ≡ root) → HasSomeRoot before → IsOnlyRoot after.bbram root
+held_alone root before after agree own only some = record {
+  holds = record { alive = agree.life ∙ some.holds.alive; blank = subst IsBlank (sym agree.between) some.holds.blank; holds = own };
+  only = λ any has. only any has.holds;
+}
 
 pub root_committed : (root : Root) (before after : Memory) → AgreeBesides 1 before.bbram after.bbram → HoldsRecord root_format (area_of_slot after.bbram 1) root → after.flash ≡ before.flash → CommitsRoot root before after
 root_committed root before after agree own flash = record {
@@ -152,3 +185,62 @@ finished_means before after sized (inr done) = record {
   means = λ contents ready means.
       rest_stands after.flash after.bbram (state_of_contents contents) (1 - contents.root.area) sized (meant_layers contents) (done.finishes contents ready);
 }
+
+-- ---- the calls, by what storing a root leaves
+
+pub committed_ok : {A E F : Type 0} (root : Root) (room room_after : Room) (before after : Seen) (value : A) (unsettled : Unsettled) → unsettled.root ≡ root → StoresRoot root room room_after {A = A} {E = E} (Ok value) before after
+    → MakesRootCurrent root room room_after {E = F} (Ok unsettled) before after
+committed_ok root room room_after before after value unsettled same stored =
+    let done = root_committed root before.memory after.memory stored.besides stored.done stored.ran.flash in
+    let means = committed_means root before.memory after.memory stored.ran.ran.sized done in
+    record {
+      root = same;
+      only = held_alone root before.memory after.memory stored.besides stored.done stored.only;
+      done = done;
+      either = inr done;
+      means = means;
+      means_either = inr means;
+      ran = search rules;
+      plans = stored.plans;
+    }
+
+pub committed_err : {A E F : Type 0} (root : Root) (room room_after : Room) (before after : Seen) (error : E) (other : F) → StoresRoot root room room_after {A = A} {E = E} (Err error) before after
+    → MakesRootCurrent root room room_after {E = F} (Err other) before after
+committed_err root room room_after before after error other stored =
+    let either = committed_or_kept root before.memory after.memory stored.besides stored.ran.flash stored.either in
+    record {
+      root = tt;
+      only = λ some. tt;
+      done = tt;
+      either = either;
+      means = tt;
+      means_either = committed_means_or_kept root before.memory after.memory stored.ran.ran.sized either;
+      ran = search rules;
+      plans = stored.plans;
+    }
+
+pub finished_ok : {A B E F : Type 0} (root settled : Root) (room room_after : Room) (before after : Seen) (value : A) (other : B) → IsOnlyRoot before.memory.bbram root → settled ≡ settled_root root
+    → StoresRoot settled room room_after {A = A} {E = E} (Ok value) before after → FinishesRoot room room_after {A = B} {E = F} (Ok other) before after
+finished_ok root settled room room_after before after value other current same stored =
+    let own = subst (HoldsRecord root_format (area_of_slot after.memory.bbram 1)) same stored.done in
+    let done = root_finished root before.memory after.memory current.only stored.besides own stored.ran.flash in
+    record {
+      done = done;
+      either = inr done;
+      means = finished_means before.memory after.memory stored.ran.ran.sized (inr done);
+      ran = search rules;
+      plans = stored.plans;
+    }
+
+pub finished_err : {A B E F : Type 0} (root settled : Root) (room room_after : Room) (before after : Seen) (error : E) (other : F) → IsOnlyRoot before.memory.bbram root → settled ≡ settled_root root
+    → StoresRoot settled room room_after {A = A} {E = E} (Err error) before after → FinishesRoot room room_after {A = B} {E = F} (Err other) before after
+finished_err root settled room room_after before after error other current same stored =
+    let own = subst (λ (r : Root). (area_of_slot after.memory.bbram 1 ≡ area_of_slot before.memory.bbram 1) ⊎ HoldsRecord root_format (area_of_slot after.memory.bbram 1) r) same stored.either in
+    let either = finished_or_kept root before.memory after.memory current.only stored.besides stored.ran.flash own in
+    record {
+      done = tt;
+      either = either;
+      means = finished_means before.memory after.memory stored.ran.ran.sized either;
+      ran = search rules;
+      plans = stored.plans;
+    }

@@ -5,21 +5,15 @@ use Rattle.mb_model.specs.declared.limits.TheConstants.{CODE_LIMIT, ENTRY_LIMIT,
 use Rattle.mb_model.specs.declared.stored.Header.{Header}
 use Rattle.mb_model.specs.declared.stored.Root.{Root}
 use Rattle.mb_model.specs.outside.Board.{Memory}
-use Rattle.mb_model.specs.memories.Flash.{sector, code_slot, HoldsHeader}
+use Rattle.mb_model.specs.memories.Flash.{sector, code_slot}
 use Rattle.mb_model.specs.records.HeaderFormat.{header_format}
 use Rattle.mb_model.specs.memories.Meaning.{RootIn}
 use Rattle.mb_model.specs.memories.Sectors.{header_sector, code_sector, BeginsAs}
 use Rattle.mb_model_memory.specs.FlashInForce.{slot_in, BeginsWithBytes, IsSectorWritten, IsUncounted}
 use Rattle.mb_model_memory.specs.NextHeaders.{free_slot, IsCodeWritten}
 use Rattle.mb_flash.specs.Sectors.{sectors_for}
+use Rattle.mb_area.specs.Roots.{IsOnlyRoot}
 use Rattle.mb_layout.specs.declared.room.Room.{Room}
-
--- there is a current root record, and a header in the area that it names
-pub record HasSomeHeader (memory : Memory) : Type 0 where
-  pub root : Root
-  pub in_force : RootIn memory.bbram root
-  pub header : Header
-  pub holds : HoldsHeader memory.flash root.area header
 
 -- bytes begin with some header
 pub record BeginWithHeader (bytes : List ℕ) : Type 0 where
@@ -29,6 +23,13 @@ pub record BeginWithHeader (bytes : List ℕ) : Type 0 where
 -- a header area of a flash holds some header
 abbrev pub HoldsSomeHeader : List ℕ → ℕ → Type 0
 HoldsSomeHeader flash area = BeginWithHeader (sector flash (header_sector area))
+
+-- the only current root record names this header area, which holds some header
+pub record IsCurrentArea (memory : Memory) (area : ℕ) : Type 0 where
+  pub root : Root
+  pub only : IsOnlyRoot memory.bbram root
+  pub area_is : root.area ≡ area
+  pub header : HoldsSomeHeader memory.flash area
 
 -- a position of the log, 0 to 127, whose entry the current header does not count
 pub record IsFreePosition (memory : Memory) (position : ℕ) : Type 0 where

@@ -1,3 +1,4 @@
 pub mod Roots
 pub mod Flashes
 pub mod Look
+pub mod Calls

@@ -25,6 +25,11 @@ pub record HasSomeRoot (memory : Memory) : Type 0 where
   pub root : Root
   pub holds : RootIn memory.bbram root
 
+-- the current root record is this one, and there is no other
+pub record IsOnlyRoot (bbram : List ℕ) (root : Root) : Type 0 where
+  pub holds : RootIn bbram root
+  pub only : (any : Root) → RootIn bbram any → any ≡ root
+
 -- Whatever the memory held, it holds that with this root record and the codes and entries that the flash holds for it.
 pub record CommitsRoot (new_root : Root) (before after : Memory) : Type 0 where
   pub committed : (contents : Contents) (codes : Codes) (signed : List SignedEntry) (unsigned : List Entry)

@@ -10,7 +10,7 @@ ghost use Rattle.mb_area.specs.Roots.{HasSomeRoot};
 ghost use Rattle.mb_area.specs.Look.{IsLooked};
 
 use crate::root::{ROOT_SLOT, read_root};
-use crate::state::{Unsettled, Unwiped};
+use crate::state::{Unsettled, Unwiped, unsettled_by};
 use mb_board::Board;
 use mb_layout::Room;
 use mb_ratchet::{R1, Up};
@@ -20,7 +20,7 @@ use mb_slot::is_other_blank;
 pub enum Looked {
     /// Nothing is pending, and the root's inactive area is all zero.
     Settled(Up<R1>),
-    /// The root record says that work is pending.
+    /// The root record, which comes with it, says that work is pending.
     Unsettled(Unsettled),
     /// Nothing is pending, and the root's inactive area is not all zero.
     Unwiped(Unwiped),
@@ -38,7 +38,7 @@ pub fn look<B: Board>(up: Up<R1>, b: &mut B, room: &mut Room) -> Looked
 {
     let root = read_root(b, room);
     if root.pending.is_some() {
-        return Looked::Unsettled(Unsettled { up });
+        return Looked::Unsettled(unsettled_by(up, &root));
     }
     if is_other_blank(b, ROOT_SLOT) {
         return Looked::Settled(up);

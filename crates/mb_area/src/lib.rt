@@ -3,8 +3,8 @@
 //!
 //! This crate owns how a device is looked at when it comes up, how code, headers and sectors of the log are written
 //! where the current header does not count them, and how a root record is committed, by an order and once the order's
-//! work is done. It owns the states `Unsettled` and `Unwiped` of a device in which such work is left; they cannot be
-//! dropped. It stands on `mb_slot`, `mb_flash`, `mb_segments` and `mb_layout`. No call takes memory.
+//! work is done. It owns the states `Unsettled`, `Working` and `Unwiped` of a device in which such work is left; they
+//! cannot be dropped. No call takes memory.
 #![tactic(auto)]
 
 mod first_look;
@@ -15,4 +15,4 @@ mod state;
 pub use first_look::{Looked, look};
 pub use public::{read_header, read_log, write_log, write_public};
 pub use root::{commit_root, finish_root, read_root, wipe_root};
-pub use state::{Unsettled, Unwiped};
+pub use state::{Unsettled, Unwiped, Working};

@@ -1,24 +1,18 @@
 //! The code, headers and log in the flash.
 
-ghost use Rattle.std.specs.Prelude.{◌≡◌, ◌≤◌, ◌<◌, ◌+◌, ◌-◌, ◌*◌, ℕ, length, vec_capacity, OnOk, IsOk, Ok};
+ghost use Rattle.std.specs.Prelude.{◌≡◌, ◌≤◌, ◌<◌, ◌-◌, length, vec_capacity};
 ghost use Rattle.mb_model.specs.declared.limits.TheConstants.{CODE_LIMIT, ENTRY_LIMIT, SECTOR_COUNT, SECTOR_LENGTH};
 ghost use Rattle.mb_model.specs.declared.stored.Header.{Header};
-ghost use Rattle.mb_model.specs.declared.stored.Root.{Root};
-ghost use Rattle.mb_model.specs.memories.Flash.{sector, code_slot, HoldsHeader};
+ghost use Rattle.mb_model.specs.memories.Flash.{sector, HoldsHeader};
 ghost use Rattle.mb_model.specs.records.HeaderFormat.{header_format};
-ghost use Rattle.mb_model.specs.memories.Meaning.{RootIn};
-ghost use Rattle.mb_model.specs.memories.Sectors.{header_sector, code_sector, log_sector, BeginsAs};
-ghost use Rattle.mb_board.specs.Calls.{IsPowered, IsUp, RanOnFlash};
-ghost use Rattle.mb_flash.specs.Sectors.{sectors_for};
-ghost use Rattle.mb_model_memory.specs.FlashInForce.{slot_in, AgreeForArea, BeginsWithBytes};
-ghost use Rattle.mb_model_memory.specs.FlashInForce.{DiffersOnlyIn, IsSectorWritten};
-ghost use Rattle.mb_model_memory.specs.Holding.{KeepsContents};
-ghost use Rattle.mb_model_memory.specs.NextHeaders.{free_slot, IsCodeWritten};
-ghost use Rattle.mb_layout.specs.Plans.{SamePlans, SameBesidesHeader, SameBesidesLog};
-ghost use Rattle.mb_area.specs.Flashes.{IsFreePosition, HasSomeHeader, BeginWithHeader, HoldsSomeHeader, IsPlan, IsPublicWritten};
-ghost use Rattle.mb_area.specs.Flashes.{IsCodeThere, IsPublicThere, IsSpared, code_to_write, code_sectors};
+ghost use Rattle.mb_model.specs.memories.Sectors.{header_sector, log_sector, BeginsAs};
+ghost use Rattle.mb_board.specs.Calls.{IsPowered, IsUp};
+ghost use Rattle.mb_model_memory.specs.FlashInForce.{slot_in};
+ghost use Rattle.mb_model_memory.specs.NextHeaders.{free_slot};
+ghost use Rattle.mb_layout.specs.Plans.{SameBesidesHeader, SameBesidesLog};
+ghost use Rattle.mb_area.specs.Flashes.{IsFreePosition, IsCurrentArea, BeginWithHeader, HoldsSomeHeader, IsPlan};
+ghost use Rattle.mb_area.specs.Calls.{StoresSector, StoresCode, CanWritePublic, WritesCode, WritesPublic, WritesLog};
 
-use crate::root::read_root;
 use mb_board::{Board, Stopped};
 use mb_flash::{write_sector, write_sectors};
 use mb_layout::Room;
@@ -68,13 +62,7 @@ fn store_sector<B: Board>(b: &mut B, number: u16, bytes: &[u8]) -> Result<(), St
     requires powered { IsPowered (B.seen b.old) }
     requires number { number < SECTOR_COUNT }
     requires bytes { (1 ≤ length bytes.now) × (length bytes.now ≤ SECTOR_LENGTH) }
-    ensures same { DiffersOnlyIn number 1 (B.seen b.old).memory.flash (B.seen b.new).memory.flash }
-    ensures written { OnOk result (IsSectorWritten number bytes.now (B.seen b.old).memory.flash
-        (B.seen b.new).memory.flash) }
-    ensures idle { BeginsWithBytes (sector (B.seen b.old).memory.flash number) bytes.now
-        → (result ≡ Ok tt) × ((B.seen b.new).memory ≡ (B.seen b.old).memory)
-        × ((B.seen b.new).meter ≡ (B.seen b.old).meter) }
-    ensures ran { RanOnFlash 2 result (B.seen b.old) (B.seen b.new) }
+    ensures { StoresSector number bytes.now result (B.seen b.old) (B.seen b.new) }
 {
     write_sector(b, number, bytes)
 }
@@ -86,14 +74,7 @@ fn store_code<B: Board>(b: &mut B, layer: u8, slot: u8, code: &[u8]) -> Result<(
     requires layer { (1 ≤ layer) × (layer ≤ 3) }
     requires slot { (1 ≤ slot) × (slot ≤ 2) }
     requires code { length code.now ≤ CODE_LIMIT }
-    ensures same { DiffersOnlyIn (code_sector layer slot) (sectors_for (length code.now))
-        (B.seen b.old).memory.flash (B.seen b.new).memory.flash }
-    ensures written { OnOk result (BeginsWithBytes
-        (code_slot (B.seen b.new).memory.flash layer slot) code.now) }
-    ensures idle { BeginsWithBytes (code_slot (B.seen b.old).memory.flash layer slot) code.now
-        → (result ≡ Ok tt) × ((B.seen b.new).memory ≡ (B.seen b.old).memory)
-        × ((B.seen b.new).meter ≡ (B.seen b.old).meter) }
-    ensures ran { RanOnFlash (2 * sectors_for (length code.now)) result (B.seen b.old) (B.seen b.new) }
+    ensures { StoresCode layer slot code.now result (B.seen b.old) (B.seen b.new) }
 {
     write_sectors(b, code_sector(layer, slot), code)
 }
@@ -138,26 +119,11 @@ fn free_slot(named: Slot) -> u8
     if named.which == 1 { 2 } else { 1 }
 }
 
-/// Writes the code of the room, if it has any, into the slot of its layer that the header of this area does not name.
+/// Writes the code of the room, if it has any, into the slot of its layer that the header of the current area does not
+/// name.
 fn write_code<B: Board>(b: &mut B, area: u8, room: &mut Room) -> Result<(), Stopped>
-    requires powered { IsPowered (B.seen b.old) }
-    requires area { area ≤ 1 }
-    requires header { HoldsSomeHeader (B.seen b.old).memory.flash area }
-    requires plan { IsPlan room.old }
-    ensures agree { AgreeForArea (B.seen b.old).memory.flash (B.seen b.new).memory.flash area }
-    ensures same { (header : Header) → HoldsHeader (B.seen b.old).memory.flash area header
-        → DiffersOnlyIn (code_sector room.old.code_layer
-        (free_slot (slot_in header room.old.code_layer))) (code_sectors room.old)
-        (B.seen b.old).memory.flash (B.seen b.new).memory.flash }
-    ensures written { (header : Header) → HoldsHeader (B.seen b.old).memory.flash area header
-        → OnOk result (IsCodeWritten room.old.code_layer (slot_in header room.old.code_layer)
-        (code_to_write room.old) (B.seen b.old).memory.flash (B.seen b.new).memory.flash) }
-    ensures idle { (header : Header) → HoldsHeader (B.seen b.old).memory.flash area header
-        → IsCodeThere room.old header (B.seen b.old).memory.flash
-        → (result ≡ Ok tt) × ((B.seen b.new).memory ≡ (B.seen b.old).memory)
-        × ((B.seen b.new).meter ≡ (B.seen b.old).meter) }
-    ensures ran { RanOnFlash (2 * code_sectors room.old) result (B.seen b.old) (B.seen b.new) }
-    ensures plans { SamePlans room.old room.new }
+    requires { CanWritePublic area room.old (B.seen b.old) }
+    ensures { WritesCode area room.old room.new result (B.seen b.old) (B.seen b.new) }
 {
     if room.code_layer == 0 {
         return Ok(());
@@ -166,61 +132,33 @@ fn write_code<B: Board>(b: &mut B, area: u8, room: &mut Room) -> Result<(), Stop
     store_code(b, room.code_layer, free_slot(named), &room.code)
 }
 
-/// Writes the code of the room, if it has any, and then its header into the header area that is not this one.
+/// Writes the code of the room, if it has any, and then its header into the header area that is not the current one.
 fn write_both<B: Board>(b: &mut B, area: u8, room: &mut Room) -> Result<(), Stopped>
-    requires powered { IsPowered (B.seen b.old) }
-    requires area { area ≤ 1 }
-    requires header { HoldsSomeHeader (B.seen b.old).memory.flash area }
-    requires plan { IsPlan room.old }
-    ensures agree { AgreeForArea (B.seen b.old).memory.flash (B.seen b.new).memory.flash area }
-    ensures written { (header : Header) → HoldsHeader (B.seen b.old).memory.flash area header
-        → OnOk result (IsPublicWritten room.old header area (B.seen b.old).memory.flash
-        (B.seen b.new).memory.flash) }
-    ensures spared { (header : Header) → HoldsHeader (B.seen b.old).memory.flash area header
-        → (n : ℕ) → n < SECTOR_COUNT → IsSpared room.old header area n
-        → sector (B.seen b.new).memory.flash n ≡ sector (B.seen b.old).memory.flash n }
-    ensures idle { (header : Header) → HoldsHeader (B.seen b.old).memory.flash area header
-        → IsPublicThere room.old header area (B.seen b.old).memory.flash
-        → (result ≡ Ok tt) × ((B.seen b.new).memory ≡ (B.seen b.old).memory)
-        × ((B.seen b.new).meter ≡ (B.seen b.old).meter) }
-    ensures ran { RanOnFlash (2 * code_sectors room.old + 2) result (B.seen b.old) (B.seen b.new) }
-    ensures plans { SamePlans room.old room.new }
+    requires { CanWritePublic area room.old (B.seen b.old) }
+    ensures { WritesPublic area room.old room.new result (B.seen b.old) (B.seen b.new) }
 {
     write_code(b, area, room)?;
     store_sector(b, header_sector(1 - area), &room.header)
 }
 
 /// Writes what the room holds: the code of a load into the slot of its layer that the current header does not name, or
-/// into slot 1 if it names none, and then the header into the other header area. The contents of the memory stay,
-/// wherever power fails. There are at most two write calls for each sector, and none if its bytes stand there already.
-/// `contents` follows from `agree` and `ran`, and is what this call promises; without it, it would be a lemma on a
-/// lower crate at every crate above. So it is with `contents` of `write_log`, and with `besides` and `means` of a
-/// commit.
-pub fn write_public<S: Reaches<One>, B: Board>(s: S, b: &mut B, room: &mut Room) -> Result<S, Off>
+/// into slot 1 if it names none, and then the header into the header area that is not `area`, the current one. The
+/// contents of the memory stay, wherever power fails. There are at most two write calls for each sector, and none if
+/// its bytes stand there already. That the contents stay follows from the rest, and is what this call promises; without
+/// it, it would be a lemma on a lower crate at every crate above. So it is with the contents after `write_log`, and
+/// with what a commit leaves besides, and means.
+pub fn write_public<S: Reaches<One>, B: Board>(
+    s: S,
+    b: &mut B,
+    area: u8,
+    room: &mut Room,
+) -> Result<S, Off>
     requires up { IsUp S.stage (B.seen b.old) }
-    requires header { HasSomeHeader (B.seen b.old).memory }
+    requires current { IsCurrentArea (B.seen b.old).memory area }
     requires plan { IsPlan room.old }
-    ensures contents { KeepsContents (B.seen b.old).memory (B.seen b.new).memory }
-    ensures agree { (root : Root) → RootIn (B.seen b.old).memory.bbram root
-        → AgreeForArea (B.seen b.old).memory.flash (B.seen b.new).memory.flash root.area }
-    ensures written { (root : Root) (header : Header) → RootIn (B.seen b.old).memory.bbram root
-        → HoldsHeader (B.seen b.old).memory.flash root.area header
-        → OnOk result (IsPublicWritten room.old header root.area (B.seen b.old).memory.flash
-        (B.seen b.new).memory.flash) }
-    ensures spared { (root : Root) (header : Header) → RootIn (B.seen b.old).memory.bbram root
-        → HoldsHeader (B.seen b.old).memory.flash root.area header
-        → (n : ℕ) → n < SECTOR_COUNT → IsSpared room.old header root.area n
-        → sector (B.seen b.new).memory.flash n ≡ sector (B.seen b.old).memory.flash n }
-    ensures idle { (root : Root) (header : Header) → RootIn (B.seen b.old).memory.bbram root
-        → HoldsHeader (B.seen b.old).memory.flash root.area header
-        → IsPublicThere room.old header root.area (B.seen b.old).memory.flash
-        → IsOk result × ((B.seen b.new).memory ≡ (B.seen b.old).memory)
-        × ((B.seen b.new).meter ≡ (B.seen b.old).meter) }
-    ensures ran { RanOnFlash (2 * code_sectors room.old + 2) result (B.seen b.old) (B.seen b.new) }
-    ensures plans { SamePlans room.old room.new }
+    ensures { WritesPublic area room.old room.new result (B.seen b.old) (B.seen b.new) }
 {
-    let root = read_root(b, room);
-    match write_both(b, root.area, room) {
+    match write_both(b, area, room) {
         Ok(()) => Ok(s),
         Err(Stopped) => Err(s.lost(b)),
     }
@@ -240,19 +178,7 @@ pub fn write_log<S: Reaches<One>, B: Board>(
     requires up { IsUp S.stage (B.seen b.old) }
     requires position { IsFreePosition (B.seen b.old).memory position }
     requires log { (1 ≤ length room.old.log.items) × (length room.old.log.items ≤ SECTOR_LENGTH) }
-    ensures contents { KeepsContents (B.seen b.old).memory (B.seen b.new).memory }
-    ensures agree { (root : Root) → RootIn (B.seen b.old).memory.bbram root
-        → AgreeForArea (B.seen b.old).memory.flash (B.seen b.new).memory.flash root.area }
-    ensures same { DiffersOnlyIn (log_sector position) 1 (B.seen b.old).memory.flash
-        (B.seen b.new).memory.flash }
-    ensures written { OnOk result (IsSectorWritten (log_sector position) room.old.log.items
-        (B.seen b.old).memory.flash (B.seen b.new).memory.flash) }
-    ensures idle { BeginsWithBytes (sector (B.seen b.old).memory.flash (log_sector position))
-        room.old.log.items
-        → IsOk result × ((B.seen b.new).memory ≡ (B.seen b.old).memory)
-        × ((B.seen b.new).meter ≡ (B.seen b.old).meter) }
-    ensures ran { RanOnFlash 2 result (B.seen b.old) (B.seen b.new) }
-    ensures plans { SamePlans room.old room.new }
+    ensures { WritesLog position room.old room.new result (B.seen b.old) (B.seen b.new) }
 {
     match store_sector(b, log_sector(position), &room.log) {
         Ok(()) => Ok(s),

@@ -1,20 +1,18 @@
 //! The root record in its slot.
 
-ghost use Rattle.std.specs.Prelude.{◌≡◌, ◌≤◌, ◌-◌, ◌⊎◌, length, OnOk, IsOk, vec_capacity};
-ghost use Rattle.mb_format.specs.Format.{Spells};
+ghost use Rattle.std.specs.Prelude.{◌≡◌, ◌≤◌, length, vec_capacity};
+ghost use Rattle.mb_format.specs.Format.{IsBytes, Spells};
 ghost use Rattle.mb_layout.specs.Plans.{SamePlans};
 ghost use Rattle.mb_model.specs.declared.limits.TheConstants.{AREA_LENGTH, RECORD_LIMIT};
 ghost use Rattle.mb_model.specs.declared.stored.Root.{Root};
 ghost use Rattle.mb_model.specs.records.RootFormat.{root_format};
-ghost use Rattle.mb_model.specs.memories.Memory.{IsBlank, area_of_slot, inactive_area_of_slot, HoldsRecord};
-ghost use Rattle.mb_model.specs.memories.Meaning.{RootIn};
+ghost use Rattle.mb_model.specs.memories.Memory.{HoldsRecord};
 ghost use Rattle.mb_board.specs.Calls.{IsUp};
-ghost use Rattle.mb_model_memory.specs.InForce.{AgreeBesides};
-ghost use Rattle.mb_slot.specs.Slots.{CanUse, RanInOther, RanInSlot};
-ghost use Rattle.mb_model_memory.specs.Holding.{KeepsContents};
-ghost use Rattle.mb_area.specs.Roots.{HoldsSomeRoot, HasSomeRoot, CommitsRoot, Finishes, KeepsOrFinishes, MeansByRoot, KeepsOrMeansByRoot, MeansAsReady, settled_root};
+ghost use Rattle.mb_slot.specs.Slots.{CanUse};
+ghost use Rattle.mb_area.specs.Roots.{HoldsSomeRoot, HasSomeRoot, IsOnlyRoot, settled_root};
+ghost use Rattle.mb_area.specs.Calls.{StoresRoot, MakesRootCurrent, FinishesRoot, WipesRoot};
 
-use crate::state::{Unsettled, Unwiped};
+use crate::state::{Unsettled, Unwiped, Working, unsettled_by};
 use mb_board::{Board, Stopped};
 use mb_layout::{Room, fill_area, make_area, root_in, write_root};
 use mb_model::Root;
@@ -40,8 +38,7 @@ fn held_root(area: &[u8]) -> Root
 pub fn read_root<B: Board>(b: &B, room: &mut Room) -> Root
     requires can_use { CanUse (B.seen b.now) 1 }
     requires root { HasSomeRoot (B.seen b.now).memory }
-    ensures holds { RootIn (B.seen b.now).memory.bbram result }
-    ensures root { (root : Root) → RootIn (B.seen b.now).memory.bbram root → root ≡ result }
+    ensures current { IsOnlyRoot (B.seen b.now).memory.bbram result }
     ensures area { result.area ≤ 1 }
     ensures plans { SamePlans room.old room.new }
 {
@@ -55,6 +52,7 @@ fn root_bytes(root: &Root, out: &mut Vec<u8>)
     requires allowed { root_format.Allowed root.now }
     requires room { AREA_LENGTH ≤ vec_capacity out.old }
     ensures spelled { Spells root_format out.new.items root.now }
+    ensures bytes { IsBytes out.new.items }
     ensures short { length out.new.items ≤ RECORD_LIMIT }
     ensures capacity { vec_capacity out.old ≤ vec_capacity out.new }
 {
@@ -67,15 +65,7 @@ fn root_bytes(root: &Root, out: &mut Vec<u8>)
 fn store_root<B: Board>(b: &mut B, root: &Root, room: &mut Room) -> Result<(), Stopped>
     requires can_use { CanUse (B.seen b.old) 1 }
     requires allowed { root_format.Allowed root.now }
-    ensures done { OnOk result (HoldsRecord root_format
-        (area_of_slot (B.seen b.new).memory.bbram 1) root.now) }
-    ensures either { (area_of_slot (B.seen b.new).memory.bbram 1 ≡ area_of_slot (B.seen b.old).memory.bbram 1)
-        ⊎ HoldsRecord root_format (area_of_slot (B.seen b.new).memory.bbram 1) root.now }
-    ensures left { OnOk result (inactive_area_of_slot (B.seen b.new).memory.bbram 1
-        ≡ area_of_slot (B.seen b.old).memory.bbram 1) }
-    ensures besides { AgreeBesides 1 (B.seen b.old).memory.bbram (B.seen b.new).memory.bbram }
-    ensures ran { RanInSlot 2 1 result (B.seen b.old) (B.seen b.new) }
-    ensures plans { SamePlans room.old room.new }
+    ensures { StoresRoot root.now room.old room.new result (B.seen b.old) (B.seen b.new) }
 {
     root_bytes(root, &mut room.other);
     make_area(&mut room.area);
@@ -85,7 +75,6 @@ fn store_root<B: Board>(b: &mut B, root: &Root, room: &mut Room) -> Result<(), S
 
 /// Commits the root record that an order leaves; the header area that it names holds the header after the order. If
 /// power fails, this root record or the one before is current. There are at most two write calls.
-#[tactic(auto, using(crate::proofs::Rooted::root_committed, crate::proofs::Rooted::committed_or_kept, crate::proofs::Rooted::committed_means, crate::proofs::Rooted::committed_means_or_kept))]
 pub fn commit_root<B: Board>(
     up: Up<R1>,
     b: &mut B,
@@ -94,16 +83,10 @@ pub fn commit_root<B: Board>(
 ) -> Result<Unsettled, Off>
     requires up { IsUp 1 (B.seen b.old) }
     requires allowed { root_format.Allowed root.now }
-    ensures done { OnOk result (CommitsRoot root.now (B.seen b.old).memory (B.seen b.new).memory) }
-    ensures either { KeepsContents (B.seen b.old).memory (B.seen b.new).memory
-        ⊎ CommitsRoot root.now (B.seen b.old).memory (B.seen b.new).memory }
-    ensures means { OnOk result (MeansByRoot root.now (B.seen b.old).memory (B.seen b.new).memory) }
-    ensures means_either { KeepsOrMeansByRoot root.now (B.seen b.old).memory (B.seen b.new).memory }
-    ensures ran { RanInSlot 2 1 result (B.seen b.old) (B.seen b.new) }
-    ensures plans { SamePlans room.old room.new }
+    ensures { MakesRootCurrent root.now room.old room.new result (B.seen b.old) (B.seen b.new) }
 {
     match store_root(b, root, room) {
-        Ok(()) => Ok(Unsettled { up }),
+        Ok(()) => Ok(unsettled_by(up, root)),
         Err(Stopped) => Err(Reaches::<One>::lost(up, b)),
     }
 }
@@ -122,44 +105,37 @@ fn settled_root(root: &Root) -> Root
     }
 }
 
-/// Commits the root record that says that nothing is pending. Both fates have been applied, and the inactive header
-/// area counts every entry as signed. If power fails, this root record or the one before is current. There are at most
-/// two write calls. Its condition is a premise of its clauses (`Finishes`), and no `requires`: so it stands once, and a
-/// caller shows it where it uses them.
-#[tactic(auto, using(crate::proofs::Rooted::root_finished, crate::proofs::Rooted::finished_or_kept, crate::proofs::Rooted::finished_means, crate::proofs::Rooted::settled_allowed))]
-pub fn finish_root<B: Board>(u: Unsettled, b: &mut B, room: &mut Room) -> Result<Unwiped, Off>
+/// Commits the root record that says that nothing is pending. `root` is the current one. Both fates have been applied,
+/// and the inactive header area counts every entry as signed. If power fails, this root record or the one before is
+/// current. There are at most two write calls. Its condition is a premise of its clauses (`Finishes`), and no
+/// `requires`: so it stands once, and a caller shows it where it uses them.
+pub fn finish_root<B: Board>(
+    w: Working,
+    b: &mut B,
+    root: &Root,
+    room: &mut Room,
+) -> Result<Unwiped, Off>
     requires up { IsUp 1 (B.seen b.old) }
-    requires root { HasSomeRoot (B.seen b.old).memory }
-    ensures done { OnOk result (Finishes (B.seen b.old).memory (B.seen b.new).memory) }
-    ensures either { KeepsOrFinishes (B.seen b.old).memory (B.seen b.new).memory }
-    ensures means { MeansAsReady (B.seen b.old).memory (B.seen b.new).memory }
-    ensures ran { RanInSlot 2 1 result (B.seen b.old) (B.seen b.new) }
-    ensures plans { SamePlans room.old room.new }
+    requires root { IsOnlyRoot (B.seen b.old).memory.bbram root.now }
+    ensures { FinishesRoot room.old room.new result (B.seen b.old) (B.seen b.new) }
 {
-    let root = settled_root(&read_root(b, room));
-    match store_root(b, &root, room) {
-        Ok(()) => Ok(unwiped(u)),
-        Err(Stopped) => Err(Reaches::<One>::lost(u, b)),
+    match store_root(b, &settled_root(root), room) {
+        Ok(()) => Ok(unwiped(w)),
+        Err(Stopped) => Err(Reaches::<One>::lost(w, b)),
     }
 }
 
 /// The state after the last of the work is done.
-fn unwiped(u: Unsettled) -> Unwiped {
-    let Unsettled { up } = u;
+fn unwiped(w: Working) -> Unwiped {
+    let Working { up } = w;
     Unwiped { up }
 }
 
 /// Sets each byte of the root's inactive area to zero, and writes nothing if each is zero already. There is at most one
 /// write call.
-#[tactic(auto, using(crate::proofs::Rooted::kept_in_force))]
 pub fn wipe_root<B: Board>(w: Unwiped, b: &mut B) -> Result<Up<R1>, Off>
     requires up { IsUp 1 (B.seen b.old) }
-    ensures blank { OnOk result (IsBlank (inactive_area_of_slot (B.seen b.new).memory.bbram 1)) }
-    ensures contents { KeepsContents (B.seen b.old).memory (B.seen b.new).memory }
-    ensures idle { IsBlank (inactive_area_of_slot (B.seen b.old).memory.bbram 1)
-        → IsOk result × ((B.seen b.new).memory ≡ (B.seen b.old).memory)
-        × ((B.seen b.new).meter ≡ (B.seen b.old).meter) }
-    ensures ran { RanInOther 1 1 result (B.seen b.old) (B.seen b.new) }
+    ensures { WipesRoot result (B.seen b.old) (B.seen b.new) }
 {
     let Unwiped { up } = w;
     match wipe_other(b, ROOT_SLOT) {

@@ -85,7 +85,7 @@ fn loaded_layer(old: &Layer, payload: &Payload) -> Layer
 }
 
 /// The layer that an order puts in place of the layer `old`, by what the order does. The code of a load is hashed once.
-pub fn placed(old: &Layer, act: &Act) -> Layer
+pub fn layer_from_order(old: &Layer, act: &Act) -> Layer
     ensures { result ≡ layer_from_order old.now act.now }
 {
     match act {

@@ -11,8 +11,8 @@ mod layers;
 mod rights;
 mod targets;
 
-pub use changes::{admits, after, kept_regions, may_cosign, placed};
+pub use changes::{admits, after, kept_regions, layer_from_order, may_cosign};
 pub use kinds::{change_by, renews};
 pub use layers::{is_in, is_owned, is_runnable, layer_of};
-pub use rights::{authority, condition};
+pub use rights::{authority, stands_for_order};
 pub use targets::target_fails;

@@ -28,7 +28,7 @@ pub fn authority(layers: &Layers, order: &Order) -> Option<PublicKey>
 
 /// Whether these layers allow an order of the kind, `None` for a new key, for `layer`. It is false for every layer that
 /// an order of the kind cannot be for.
-pub fn condition(layers: &Layers, kind: Option<ChangeKind>, layer: u8) -> bool
+pub fn stands_for_order(layers: &Layers, kind: Option<ChangeKind>, layer: u8) -> bool
     ensures { result ≡ stands_for_order layers.now kind layer }
 {
     let beneath = layer.saturating_sub(1);

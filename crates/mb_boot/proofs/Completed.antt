@@ -13,6 +13,7 @@ use Rattle.mb_model.specs.declared.key.KeySeed.{KeySeed}
 use Rattle.mb_model.specs.declared.stored.Header.{Header}
 use Rattle.mb_model.specs.declared.stored.Outgoing.{Outgoing}
 use Rattle.mb_model.specs.declared.stored.Root.{Root}
+use Rattle.mb_model.specs.declared.stored.Signer.{Signer}
 use Rattle.mb_model.specs.records.EntryFormat.{entry_format}
 use Rattle.mb_model.specs.records.HeaderFormat.{entry_bytes_format, unsigned_limit, unsigned_format, header_format}
 use Rattle.mb_model.specs.records.HeaderFormat.{log_format}
@@ -21,14 +22,13 @@ use Rattle.mb_model.specs.memories.Flash.{AreBytesOf}
 use Rattle.mb_model.specs.signatures.Signing.{signature_of}
 use Rattle.mb_model.specs.machine.SignedTexts.{entry_text}
 use Rattle.mb_model.specs.machine.OrderEffects.{entry_signed_by}
-use Rattle.mb_model.specs.memories.StoredLog.{entries_signed_for}
+use Rattle.mb_model.specs.memories.StoredLog.{signer_by, signer_of, entries_signed_for}
 use Rattle.mb_model.proofs.FormatBounds.{header_short, log_short}
 use Rattle.mb_model_lemmas.proofs.HeldSegments.{small_header, room_for_unsigned, header_texts}
 use Rattle.mb_model_lemmas.proofs.SignatureLemmas.{length-signature_of}
 use Rattle.mb_model_memory.specs.NextHeaders.{header_settled}
 use Rattle.mb_model_memory.proofs.FlashHeaders.{header_settled_allowed}
-use Rattle.mb_boot.specs.Completions.{count_of, unsigned_count, text_at_place, signer_by, signer_of, IsSignedSector, SignsText, SignsTextAt}
-use Rattle.mb_boot.specs.declared.pending.Signer.{Signer}
+use Rattle.mb_boot.specs.Completions.{count_of, unsigned_count, text_at_place, IsSignedSector, SignsText, SignsTextAt}
 
 -- ---- headers
 
@@ -179,19 +179,6 @@ log_put signer text signature cleared new result some short made empty none room
 abbrev pub made_at : KeySeed → ℕ → Option Outgoing → ℕ → Entry → SignedEntry
 made_at device uses outgoing place entry = entry_signed_by (signer_by device uses outgoing place).key (signer_by device uses outgoing place).index entry
 
-made_none : (device : KeySeed) (uses : ℕ) (outgoing : Option Outgoing) → entries_signed_for device uses outgoing [] ≡ []
-made_none device uses None = refl
-made_none device uses (Some outgoing) = refl
-
-made_one : (device : KeySeed) (uses : ℕ) (outgoing : Option Outgoing) (one : Entry) → entries_signed_for device uses outgoing (one ∷ []) ≡ made_at device uses outgoing 0 one ∷ []
-made_one device uses None one = refl
-made_one device uses (Some outgoing) one = refl
-
-made_two : (device : KeySeed) (uses : ℕ) (outgoing : Option Outgoing) (one two : Entry)
-    → entries_signed_for device uses outgoing (one ∷ two ∷ []) ≡ made_at device uses outgoing 0 one ∷ made_at device uses outgoing 1 two ∷ []
-made_two device uses None one two = refl
-made_two device uses (Some outgoing) one two = refl
-
 -- The text at a place is that of an entry, which comes next among these that are signed.
 pub record IsNext (device : KeySeed) (uses : ℕ) (outgoing : Option Outgoing) (place : ℕ) (text : List ℕ) (more : List SignedEntry) : Type 0 where
   pub entry : Entry
@@ -206,22 +193,19 @@ next_by device uses outgoing zero None None (u ∷ us) text low are is = absurd 
 next_by device uses outgoing zero None (Some second) us text low are is = absurd are
 next_by device uses outgoing zero (Some first) None [] text low are is = absurd are
 next_by device uses outgoing zero (Some first) None (u ∷ []) text low are is =
-    subst (IsNext device uses outgoing 0 text) (sym (made_one device uses outgoing u))
-    (record { entry = u; spelled = subst (λ (t : List ℕ). Spells entry_format t u) (same_Some first text is) are; size = refl; next = refl })
+    record { entry = u; spelled = subst (λ (t : List ℕ). Spells entry_format t u) (same_Some first text is) are; size = refl; next = refl }
 next_by device uses outgoing zero (Some first) None (u ∷ v ∷ us) text low are is = absurd are
 next_by device uses outgoing zero (Some first) (Some second) [] text low are is = absurd are
 next_by device uses outgoing zero (Some first) (Some second) (u ∷ []) text low are is = absurd are
 next_by device uses outgoing zero (Some first) (Some second) (u ∷ v ∷ []) text low are is =
-    subst (IsNext device uses outgoing 0 text) (sym (made_two device uses outgoing u v))
-    (record { entry = u; spelled = subst (λ (t : List ℕ). Spells entry_format t u) (same_Some first text is) are.0; size = refl; next = refl })
+    record { entry = u; spelled = subst (λ (t : List ℕ). Spells entry_format t u) (same_Some first text is) are.0; size = refl; next = refl }
 next_by device uses outgoing zero (Some first) (Some second) (u ∷ v ∷ w ∷ us) text low are is = absurd are
 next_by device uses outgoing (suc zero) first None us text low are is = absurd (cc)
 next_by device uses outgoing (suc zero) None (Some second) us text low are is = absurd are
 next_by device uses outgoing (suc zero) (Some first) (Some second) [] text low are is = absurd are
 next_by device uses outgoing (suc zero) (Some first) (Some second) (u ∷ []) text low are is = absurd are
 next_by device uses outgoing (suc zero) (Some first) (Some second) (u ∷ v ∷ []) text low are is =
-    subst (IsNext device uses outgoing 1 text) (sym (made_two device uses outgoing u v))
-    (record { entry = v; spelled = subst (λ (t : List ℕ). Spells entry_format t v) (same_Some second text is) are.1; size = refl; next = refl })
+    record { entry = v; spelled = subst (λ (t : List ℕ). Spells entry_format t v) (same_Some second text is) are.1; size = refl; next = refl }
 next_by device uses outgoing (suc zero) (Some first) (Some second) (u ∷ v ∷ w ∷ us) text low are is = absurd are
 next_by device uses outgoing (suc (suc n)) first second us text low are is = absurd (omega (arith, low))
 
@@ -234,12 +218,12 @@ ends_by : (device : KeySeed) (uses : ℕ) (outgoing : Option Outgoing) (place : 
 ends_by device uses outgoing zero (Some first) second us low are is = absurd (cc)
 ends_by device uses outgoing zero None (Some second) us low are is = absurd are
 ends_by device uses outgoing zero None None (u ∷ us) low are is = absurd are
-ends_by device uses outgoing zero None None [] low are is = ap (take 1) (made_none device uses outgoing)
+ends_by device uses outgoing zero None None [] low are is = refl
 ends_by device uses outgoing (suc zero) first (Some second) us low are is = absurd (cc)
-ends_by device uses outgoing (suc zero) None None [] low are is = ap (take 2) (made_none device uses outgoing) ∙ sym (ap (take 1) (made_none device uses outgoing))
+ends_by device uses outgoing (suc zero) None None [] low are is = refl
 ends_by device uses outgoing (suc zero) None None (u ∷ us) low are is = absurd are
 ends_by device uses outgoing (suc zero) (Some first) None [] low are is = absurd are
-ends_by device uses outgoing (suc zero) (Some first) None (u ∷ []) low are is = ap (take 2) (made_one device uses outgoing u) ∙ sym (ap (take 1) (made_one device uses outgoing u))
+ends_by device uses outgoing (suc zero) (Some first) None (u ∷ []) low are is = refl
 ends_by device uses outgoing (suc zero) (Some first) None (u ∷ v ∷ us) low are is = absurd are
 ends_by device uses outgoing (suc (suc n)) first second us low are is = absurd (omega (arith, low))
 
@@ -252,13 +236,13 @@ none_next device uses outgoing place header unsigned low are is = ends_by device
 -- two are all of them
 pub two_are_all : (device : KeySeed) (uses : ℕ) (outgoing : Option Outgoing) (first second : Option (List ℕ)) (unsigned : List Entry) → AreBytesOf first second unsigned
     → take 2 (entries_signed_for device uses outgoing unsigned) ≡ entries_signed_for device uses outgoing unsigned
-two_are_all device uses outgoing None None [] are = subst (λ (xs : List SignedEntry). take 2 xs ≡ xs) (sym (made_none device uses outgoing)) refl
+two_are_all device uses outgoing None None [] are = refl
 two_are_all device uses outgoing None None (u ∷ us) are = absurd are
 two_are_all device uses outgoing None (Some second) us are = absurd are
 two_are_all device uses outgoing (Some first) None [] are = absurd are
-two_are_all device uses outgoing (Some first) None (u ∷ []) are = subst (λ (xs : List SignedEntry). take 2 xs ≡ xs) (sym (made_one device uses outgoing u)) refl
+two_are_all device uses outgoing (Some first) None (u ∷ []) are = refl
 two_are_all device uses outgoing (Some first) None (u ∷ v ∷ us) are = absurd are
 two_are_all device uses outgoing (Some first) (Some second) [] are = absurd are
 two_are_all device uses outgoing (Some first) (Some second) (u ∷ []) are = absurd are
-two_are_all device uses outgoing (Some first) (Some second) (u ∷ v ∷ []) are = subst (λ (xs : List SignedEntry). take 2 xs ≡ xs) (sym (made_two device uses outgoing u v)) refl
+two_are_all device uses outgoing (Some first) (Some second) (u ∷ v ∷ []) are = refl
 two_are_all device uses outgoing (Some first) (Some second) (u ∷ v ∷ w ∷ us) are = absurd are

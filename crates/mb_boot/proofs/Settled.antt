@@ -14,7 +14,7 @@ use Rattle.mb_model.specs.outside.Board.{Memory, IsLoaded}
 use Rattle.mb_model.specs.memories.Memory.{IsBlank, HoldsRecord}
 use Rattle.mb_model.specs.memories.Sectors.{header_sector, log_sector, BeginsAs}
 use Rattle.mb_model.specs.memories.Flash.{sector, HoldsHeader, HoldsLog, HoldsPublic}
-use Rattle.mb_model.specs.memories.StoredLog.{outgoing_of, log_completed_by}
+use Rattle.mb_model.specs.memories.StoredLog.{outgoing_of, log_completed_by, signer_of}
 use Rattle.mb_model.specs.memories.Meaning.{RootIn, Contents, state_of_contents, region_after_fate, fate_of_two}
 use Rattle.mb_model.specs.memories.Meaning.{fate_of_three}
 use Rattle.mb_model.specs.memories.Clean.{root_of}
@@ -38,13 +38,13 @@ use Rattle.mb_model_memory.proofs.RestLemmas.{rest_stands, meant_layers}
 use Rattle.mb_model_memory.proofs.StorableMemories.{stands_storable}
 use Rattle.mb_model_memory.proofs.StorableRecords.{region_written}
 use Rattle.mb_layout.specs.declared.room.Room.{Room}
-use Rattle.mb_area.specs.Flashes.{HasSomeHeader, IsPublicWritten, IsSpared}
-use Rattle.mb_area.specs.Roots.{HasSomeRoot, Finishes, KeepsOrFinishes, IsReadyToFinish}
+use Rattle.mb_area.specs.Flashes.{IsCurrentArea, IsPublicWritten, IsSpared}
+use Rattle.mb_area.specs.Roots.{HasSomeRoot, IsOnlyRoot, Finishes, KeepsOrFinishes, IsReadyToFinish}
 use Rattle.mb_region.specs.Fates.{IsPending, AppliesFate}
-use Rattle.mb_boot.specs.Completions.{BeginsWithHeader, text_at_place, unsigned_count, signer_of, IsSignedSector, SignsText, SignsTextAt}
-use Rattle.mb_boot.specs.declared.pending.Signer.{Signer}
+use Rattle.mb_boot.specs.Completions.{BeginsWithHeader, text_at_place, unsigned_count, IsSignedSector, SignsText, SignsTextAt}
+use Rattle.mb_model.specs.declared.stored.Signer.{Signer}
 use Rattle.mb_board.specs.Calls.{Seen, IsUp, Ran, RanOnFlash}
-use Rattle.mb_boot.specs.Settling.{IsLive, IsLiveWith, IsOnlyRoot, AppliesBoth, signed_anew, log_until, AddsToLog, CompletesLog, CountsLog, SignsRecord, Settles}
+use Rattle.mb_boot.specs.Settling.{IsLive, IsLiveWith, AppliesBoth, signed_anew, log_until, AddsToLog, CompletesLog, CountsLog, SignsRecord, Settles}
 use Rattle.mb_boot.proofs.Completed.{texts_counted, made_at, IsNext, next_is, none_next, two_are_all}
 
 -- ---- the meaning
@@ -72,9 +72,6 @@ pub some_root : (memory : Memory) → IsLive memory → HasSomeRoot memory
 some_root memory live =
     let held = live_contents memory.flash memory.bbram live.state live.means in
     record { root = held.contents.root; holds = held.holds.root }
-
-pub only_root : (bbram : List ℕ) (root : Root) → RootIn bbram root → ((any : Root) → RootIn bbram any → any ≡ root) → IsOnlyRoot bbram root
-only_root bbram root holds only = record { holds = holds; only = only }
 
 -- a root is in force where it was, when the slot of a region has changed
 root_moved : (bbram after : List ℕ) (slot : ℕ) (root : Root) → 1 ≢ slot → AgreeBesides slot bbram after → RootIn bbram root → RootIn after root
@@ -173,10 +170,19 @@ header_is_read memory root bytes live only is =
       short = omega (arith, ap length is, sector_short memory.flash (header_sector root.area));
     }
 
-pub some_header : (memory : Memory) → IsLive memory → HasSomeHeader memory
-some_header memory live =
+pub current_area : (memory : Memory) (root : Root) → IsLive memory → IsOnlyRoot memory.bbram root → IsCurrentArea memory root.area
+current_area memory root live only =
     let held = live_contents memory.flash memory.bbram live.state live.means in
-    record { root = held.contents.root; in_force = held.holds.root; header = held.holds.public.header; holds = held.holds.public.begins }
+    let header = held.holds.public.header in
+    record {
+      root = root;
+      only = only;
+      area_is = refl;
+      header = record {
+        header = header;
+        begins = subst (λ (r : Root). HoldsHeader memory.flash r.area header) (only.only held.contents.root held.holds.root) held.holds.public.begins;
+      };
+    }
 
 -- ---- the log
 
@@ -305,8 +311,8 @@ log_over before after log few same holds =
 
 pub log_counted : (before after : Memory) (root : Root) (bytes : List ℕ) (room : Room) → IsOnlyRoot before.bbram root → bytes ≡ sector before.flash (header_sector root.area) → IsSettledRoom bytes room
     → KeepsContents before after → AgreeForArea before.flash after.flash root.area
-    → ((any : Root) (header : Header) → RootIn before.bbram any → HoldsHeader before.flash any.area header → IsPublicWritten room header any.area before.flash after.flash)
-    → ((any : Root) (header : Header) → RootIn before.bbram any → HoldsHeader before.flash any.area header → (n : ℕ) → n < 256 → IsSpared room header any.area n → sector after.flash n ≡ sector before.flash n)
+    → ((header : Header) → HoldsHeader before.flash root.area header → IsPublicWritten room header root.area before.flash after.flash)
+    → ((header : Header) → HoldsHeader before.flash root.area header → (n : ℕ) → n < 256 → IsSpared room header root.area n → sector after.flash n ≡ sector before.flash n)
     → CountsLog before after
 log_counted before after root bytes room only is settled kept agree written spared = record {
   counted = λ contents holds log. (
@@ -319,11 +325,12 @@ log_counted before after root bytes room only is settled kept agree written spar
       subst (λ (r : Root). sector after.flash (header_sector r.area) ≡ sector before.flash (header_sector r.area)) (sym same) agree.header
       in
       let was : HoldsHeader before.flash area header = subst (λ (xs : List ℕ). BeginsAs header_format xs header) before_is now.public.begins in
-      let read : BeginsAs header_format bytes header = subst (λ (xs : List ℕ). BeginsAs header_format xs header) (ap (λ (r : Root). sector before.flash (header_sector r.area)) same ∙ sym is) was in
+      let own : HoldsHeader before.flash root.area header = subst (λ (r : Root). HoldsHeader before.flash r.area header) same was in
+      let read : BeginsAs header_format bytes header = subst (λ (xs : List ℕ). BeginsAs header_format xs header) (sym is) own in
       let count : unsigned_count header ≡ length more =
       sym (length-signed_for contents.root.device contents.root.uses (outgoing_of contents.root.pending) contents.unsigned ∙ texts_counted header.first header.second contents.unsigned now.public.unsigned_are)
       in
-      let put = (written contents.root header holds.root was).header in
+      let put = (subst (λ (r : Root). IsPublicWritten room header r.area before.flash after.flash) (sym same) (written header own)).header in
       let stands : HoldsHeader after.flash (1 - area) (header_settled header (unsigned_count header)) =
       begins_with header_format (sector after.flash (header_sector (1 - area))) room.header.items (header_settled header (unsigned_count header)) (settled.settled header read) put.begins
       in
@@ -332,7 +339,7 @@ log_counted before after root bytes room only is settled kept agree written spar
       in
       let whole : HoldsLog after.flash (contents.signed ++ more) =
       log_over before.flash after.flash (contents.signed ++ more) few
-      (λ n less not_zero not_one. spared contents.root header holds.root was n less (record { not_header = not_either area n not_zero not_one; not_code = inr (inr settled.layer) }))
+      (λ n less not_zero not_one. spared header own n less (record { not_header = not_either root.area n not_zero not_one; not_code = inr (inr settled.layer) }))
       (subst (HoldsLog before.flash) (log_is contents) log)
       in
       let done = log_settled after.flash contents.root (root_of (state_of_contents contents) (1 - area)) contents.codes contents.signed more contents.unsigned now.public whole
@@ -345,6 +352,12 @@ pub record_signed : (first between last : Memory) → KeepsContents first betwee
 record_signed first between last kept completes counts = record { signed = λ contents holds. counts.counted contents (kept.kept contents holds) (completes.whole contents holds) }
 
 -- ---- the signed log stays, and the sectors that hold nothing
+
+pub spared_same : (before after : Memory) → after.flash ≡ before.flash → SparesSectors before after
+spared_same before after same = record {
+  log = record { kept = λ root header has holds position less. ap (λ (xs : List ℕ). sector xs (log_sector position)) same };
+  unused = λ n is. ap (λ (xs : List ℕ). sector xs n) same;
+}
 
 pub spared_then : (before between after : Memory) → SparesSectors before between → after.flash ≡ between.flash → SparesSectors before after
 spared_then before between after spared same = record {

@@ -1,14 +1,14 @@
 -- Whose tree is on the bench when unsigned entries are signed.
 use Rattle.std.proofs.Common.{◌≡◌, ◌⊎◌, inr, ℕ, true, false, Option, None, Some, refl, sym, ap, subst, ◌∙◌}
-use Rattle.std.specs.Prelude.{List, IsSome}
+use Rattle.std.specs.Prelude.{IsSome}
 use Rattle.mb_model.specs.declared.stored.Header.{Header}
 use Rattle.mb_model.specs.declared.stored.Outgoing.{Outgoing}
 use Rattle.mb_model.specs.declared.stored.Root.{Root}
-use Rattle.mb_model.specs.memories.StoredLog.{outgoing_of}
+use Rattle.mb_model.specs.memories.StoredLog.{outgoing_of, signer_by, signer_of}
 use Rattle.mb_signer.specs.declared.bench.Bench.{Bench}
 use Rattle.mb_signer.specs.Benches.{HasTree, HasRoom, KeepsTrees}
-use Rattle.mb_boot.specs.Completions.{text_at_place, signer_by, signer_of}
-use Rattle.mb_boot.specs.Signers.{HasSigner, HoldsDeviceTree, DeviceKeySigns}
+use Rattle.mb_boot.specs.Completions.{text_at_place}
+use Rattle.mb_boot.specs.Signers.{HasSigner, HoldsDeviceTree}
 
 -- if no key gives way, the device key signs at both places
 pub device_signs : (root : Root) (place : ℕ) → outgoing_of root.pending ≡ None → (signer_of root place).key ≡ root.device
@@ -39,8 +39,3 @@ pub device_held : (old one two : Bench) (root : Root) → HoldsDeviceTree old ro
 device_held old one two root holds first second =
     let there : HasTree one root.device = first holds.first root.device holds.device in
     second (inr (subst (HasTree one) (sym (second_signs root)) there)) root.device there
-
--- what is said of the flash and the root that were read
-pub same_signs : (flash other : List ℕ) (root own : Root) → other ≡ flash → root ≡ own → DeviceKeySigns flash root → DeviceKeySigns other own
-same_signs flash other root own same is signs =
-    subst (λ (f : List ℕ). DeviceKeySigns f own) (sym same) (subst (DeviceKeySigns flash) is signs)

@@ -1,20 +1,18 @@
 -- The sectors of the log that unsigned entries get, and the header that counts them. Do they hold the log that the
 -- unsigned entries meant?
-use Rattle.std.specs.Prelude.{◌≡◌, ℕ, ◌+◌, ◌-◌, ◌==◌, ◌≤◌, List, length, Option, None, Some, if◌then◌else◌}
+use Rattle.std.specs.Prelude.{◌≡◌, ℕ, ◌+◌, ◌==◌, ◌≤◌, List, length, Option, None, Some, if◌then◌else◌}
 use Rattle.mb_format.specs.Format.{Spells}
 use Rattle.mb_model.specs.declared.limits.TheConstants.{SECTOR_LENGTH}
 use Rattle.mb_model.specs.declared.entry.Entry.{Entry}
-use Rattle.mb_model.specs.declared.key.KeySeed.{KeySeed}
 use Rattle.mb_model.specs.declared.stored.Header.{Header}
-use Rattle.mb_model.specs.declared.stored.Outgoing.{Outgoing}
 use Rattle.mb_model.specs.declared.stored.Root.{Root}
+use Rattle.mb_model.specs.declared.stored.Signer.{Signer}
 use Rattle.mb_model.specs.records.EntryFormat.{entry_format}
 use Rattle.mb_model.specs.records.HeaderFormat.{header_format}
 use Rattle.mb_model.specs.memories.Sectors.{BeginsAs}
 use Rattle.mb_model.specs.machine.OrderEffects.{entry_signed_by}
-use Rattle.mb_model.specs.memories.StoredLog.{outgoing_of}
+use Rattle.mb_model.specs.memories.StoredLog.{signer_of}
 use Rattle.mb_model_lemmas.specs.SegmentLaws.{SpellsLog}
-use Rattle.mb_boot.specs.declared.pending.Signer.{Signer}
 
 -- ---- headers
 
@@ -38,18 +36,6 @@ abbrev pub unsigned_count : Header → ℕ
 unsigned_count header = count_of header.first + count_of header.second
 
 -- ---- signatures
-
--- Who signs the unsigned entry at a place, 0 or 1? The device key does with the index that it used last. If a key gives
--- way, this key signs the first entry with the index that it used last, and the device key the second with its first
--- index. `StoredLog` says it of the list of unsigned entries, for those who ask which log a memory means; a boot signs
--- one at a time, so this says it of a place. `made_one` and `made_two` (`Completed`) show that both say the same.
-abbrev pub signer_by : KeySeed → ℕ → Option Outgoing → ℕ → Signer
-signer_by device uses None place = record { key = device; index = uses - 1 }
-signer_by device uses (Some outgoing) place =
-    if place == 0 then record { key = outgoing.seed; index = outgoing.uses - 1 } else record { key = device; index = 0 }
-
-abbrev pub signer_of : Root → ℕ → Signer
-signer_of root place = signer_by root.device root.uses (outgoing_of root.pending) place
 
 -- These bytes are what the sector of the log holds of the entry with this text, signed by the key at the index, and a
 -- sector has room for them.

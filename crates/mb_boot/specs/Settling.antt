@@ -1,28 +1,24 @@
 -- A memory while the work of an order is done. Does it mean one state wherever power fails?
-use Rattle.std.specs.Prelude.{◌≡◌, ℕ, ◌+◌, ◌-◌, List, [], ◌++◌, take}
+use Rattle.std.specs.Prelude.{ℕ, ◌+◌, ◌-◌, List, [], ◌++◌, take}
 use Rattle.mb_model.specs.declared.entry.SignedEntry.{SignedEntry}
 use Rattle.mb_model.specs.declared.state.State.{State}
 use Rattle.mb_model.specs.declared.stored.Root.{Root}
 use Rattle.mb_model.specs.outside.Board.{Memory}
 use Rattle.mb_model.specs.memories.Flash.{HoldsLog, HoldsPublic}
 use Rattle.mb_model.specs.memories.StoredLog.{entries_signed_for, outgoing_of}
-use Rattle.mb_model.specs.memories.Meaning.{RootIn, Contents, state_of_contents}
+use Rattle.mb_model.specs.memories.Meaning.{Contents, state_of_contents}
 use Rattle.mb_model.specs.memories.Clean.{root_of}
 use Rattle.mb_model.specs.memories.Valid.{IsValidState}
 use Rattle.mb_board.specs.Calls.{Seen, IsUp}
 use Rattle.mb_model_memory.specs.Commits.{both_done, at_rest}
 use Rattle.mb_model_memory.specs.Holding.{Holds, Means}
+use Rattle.mb_area.specs.Roots.{IsOnlyRoot}
 
 -- the memory means a state that a device can have
 pub record IsLive (memory : Memory) : Type 0 where
   pub state : State
   pub means : Means memory state
   pub valid : IsValidState state
-
--- the current root record is this one, and there is no other
-pub record IsOnlyRoot (bbram : List ℕ) (root : Root) : Type 0 where
-  pub holds : RootIn bbram root
-  pub only : (any : Root) → RootIn bbram any → any ≡ root
 
 -- the board is up with layer 1, and its memory means a state that a device can have
 pub record IsLiveBoard (seen : Seen) : Type 0 where

@@ -1,12 +1,16 @@
 -- The keys that sign unsigned entries, and their trees. Is a tree built anew where it is on the bench?
-use Rattle.std.specs.Prelude.{◌≡◌, ℕ, ◌⊎◌, List, None, IsSome}
+use Rattle.std.specs.Prelude.{◌≡◌, ℕ, ◌≤◌, ◌⊎◌, List, None, IsSome, IfSome}
 use Rattle.mb_model.specs.declared.stored.Header.{Header}
 use Rattle.mb_model.specs.declared.stored.Root.{Root}
 use Rattle.mb_model.specs.memories.Flash.{HoldsHeader}
-use Rattle.mb_model.specs.memories.StoredLog.{outgoing_of}
+use Rattle.mb_model.specs.memories.StoredLog.{outgoing_of, signer_of}
 use Rattle.mb_signer.specs.declared.bench.Bench.{Bench}
 use Rattle.mb_signer.specs.Benches.{HasTree, HasRoom}
-use Rattle.mb_boot.specs.Completions.{signer_of}
+
+-- the device key, and one that gives way, have each had at most this many uses
+pub record IsUsedAtMost (most : ℕ) (root : Root) : Type 0 where
+  pub device : root.uses ≤ most
+  pub outgoing : IfSome (outgoing_of root.pending) (λ outgoing. outgoing.uses ≤ most)
 
 -- the tree of the key that signs the unsigned entry at a place, 0 or 1, is on the bench
 abbrev pub HasSigner : Bench → Root → ℕ → Type 0

@@ -1,19 +1,12 @@
 //! Booting a device, and finishing an order.
 
-ghost use Rattle.std.specs.Prelude.{◌≡◌, ◌+◌, ◌≤◌, ◌==◌, OnOk, Option, true, false, ◌*◌};
-ghost use Rattle.std.specs.Option.{is_none};
-ghost use Rattle.mb_model.specs.declared.state.State.{State};
+ghost use Rattle.std.specs.Prelude.{◌≡◌, ◌==◌, OnOk, true, false};
 ghost use Rattle.mb_model.specs.memories.Memory.{life_byte, inactive_area_of_slot};
-ghost use Rattle.mb_model.specs.declared.stored.Root.{Root};
-ghost use Rattle.mb_model.specs.memories.Meaning.{RootIn, StandsFor};
-ghost use Rattle.mb_board.specs.Calls.{IsPowered, IsUp, Ran, KeepsEvents, RanOnBbram, IsSwitched};
-ghost use Rattle.mb_model.specs.memories.Spared.{SparesSectors};
-ghost use Rattle.mb_model_memory.specs.Holding.{KeepsContents, KeepsMeaning};
-ghost use Rattle.mb_boot.specs.Settling.{IsLive, IsLiveBoard};
-ghost use Rattle.mb_boot.specs.Booting.{IsFoundAs, Rests, IsWiped, Cleans, IsQuiet, StandsForValid, KeepsState, IfUnwritten, stop_of, power_at, HasLevel, is_zeroised};
-ghost use Rattle.mb_boot.specs.Signers.{HasSigners, HoldsDeviceTree, DeviceKeySigns};
-ghost use Rattle.mb_signer.specs.Benches.{HasTree};
-ghost use Rattle.mb_lms.specs.declared.hash_count.TheConstants.{LEAF_HASHES, SIGNING_HASHES};
+ghost use Rattle.mb_board.specs.Calls.{IsPowered, IsUp, RanOnBbram, IsSwitched};
+ghost use Rattle.mb_model_memory.specs.Holding.{KeepsContents};
+ghost use Rattle.mb_boot.specs.Booting.{IsFoundAs, Rests, IsWiped, Cleans, IsQuiet, StandsForValid};
+ghost use Rattle.mb_boot.specs.Calls.{Boots, DoesWork, ReachesLevel, UsesTrees};
+ghost use Rattle.mb_boot.specs.Settling.{IsLiveBoard, IsLiveWith};
 
 use crate::work::settle;
 use mb_area::{Looked, Unsettled, look, wipe_root};
@@ -49,27 +42,22 @@ fn is_dead<B: Board>(b: &B) -> bool
 }
 
 /// Does the pending work, and wipes the root's inactive area. There are at most 13 write calls.
-#[tactic(auto, using(crate::proofs::Booted::settled_rests, mb_model_memory::proofs::HoldingLemmas::contents_keep, mb_model_memory::proofs::HoldingLemmas::keeps_then, crate::proofs::Settled::spared_then))]
 fn settle_and_wipe<B: Board, L: Ledger>(
     u: Unsettled,
     b: &mut B,
     room: &mut Room,
     hashes: &mut HashCount<L>,
 ) -> Result<Up<R1>, Off>
-    requires { IsLiveBoard (B.seen b.old) }
-    ensures rests { OnOk result (Rests (B.seen b.old).memory (B.seen b.new).memory) }
-    ensures meaning { KeepsMeaning (B.seen b.old).memory (B.seen b.new).memory }
-    ensures spared { SparesSectors (B.seen b.old).memory (B.seen b.new).memory }
-    ensures ran { Ran 13 result (B.seen b.old) (B.seen b.new) }
-    ensures cost { hashes.new ≤ hashes.old + 2 * SIGNING_HASHES }
+    requires { IsLiveWith (B.seen b.old) u.root }
+    ensures { DoesWork Rests 13 result (B.seen b.old) (B.seen b.new) hashes.old hashes.new }
 {
-    let w = settle(u, b, room, &mut Bench::new(), hashes)?;
-    let up = wipe_root(w, b)?;
+    let unwiped = settle(u, b, room, &mut Bench::new(), hashes)?;
+    let up = wipe_root(unwiped, b)?;
     Ok(up)
 }
 
 /// Does the work that is left in a live device, and wipes the root's inactive area. There are at most 13 write calls.
-#[tactic(auto, using(crate::proofs::Booted::already_rests, crate::proofs::Booted::wiped_rests, crate::proofs::Booted::already_quiet, crate::proofs::Booted::unwiped_quiet, crate::proofs::Booted::unsettled_quiet, mb_model_memory::proofs::HoldingLemmas::contents_keep, mb_model_memory::proofs::HoldingLemmas::keeps_then, crate::proofs::Booted::keeps_all))]
+#[tactic(auto, using(crate::proofs::Booted::already_quiet, crate::proofs::Booted::unwiped_quiet, crate::proofs::Booted::unsettled_quiet))]
 fn bring_to_rest<B: Board, L: Ledger>(
     looked: Looked,
     b: &mut B,
@@ -78,17 +66,13 @@ fn bring_to_rest<B: Board, L: Ledger>(
 ) -> Result<Up<R1>, Off>
     requires live { IsLiveBoard (B.seen b.old) }
     requires looked { IsFoundAs looked (B.seen b.old).memory.bbram }
-    ensures rests { OnOk result (Rests (B.seen b.old).memory (B.seen b.new).memory) }
-    ensures meaning { KeepsMeaning (B.seen b.old).memory (B.seen b.new).memory }
-    ensures spared { SparesSectors (B.seen b.old).memory (B.seen b.new).memory }
+    ensures work { DoesWork Rests 13 result (B.seen b.old) (B.seen b.new) hashes.old hashes.new }
     ensures quiet { IsQuiet (B.seen b.old).memory (B.seen b.new).memory (B.seen b.old).meter
         (B.seen b.new).meter }
-    ensures ran { Ran 13 result (B.seen b.old) (B.seen b.new) }
-    ensures cost { hashes.new ≤ hashes.old + 2 * SIGNING_HASHES }
 {
     match looked {
         Looked::Settled(up) => Ok(up),
-        Looked::Unwiped(w) => wipe_root(w, b),
+        Looked::Unwiped(unwiped) => wipe_root(unwiped, b),
         Looked::Unsettled(u) => settle_and_wipe(u, b, room, hashes),
     }
 }
@@ -111,7 +95,7 @@ fn wipe_regions<B: Board>(up: Up<R1>, b: &mut B) -> Result<Up<R1>, Off>
 }
 
 /// Does all work that is left in a live device, and wipes all inactive areas. There are at most 15 write calls.
-#[tactic(auto, using(crate::proofs::Booted::found_as, crate::proofs::Settled::some_root, crate::proofs::Booted::cleaned, mb_model_memory::proofs::HoldingLemmas::contents_keep, mb_model_memory::proofs::HoldingLemmas::keeps_then, crate::proofs::Booted::quiet_then, crate::proofs::Settled::spared_then))]
+#[tactic(auto, using(crate::proofs::Settled::some_root))]
 fn come_up<B: Board, L: Ledger>(
     up: Up<R1>,
     b: &mut B,
@@ -119,13 +103,9 @@ fn come_up<B: Board, L: Ledger>(
     hashes: &mut HashCount<L>,
 ) -> Result<Up<R1>, Off>
     requires { IsLiveBoard (B.seen b.old) }
-    ensures clean { OnOk result (Cleans (B.seen b.old).memory (B.seen b.new).memory) }
-    ensures meaning { KeepsMeaning (B.seen b.old).memory (B.seen b.new).memory }
-    ensures spared { SparesSectors (B.seen b.old).memory (B.seen b.new).memory }
+    ensures work { DoesWork Cleans 15 result (B.seen b.old) (B.seen b.new) hashes.old hashes.new }
     ensures quiet { IsQuiet (B.seen b.old).memory (B.seen b.new).memory (B.seen b.old).meter
         (B.seen b.new).meter }
-    ensures ran { Ran 15 result (B.seen b.old) (B.seen b.new) }
-    ensures cost { hashes.new ≤ hashes.old + 2 * SIGNING_HASHES }
 {
     let looked = look(up, b, room);
     let up = bring_to_rest(looked, b, room, hashes)?;
@@ -134,11 +114,11 @@ fn come_up<B: Board, L: Ledger>(
 }
 
 /// Does the pending work of a committed order, and wipes what it replaced. The entries are signed by the trees on the
-/// bench; one that is not there is built. The memory has to mean a state that a device can have. It means the same
-/// state wherever power fails, and afterwards it is clean. There are at most 15 write calls, and 70,946 hashes; 2,148 if
-/// the trees of the keys that sign are on the bench. The tree of the device key is there afterwards if no key gives way
-/// and it signs, or if it was there before and the key that signs first found its own tree or room for it.
-#[tactic(auto, using(crate::proofs::Booted::settled_rests, crate::proofs::Booted::cleaned, mb_model_memory::proofs::HoldingLemmas::contents_keep, mb_model_memory::proofs::HoldingLemmas::keeps_then, crate::proofs::Settled::spared_then))]
+/// bench; one that is not there is built. The memory has to mean a state that a device can have, and its root record is
+/// the one of `u`, which is not read again. The memory means the same state wherever power fails, and afterwards it is
+/// clean. There are at most 15 write calls, and 70,946 hashes; 2,148 if the trees of the keys that sign are on the
+/// bench. The tree of the device key is there afterwards if no key gives way and it signs, or if it was there before and
+/// the key that signs first found its own tree or room for it.
 pub fn finish_order<B: Board, L: Ledger>(
     u: Unsettled,
     b: &mut B,
@@ -146,23 +126,13 @@ pub fn finish_order<B: Board, L: Ledger>(
     bench: &mut Bench,
     hashes: &mut HashCount<L>,
 ) -> Result<Up<R1>, Off>
-    requires up { IsUp 1 (B.seen b.old) }
-    requires live { IsLive (B.seen b.old).memory }
-    ensures clean { OnOk result (Cleans (B.seen b.old).memory (B.seen b.new).memory) }
-    ensures meaning { KeepsMeaning (B.seen b.old).memory (B.seen b.new).memory }
-    ensures spared { SparesSectors (B.seen b.old).memory (B.seen b.new).memory }
-    ensures ran { Ran 15 result (B.seen b.old) (B.seen b.new) }
-    ensures kept { (root : Root) → RootIn (B.seen b.old).memory.bbram root
-        → DeviceKeySigns (B.seen b.old).memory.flash root
-        → OnOk result (HasTree bench.new root.device) }
-    ensures held { (root : Root) → RootIn (B.seen b.old).memory.bbram root
-        → HoldsDeviceTree bench.old root → OnOk result (HasTree bench.new root.device) }
-    ensures cost { hashes.new ≤ hashes.old + 2 * SIGNING_HASHES }
-    ensures again { (root : Root) → RootIn (B.seen b.old).memory.bbram root
-        → HasSigners bench.old root → hashes.new ≤ hashes.old + 2 * LEAF_HASHES }
+    requires { IsLiveWith (B.seen b.old) u.root }
+    ensures work { DoesWork Cleans 15 result (B.seen b.old) (B.seen b.new) hashes.old hashes.new }
+    ensures trees { UsesTrees (B.seen b.old).memory.flash u.root result bench.old bench.new
+        hashes.old hashes.new }
 {
-    let w = settle(u, b, room, bench, hashes)?;
-    let up = wipe_root(w, b)?;
+    let unwiped = settle(u, b, room, bench, hashes)?;
+    let up = wipe_root(unwiped, b)?;
     let up = wipe_regions(up, b)?;
     Ok(up)
 }
@@ -170,9 +140,7 @@ pub fn finish_order<B: Board, L: Ledger>(
 /// Turns power on.
 fn wake<B: Board>(off: Off, b: &mut B) -> Zero
     requires { (B.seen b.old).power ≡ false }
-    ensures power { (B.seen b.new).power ≡ true }
-    ensures level { (B.seen b.new).level ≡ 0 }
-    ensures switched { IsSwitched (B.seen b.old) (B.seen b.new) }
+    ensures { ReachesLevel 0 (B.seen b.old) (B.seen b.new) }
 {
     off.power_on(b)
 }
@@ -181,9 +149,7 @@ fn wake<B: Board>(off: Off, b: &mut B) -> Zero
 fn climb<B: Board>(zero: Zero, b: &mut B) -> Up<R1>
     requires power { (B.seen b.old).power ≡ true }
     requires level { (B.seen b.old).level ≡ 0 }
-    ensures power { (B.seen b.new).power ≡ true }
-    ensures level { (B.seen b.new).level ≡ 1 }
-    ensures switched { IsSwitched (B.seen b.old) (B.seen b.new) }
+    ensures { ReachesLevel 1 (B.seen b.old) (B.seen b.new) }
 {
     zero.advance(b)
 }
@@ -201,9 +167,8 @@ fn give_up<B: Board>(up: Up<R1>, b: &mut B) -> Off
 /// There are at most 15 write calls, and 70,946 hashes.
 ///
 /// Errors: `Zeroised` exactly if the device is dead; `Stopped` if power failed; `NoMemory` if an allocation failed,
-/// before anything was written. It has three clauses in place of `ran`: it ends at three levels, and at two of its
-/// errors power did not fail.
-#[tactic(auto, using(crate::proofs::Booted::live_from, crate::proofs::Booted::dead_from, crate::proofs::Booted::alive_from, crate::proofs::Booted::state_kept_from, crate::proofs::Booted::cleans_from, crate::proofs::Booted::quiet_from, crate::proofs::Booted::state_same, crate::proofs::Booted::same_quiet, crate::proofs::Booted::loaded_as))]
+/// before anything was written.
+#[tactic(auto, using(crate::proofs::Booted::loaded_as))]
 pub fn boot<B: Board, L: Ledger>(
     alloc: Global,
     off: Off,
@@ -212,20 +177,7 @@ pub fn boot<B: Board, L: Ledger>(
 ) -> Result<(Up<R1>, Room), BootEnd>
     requires off { (B.seen b.old).power ≡ false }
     requires stands { StandsForValid (B.seen b.old).memory }
-    ensures clean { OnOk result (Cleans (B.seen b.old).memory (B.seen b.new).memory) }
-    ensures meaning { KeepsState (B.seen b.old).memory (B.seen b.new).memory }
-    ensures spared { SparesSectors (B.seen b.old).memory (B.seen b.new).memory }
-    ensures zeroised { (state : Option State)
-        → StandsFor (B.seen b.old).memory.flash (B.seen b.old).memory.bbram state
-        → is_zeroised result ≡ is_none state }
-    ensures quiet { IsQuiet (B.seen b.old).memory (B.seen b.new).memory (B.seen b.old).meter
-        (B.seen b.new).meter }
-    ensures unwritten { IfUnwritten result ((B.seen b.new).memory ≡ (B.seen b.old).memory)
-        ((B.seen b.new).meter ≡ (B.seen b.old).meter) }
-    ensures power { (B.seen b.new).power ≡ power_at result }
-    ensures level { HasLevel result (B.seen b.new).level }
-    ensures events { KeepsEvents 15 (stop_of result) (B.seen b.old) (B.seen b.new) }
-    ensures cost { hashes.new ≤ hashes.old + 2 * SIGNING_HASHES }
+    ensures { Boots result (B.seen b.old) (B.seen b.new) hashes.old hashes.new }
 {
     let zero = wake(off, b);
     if is_dead(b) {

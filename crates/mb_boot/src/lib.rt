@@ -4,8 +4,7 @@
 //! the boot that leaves a memory clean; and `finish_order`, which leaves it clean once an order is committed. Unsigned
 //! entries are signed by the key and at the index that the root record names, so that a signature made again after a
 //! power loss is the same one. No entry is signed before the root record is committed, and none counts as signed before
-//! its sector of the log is written. The crate stands on `mb_area`, `mb_segments`, `mb_region` and `mb_signer`. `boot`
-//! takes memory before its first write; no other call takes any.
+//! its sector of the log is written. `boot` takes memory before its first write; no other call takes any.
 #![tactic(auto)]
 
 mod device;

@@ -9,19 +9,19 @@ ghost use Rattle.mb_model.specs.declared.stored.Header.{Header};
 ghost use Rattle.mb_model.specs.records.HeaderFormat.{header_format};
 ghost use Rattle.mb_model.specs.memories.Sectors.{BeginsAs};
 ghost use Rattle.mb_model.specs.signatures.Signing.{signature_of};
-ghost use Rattle.mb_model.specs.memories.StoredLog.{outgoing_of};
+ghost use Rattle.mb_model.specs.memories.StoredLog.{outgoing_of, signer_of};
 ghost use Rattle.mb_model_memory.specs.NextHeaders.{header_settled};
 ghost use Rattle.mb_segments.specs.Uncopied.{header_of};
 ghost use Rattle.mb_area.specs.Flashes.{IsPlan};
-ghost use Rattle.mb_boot.specs.Completions.{BeginsWithHeader, signer_of, text_at_place, count_of, unsigned_count, IsSignedSector, SignsTextAt};
-ghost use Rattle.mb_boot.specs.Signers.{HasSigner};
-ghost use Rattle.mb_signer.specs.Benches.{HasTree, HasRoom, KeepsTrees};
-ghost use Rattle.mb_lms.specs.declared.hash_count.TheConstants.{LEAF_HASHES, SIGNING_HASHES};
+ghost use Rattle.mb_boot.specs.Calls.{SignsOnce};
+ghost use Rattle.mb_boot.specs.Completions.{BeginsWithHeader, text_at_place, count_of, unsigned_count, IsSignedSector, SignsTextAt};
+ghost use Rattle.mb_boot.specs.Signers.{HasSigner, IsUsedAtMost};
+ghost use Rattle.mb_signer.specs.Benches.{HasTree};
 
 use mb_layout::Room;
 use mb_lms::HashCount;
 use mb_model::separators::ENTRY_TEXT;
-use mb_model::{Header, KeySeed, Outgoing, Root, SIGNATURE_LENGTH};
+use mb_model::{Header, KeySeed, Outgoing, Root, SIGNATURE_LENGTH, Signer};
 use mb_segments::{StoredHeader, header_at, put_log, write_header};
 use mb_signer::{Bench, Uses, take_index};
 use std::sync::ledger::Ledger;
@@ -94,18 +94,9 @@ pub(crate) fn settle_header(room: &mut Room)
 
 // ---- signatures
 
-/// A key, and the index at which it signs.
-#[derive(Drop)]
-struct Signer {
-    key: KeySeed,
-    index: u32,
-}
-
 /// The key that signs the unsigned entry at a place, 0 or 1, and its index.
 fn signer_of(root: &Root, place: u32) -> Signer
-    requires uses { root.now.uses ≤ KEY_USES }
-    requires outgoing { IfSome (outgoing_of root.now.pending)
-        (λ outgoing. outgoing.uses ≤ KEY_USES) }
+    requires { IsUsedAtMost KEY_USES root.now }
     ensures signer { result ≡ signer_of root.now place }
     ensures index { result.index ≤ LAST_INDEX }
 {
@@ -159,10 +150,7 @@ fn sign_entry<L: Ledger>(
     requires { index ≤ LAST_INDEX }
     ensures signature { signature.new ≡ signature_of key.now index (ENTRY_TEXT ∷ entry.now) }
     ensures kept { HasTree bench.new key.now }
-    ensures beside { HasRoom bench.old ⊎ HasTree bench.old key.now
-        → KeepsTrees bench.old bench.new }
-    ensures cost { hashes.new ≤ hashes.old + SIGNING_HASHES }
-    ensures again { HasTree bench.old key.now → hashes.new ≤ hashes.old + LEAF_HASHES }
+    ensures signing { SignsOnce key.now bench.old bench.new hashes.old hashes.new }
 {
     let mut uses = Uses::stored(index);
     let Some(right) = take_index(&mut uses) else {
@@ -185,10 +173,7 @@ fn sign_text<L: Ledger>(
     ensures signed { IsSignedSector signer.now text.now log.new.items }
     ensures room { SECTOR_LENGTH ≤ vec_capacity log.new }
     ensures kept { HasTree bench.new signer.now.key }
-    ensures beside { HasRoom bench.old ⊎ HasTree bench.old signer.now.key
-        → KeepsTrees bench.old bench.new }
-    ensures cost { hashes.new ≤ hashes.old + SIGNING_HASHES }
-    ensures again { HasTree bench.old signer.now.key → hashes.new ≤ hashes.old + LEAF_HASHES }
+    ensures signing { SignsOnce signer.now.key bench.old bench.new hashes.old hashes.new }
 {
     let mut signature = [0; SIGNATURE_LENGTH];
     sign_entry(
@@ -213,19 +198,15 @@ pub(crate) fn sign_next<L: Ledger>(
     bench: &mut Bench,
     hashes: &mut HashCount<L>,
 ) -> Option<u32>
-    requires uses { root.now.uses ≤ KEY_USES }
-    requires outgoing { IfSome (outgoing_of root.now.pending)
-        (λ outgoing. outgoing.uses ≤ KEY_USES) }
+    requires uses { IsUsedAtMost KEY_USES root.now }
     requires place { place ≤ 1 }
     requires header { BeginsWithHeader room.old.header.items }
     ensures signed { SignsTextAt root.now place room.old.header.items result room.new.log.items }
     ensures header { room.new.header ≡ room.old.header }
     ensures kept { (header : Header) → BeginsAs header_format room.old.header.items header
         → IsSome (text_at_place header place) → HasSigner bench.new root.now place }
-    ensures beside { HasRoom bench.old ⊎ HasSigner bench.old root.now place
-        → KeepsTrees bench.old bench.new }
-    ensures cost { hashes.new ≤ hashes.old + SIGNING_HASHES }
-    ensures again { HasSigner bench.old root.now place → hashes.new ≤ hashes.old + LEAF_HASHES }
+    ensures signing { SignsOnce (signer_of root.now place).key bench.old bench.new hashes.old
+        hashes.new }
 {
     let header = held_header(room.header.as_slice());
     let Some(text) = text_in(header, place) else {

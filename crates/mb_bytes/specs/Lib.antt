@@ -1,3 +1,4 @@
+pub mod Ends
 pub mod Reads
 pub mod Puts
 pub mod Example

@@ -3,15 +3,16 @@
 //! The example shows how a record is written with the contracts of this crate. It is checked with the crate, so that a
 //! change to the contracts that would leave readers and writers above unproved is seen here first.
 
-ghost use Rattle.std.specs.Prelude.{◌≡◌, ◌<◌, ◌≤◌, length};
+ghost use Rattle.std.specs.Prelude.{◌<◌, ◌≤◌, length};
 ghost use Rattle.mb_model.specs.declared.limits.TheConstants.{FILE_LIMIT};
 ghost use Rattle.mb_bytes.specs.Reads.{Reads, ReadsExactly, ReadsWhole};
 ghost use Rattle.mb_bytes.specs.Puts.{Puts, Writes};
-ghost use Rattle.mb_bytes.specs.Example.{example, values, points};
+ghost use Rattle.mb_bytes.specs.Ends.{end_at};
+ghost use Rattle.mb_bytes.specs.Example.{example, values};
 
 use crate::{
-    Cursor, Field, ReadError, ReadMemoryError, Short, WriteField, items_at, put_items, put_slice,
-    put_u8, put_u32, read_field, read_whole, write_field,
+    Cursor, Field, ReadEnd, WriteField, items_at, put_items, put_slice, put_u8, put_u32,
+    read_field, read_whole, write_field,
 };
 use mb_model::{Items, NoMemory};
 use std::alloc::Global;
@@ -27,57 +28,12 @@ pub struct Example {
     pub values: Items<u16>,
 }
 
-/// Why no example was read.
-#[derive(Clone, Copy, Debug, PartialEq, Eq)]
-pub enum NotRead {
-    /// An allocation failed.
-    NoMemory,
-    /// A field is not in its form, or bytes are left after the last.
-    BadRecord {
-        /// The offset of the first such field or byte, in bytes from 0.
-        at: u32,
-    },
-}
-
-impl From<Short> for NotRead {
-    ghost use Rattle.mb_bytes.specs.declared.example.NotRead.TheVariants.{BadRecord};
-
-    ghost from_gives = { λ short e. e ≡ BadRecord short.at };
-
-    fn from(short: Short) -> NotRead {
-        NotRead::BadRecord { at: short.at }
-    }
-}
-
-impl ReadError for NotRead {
-    ghost use Rattle.mb_bytes.specs.Example.{points};
-
-    ghost points = { points };
-
-    fn bad(at: u32) -> NotRead {
-        NotRead::BadRecord { at }
-    }
-
-    fn offset(&self) -> Option<u32> {
-        match self {
-            NotRead::NoMemory => None,
-            NotRead::BadRecord { at } => Some(*at),
-        }
-    }
-}
-
-impl ReadMemoryError for NotRead {
-    fn no_memory() -> NotRead {
-        NotRead::NoMemory
-    }
-}
-
 #[tactic(auto, unfolding(crate::specs::Example::values))]
-fn values_at(alloc: Global, cursor: &mut Cursor<'_>) -> Result<Items<u16>, NotRead>
-    ensures { Reads points values cursor.old result cursor.new }
+fn values_at(alloc: Global, cursor: &mut Cursor<'_>) -> Result<Items<u16>, ReadEnd>
+    ensures { Reads end_at values cursor.old result cursor.new }
 {
     let count = cursor.take_u8()?;
-    items_at::<u16, NotRead>(alloc, (), cursor, count as u32)
+    items_at::<u16>(alloc, (), cursor, count as u32)
 }
 
 #[tactic(auto, unfolding(crate::specs::Example::values))]
@@ -98,11 +54,11 @@ impl Field for Example {
 
     type Needs = Global;
 
-    type End = NotRead;
+    type End = ReadEnd;
 
     ghost format = { example };
 
-    fn read_at(alloc: Global, cursor: &mut Cursor<'_>) -> Result<Example, NotRead> {
+    fn read_at(alloc: Global, cursor: &mut Cursor<'_>) -> Result<Example, ReadEnd> {
         let number = cursor.take_u32()?;
         let name = cursor.take_array()?;
         let values = values_at(alloc, cursor)?;
@@ -128,16 +84,16 @@ impl WriteField for Example {
 }
 
 /// The example that is spelled at the cursor's offset; the cursor is unchanged after an error.
-pub fn read_example(alloc: Global, cursor: &mut Cursor) -> Result<Example, NotRead>
-    ensures { ReadsExactly points example cursor.old result cursor.new }
+pub fn read_example(alloc: Global, cursor: &mut Cursor) -> Result<Example, ReadEnd>
+    ensures { ReadsExactly end_at example cursor.old result cursor.new }
 {
     read_field::<Example>(alloc, cursor)
 }
 
 /// The example that all of the bytes spell.
-pub fn read_whole_example(alloc: Global, bytes: &[u8]) -> Result<Example, NotRead>
+pub fn read_whole_example(alloc: Global, bytes: &[u8]) -> Result<Example, ReadEnd>
     requires { length bytes.now ≤ FILE_LIMIT }
-    ensures { ReadsWhole points example bytes.now result }
+    ensures { ReadsWhole end_at example bytes.now result }
 {
     read_whole::<Example>(alloc, bytes)
 }

@@ -9,10 +9,11 @@ ghost use Rattle.mb_format.specs.Format.{Format};
 ghost use Rattle.mb_format.specs.Combinators.{optional, times};
 ghost use Rattle.mb_format.specs.Reading.{IsExact};
 ghost use Rattle.mb_model.specs.declared.limits.TheConstants.{FILE_LIMIT};
+ghost use Rattle.mb_bytes.specs.Ends.{end_at};
 ghost use Rattle.mb_bytes.specs.Reads.{Reads, ReadsExactly, ReadsWhole};
 ghost use Rattle.mb_bytes.specs.Puts.{Puts, Writes};
 
-use crate::{Cursor, flag_at, put_flag};
+use crate::{Cursor, ReadEnd, flag_at, put_flag};
 use mb_model::{BadRecord, Items, NoMemory};
 use std::alloc::Global;
 
@@ -27,13 +28,6 @@ pub trait ReadError: Drop {
     /// The offset at which the error points; `None` if an allocation failed.
     fn offset(&self) -> Option<u32>
         ensures { result ≡ points self.now };
-}
-
-/// Why no value was read by a reader that allocates memory.
-pub trait ReadMemoryError: ReadError {
-    /// The error if an allocation failed.
-    fn no_memory() -> Self
-        ensures { Self.points result ≡ None };
 }
 
 impl ReadError for BadRecord {
@@ -150,43 +144,37 @@ pub fn put_optional<F: WriteField>(
 }
 
 /// The error of a list in which one item was not read for this reason.
-fn error_of_list<A: ReadError, B: ReadMemoryError>(error: A) -> B
-    ensures { B.points result ≡ A.points error }
+fn end_of_list<E: ReadError>(error: E) -> ReadEnd
+    ensures { end_at result ≡ E.points error }
 {
     match error.offset() {
-        Some(at) => B::bad(at),
-        None => B::no_memory(),
+        Some(at) => ReadEnd::Bad { at },
+        None => ReadEnd::NoMemory,
     }
 }
 
-fn item_at<F: Field, E: ReadMemoryError>(
-    needs: F::Needs,
-    cursor: &mut Cursor<'_>,
-) -> Result<F::Value, E>
-    ensures { Reads E.points F.format cursor.old result cursor.new }
+fn item_at<F: Field>(needs: F::Needs, cursor: &mut Cursor<'_>) -> Result<F::Value, ReadEnd>
+    ensures { Reads end_at F.format cursor.old result cursor.new }
 {
     match F::read_at(needs, cursor) {
         Ok(item) => Ok(item),
-        Err(error) => Err(error_of_list(error)),
+        Err(error) => Err(end_of_list(error)),
     }
 }
 
-/// Reads `count` values, one after another. The list has an error type of its own, since its items may be read without
-/// memory and a list never is.
-pub fn items_at<F: Field, E: ReadMemoryError>(
+/// Reads `count` values, one after another. The list takes memory, which its items may not do.
+pub fn items_at<F: Field>(
     alloc: Global,
     needs: F::Needs,
     cursor: &mut Cursor<'_>,
     count: u32,
-) -> Result<Items<F::Value>, E>
-    ensures { Reads E.points (times count F.format) cursor.old result cursor.new }
+) -> Result<Items<F::Value>, ReadEnd>
+    ensures { Reads end_at (times count F.format) cursor.old result cursor.new }
 {
     let mut items = Items::new(alloc);
     for _i in 0..count {
-        let item = item_at::<F, E>(needs, cursor)?;
-        let Ok(()) = items.push(item) else {
-            return Err(E::no_memory());
-        };
+        let item = item_at::<F>(needs, cursor)?;
+        items.push(item)?;
     }
     Ok(items)
 }

@@ -9,6 +9,7 @@
 #![tactic(auto)]
 
 mod cursor;
+mod end;
 pub mod example;
 mod field;
 mod fields;
@@ -17,9 +18,10 @@ mod own;
 mod puts;
 
 pub use cursor::{Cursor, Short};
+pub use end::ReadEnd;
 pub use field::{
-    Field, ReadError, ReadMemoryError, WriteField, items_at, optional_at, put_items, put_optional,
-    read_field, read_whole, write_field,
+    Field, ReadError, WriteField, items_at, optional_at, put_items, put_optional, read_field,
+    read_whole, write_field,
 };
 pub use fields::{
     bytes_after_u8, bytes_after_u16, bytes_after_u32, flag_at, is_name, put_after_u8,

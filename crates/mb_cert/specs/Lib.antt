@@ -1,4 +1,2 @@
-pub mod Ends
 pub mod Parts
 pub mod Bounds
-pub mod StatementReading

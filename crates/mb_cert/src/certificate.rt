@@ -1,15 +1,13 @@
 //! The signer of an entry.
 
-ghost use Rattle.std.specs.Prelude.{◌≡◌, ◌↔◌, IfOk, IsTrue};
+ghost use Rattle.std.specs.Prelude.{◌≡◌, ◌↔◌, IsTrue};
 ghost use Rattle.mb_model.specs.records.EntryFormat.{entry_format};
 ghost use Rattle.mb_model.specs.signatures.Merkle.{leaf_number, Verifies};
 ghost use Rattle.mb_model.specs.machine.SignedTexts.{entry_text};
 
-use mb_layout::write_entry;
 use mb_lms::verify;
 use mb_model::separators::ENTRY_TEXT;
-use mb_model::{NoMemory, PublicKey, SIGNATURE_LENGTH, SignedEntry};
-use std::alloc::Global;
+use mb_model::{PublicKey, SIGNATURE_LENGTH, SignedEntry};
 
 /// The index of a signature, which is the number of its leaf (RFC 8554, section 5.4).
 pub fn leaf_number(signature: &[u8; SIGNATURE_LENGTH]) -> u32
@@ -20,14 +18,12 @@ pub fn leaf_number(signature: &[u8; SIGNATURE_LENGTH]) -> u32
     u32::from_be_bytes(index)
 }
 
-/// Whether the entry's signature is one of the entry under the key (RFC 8554, section 5.4.2). Memory is taken for the
-/// bytes of the entry.
+/// Whether the entry's signature is one of the entry under the key (RFC 8554, section 5.4.2). `spelling` is the entry's
+/// spelling. Takes no memory.
 #[tactic(auto, unfolding(mb_model::specs::machine::SignedTexts::entry_text))]
-pub fn certifies(alloc: Global, key: &PublicKey, signed: &SignedEntry) -> Result<bool, NoMemory>
-    requires { entry_format.Allowed signed.now.entry }
-    ensures { IfOk result (λ yes. IsTrue yes ↔ Verifies key.now (entry_text signed.now.entry) signed.now.signature) }
+pub fn certifies(key: &PublicKey, signed: &SignedEntry, spelling: &[u8]) -> bool
+    requires { spelling.now ≡ entry_format.spelling signed.now.entry }
+    ensures { IsTrue result ↔ Verifies key.now (entry_text signed.now.entry) signed.now.signature }
 {
-    let mut spelling = Vec::new(alloc);
-    write_entry(&signed.entry, &mut spelling)?;
-    Ok(verify(key, &[ENTRY_TEXT], spelling.as_slice(), &signed.signature))
+    verify(key, &[ENTRY_TEXT], spelling, &signed.signature)
 }

@@ -5,7 +5,7 @@ ghost use Rattle.mb_model.specs.declared.limits.TheConstants.{FILE_LIMIT};
 ghost use Rattle.mb_model.specs.records.ChainFormat.{chain_format};
 ghost use Rattle.mb_bytes.specs.Reads.{Reads, ReadsWhole};
 ghost use Rattle.mb_bytes.specs.Puts.{Puts, Writes};
-ghost use Rattle.mb_cert.specs.Ends.{chain_at};
+ghost use Rattle.mb_bytes.specs.Ends.{end_at};
 ghost use Rattle.mb_cert.specs.Parts.{chain_entries_format};
 
 use crate::end::ChainEnd;
@@ -23,11 +23,11 @@ const WORD: [u8; 4] = *b"MBC1";
 
 /// The chain that all of the bytes spell, at most 4,194,304 of them.
 ///
-/// Errors: `BadChain` with the offset of the first field that lacks bytes or is not allowed, or of the first byte after
+/// Errors: `Bad` with the offset of the first field that lacks bytes or is not allowed, or of the first byte after
 /// the last field; and `NoMemory`.
 pub fn read_chain(alloc: Global, bytes: &[u8]) -> Result<Chain, ChainEnd>
     requires { length bytes.now ≤ FILE_LIMIT }
-    ensures { ReadsWhole chain_at chain_format bytes.now result }
+    ensures { ReadsWhole end_at chain_format bytes.now result }
 {
     read_whole::<ChainField>(alloc, bytes)
 }
@@ -74,10 +74,10 @@ impl WriteField for ChainField {
 /// The entries of a chain, after their number.
 #[tactic(auto, unfolding(crate::specs::Parts::chain_entries_format))]
 fn entries_at(alloc: Global, cursor: &mut Cursor<'_>) -> Result<Log, ChainEnd>
-    ensures { Reads chain_at chain_entries_format cursor.old result cursor.new }
+    ensures { Reads end_at chain_entries_format cursor.old result cursor.new }
 {
     let count = u16_between(cursor, 1, ENTRY_LIMIT)?;
-    items_at::<SignedEntryField, ChainEnd>(alloc, (), cursor, count as u32)
+    items_at::<SignedEntryField>(alloc, (), cursor, count as u32)
 }
 
 /// An entry and its signature.

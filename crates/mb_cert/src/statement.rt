@@ -5,7 +5,7 @@ ghost use Rattle.mb_model.specs.declared.limits.TheConstants.{FILE_LIMIT};
 ghost use Rattle.mb_model.specs.records.ChainFormat.{statement_format};
 ghost use Rattle.mb_bytes.specs.Reads.{ReadsWhole};
 ghost use Rattle.mb_bytes.specs.Puts.{Writes};
-ghost use Rattle.mb_cert.specs.Ends.{chain_at};
+ghost use Rattle.mb_bytes.specs.Ends.{end_at};
 
 use crate::end::ChainEnd;
 use mb_bytes::{
@@ -60,11 +60,11 @@ impl WriteField for StatementField {
 
 /// The statement that all of the bytes spell, at most 4,194,304 of them.
 ///
-/// Errors: `BadChain` with the offset of the first field that lacks bytes or is not allowed, or of the first byte after
+/// Errors: `Bad` with the offset of the first field that lacks bytes or is not allowed, or of the first byte after
 /// the last field; and `NoMemory`.
 pub fn read_statement(alloc: Global, bytes: &[u8]) -> Result<Statement, ChainEnd>
     requires { length bytes.now ≤ FILE_LIMIT }
-    ensures { ReadsWhole chain_at statement_format bytes.now result }
+    ensures { ReadsWhole end_at statement_format bytes.now result }
 {
     read_whole::<StatementField>(alloc, bytes)
 }

@@ -4,33 +4,24 @@ ghost use Rattle.std.specs.Prelude.{◌∷◌, [], IfOk};
 ghost use Rattle.mb_format.specs.Format.{Spells};
 ghost use Rattle.mb_model.specs.records.ChainFormat.{statement_format};
 ghost use Rattle.mb_model.specs.chains.OrderLines.{IsStatementLine};
-ghost use Rattle.mb_words.specs.Words.{Finds};
-ghost use Rattle.mb_cert.specs.StatementReading.{ReadsStatementLine};
+ghost use Rattle.mb_words.specs.Words.{Finds, ReadsTextOf};
 
 use crate::end::ChainEnd;
 use crate::statement::read_statement;
 use mb_model::{STATEMENT_LIMIT, Statement};
-use mb_words::{NotSaid, read_hex, split_line};
+use mb_words::{NotSaid, TextEnd, read_hex, split_line};
 use std::alloc::Global;
 
-/// Why the line of a statement was not read.
-#[derive(Clone, Copy, Debug, PartialEq, Eq)]
-pub enum StatementLineEnd {
-    /// The first line is not that of a statement, or a second line follows it.
-    BadLine {
-        /// The number of the first such line: 1 (for a text without lines too), or 2.
-        line: u32,
-    },
-    /// An allocation failed.
-    NoMemory,
-}
+/// Why the line of a statement was not read: line 1 is not that of a statement, or is not there, or line 2 follows it;
+/// or an allocation failed.
+pub type StatementLineEnd = TextEnd;
 
 /// The statement of the text, whose one line is its bytes in hexadecimal. The line may lack its LF.
 ///
 /// Errors: `BadLine` with 1 if there is no line or the first is not that of a statement, and with 2 if another line
 /// follows that of a statement, even an empty one; and `NoMemory`.
 pub fn read_statement_line(alloc: Global, text: &[u8]) -> Result<Statement, StatementLineEnd>
-    ensures read { ReadsStatementLine text.now result }
+    ensures read { ReadsTextOf IsStatementLine text.now result }
     ensures spelled { IfOk result (λ statement. statement_format.Allowed statement) }
 {
     if text.is_empty() {
@@ -67,7 +58,7 @@ fn statement_of(alloc: Global, bytes: &[u8]) -> Result<Statement, NotSaid>
     }
     match read_statement(alloc, bytes) {
         Ok(statement) => Ok(statement),
-        Err(ChainEnd::BadChain { .. }) => Err(NotSaid::Form),
+        Err(ChainEnd::Bad { .. }) => Err(NotSaid::Form),
         Err(ChainEnd::NoMemory) => Err(NotSaid::NoMemory),
     }
 }

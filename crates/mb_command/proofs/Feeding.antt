@@ -8,10 +8,10 @@ use Rattle.mb_model.proofs.OrderFormatLaws.{order_exact}
 use Rattle.mb_model.proofs.FormatBounds.{order_short}
 use Rattle.mb_bytes.specs.declared.cursor.Cursor.{Cursor}
 use Rattle.mb_bytes.specs.Reads.{FailsWholeAt}
-use Rattle.mb_command.specs.declared.end.OrderEnd.{OrderEnd}
-use Rattle.mb_command.specs.declared.end.OrderEnd.TheVariants.{BadText, NoMemory}
+use Rattle.mb_bytes.specs.declared.end.ReadEnd.{ReadEnd}
+use Rattle.mb_bytes.specs.declared.end.ReadEnd.TheVariants.{Bad, NoMemory}
 use Rattle.mb_command.specs.Beginnings.{FailsHowever, CanBecome, FailsFrom, CanEndFrom}
-use Rattle.mb_command.specs.Ends.{order_text_at}
+use Rattle.mb_bytes.specs.Ends.{end_at}
 use Rattle.mb_command.specs.Feeding.{Feeds}
 use Rattle.mb_command.specs.Surveys.{IsFound, NothingTold}
 use Rattle.mb_command.proofs.WholeBeginnings.{never_both, whole_lost, whole_over, whole_here, whole_open, fails_more}
@@ -61,11 +61,11 @@ becomes_unfailed bytes at h can fails = never_both order_format order_exact byte
 -- ---- after an error
 
 -- the error answers the bytes with one piece more
-pub ended_more : (fed piece : List ℕ) (end : OrderEnd) → IsBytes piece → Feeds fed (Err end) → Feeds (fed ++ piece) (Err end)
-ended_more fed piece (BadText at) h fails = fails_more order_format fed piece at h fails
+pub ended_more : (fed piece : List ℕ) (end : ReadEnd) → IsBytes piece → Feeds fed (Err end) → Feeds (fed ++ piece) (Err end)
+ended_more fed piece (Bad at) h fails = fails_more order_format fed piece at h fails
 ended_more fed piece NoMemory h u = tt
 
 -- the error answers the bytes as a whole
-pub ended_whole : (fed : List ℕ) (end : OrderEnd) → Feeds fed (Err end) → FailsWholeAt order_format fed (order_text_at end)
-ended_whole fed (BadText at) fails = subst (λ (b : List ℕ). FailsWhole order_format b at) (append-nil fed) (fails.fails [] IsBytes-none)
+pub ended_whole : (fed : List ℕ) (end : ReadEnd) → Feeds fed (Err end) → FailsWholeAt order_format fed (end_at end)
+ended_whole fed (Bad at) fails = subst (λ (b : List ℕ). FailsWhole order_format b at) (append-nil fed) (fails.fails [] IsBytes-none)
 ended_whole fed NoMemory u = tt

@@ -1,5 +1,5 @@
 -- How many bytes the parts of an order have.
-use Rattle.std.proofs.Common.{◌≡◌, ◌⊎◌, inl, inr, ℕ, zero, suc, ◌+◌, ◌<◌, ◌≤◌, Bool, true, false, not, List, [], ◌∷◌, ◌++◌, length, get_or, drop, flat_map, refl, sym, ap, ◌∙◌, arith, length-append, take}
+use Rattle.std.proofs.Common.{◌≡◌, ◌⊎◌, inl, inr, ℕ, zero, suc, ◌+◌, ◌<◌, ◌≤◌, Bool, true, false, not, List, [], ◌∷◌, ◌++◌, length, get_or, drop, flat_map, refl, sym, ap, ◌∙◌, arith, length-append, length-take, take}
 use Rattle.std.proofs.lemmas.List.{take_at, drop_all}
 use Rattle.std.specs.Prelude.{if◌then◌else◌}
 use Rattle.std.specs.List.{AllByRecursion}
@@ -164,3 +164,7 @@ length-body order =
 pub body_first : (order : Order) (n : ℕ) → n ≡ length (order_body order) → take n (order_format.spelling order) ≡ order_body order
 unfolding order_format
 body_first order n e = take_at (order_body order) _ n (sym e)
+
+-- and the signed part ends within the spelling
+pub body_within : (order : Order) (bytes : List ℕ) (n : ℕ) → bytes ≡ order_format.spelling order → n ≡ length (order_body order) → take n (order_format.spelling order) ≡ order_body order → n ≤ length bytes
+body_within order bytes n whole size first = omega (arith, size, ap length first, ap length whole, length-take n (order_format.spelling order))

@@ -1,5 +1,4 @@
 pub mod Beginnings
-pub mod Ends
 pub mod Feeding
 pub mod Parts
 pub mod Surveys

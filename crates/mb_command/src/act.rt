@@ -10,7 +10,7 @@ ghost use Rattle.mb_model.specs.records.LayerFormat.{trust_byte};
 ghost use Rattle.mb_model.specs.records.OrderFormat.{other_rows, differing_trusts, given_trusts, differs_in, payload_format, act_by};
 ghost use Rattle.mb_bytes.specs.Reads.{bad_at, Reads};
 ghost use Rattle.mb_bytes.specs.Puts.{Puts};
-ghost use Rattle.mb_command.specs.Ends.{order_text_at};
+ghost use Rattle.mb_bytes.specs.Ends.{end_at};
 ghost use Rattle.mb_command.specs.Writing.{HasShortCode};
 
 use crate::end::OrderEnd;
@@ -58,7 +58,7 @@ fn given_trusts_at(cursor: &mut Cursor, differs: bool) -> Result<Trusts, BadReco
 
 #[tactic(auto, unfolding(mb_model::specs::records::OrderFormat::payload_format))]
 fn payload_at(alloc: Global, cursor: &mut Cursor, differs: bool) -> Result<Payload, OrderEnd>
-    ensures { Reads order_text_at (payload_format differs) cursor.old result cursor.new }
+    ensures { Reads end_at (payload_format differs) cursor.old result cursor.new }
 {
     let version = cursor.take_u32()?;
     let trust = given_trusts_at(cursor, differs)?;
@@ -71,7 +71,7 @@ fn payload_at(alloc: Global, cursor: &mut Cursor, differs: bool) -> Result<Paylo
 }
 
 fn establish_at(cursor: &mut Cursor, differs: bool) -> Result<Act, OrderEnd>
-    ensures { Reads order_text_at (act_by OrderKind.Establish differs) cursor.old result cursor.new }
+    ensures { Reads end_at (act_by OrderKind.Establish differs) cursor.old result cursor.new }
 {
     let owner = public_key_at(cursor)?;
     let trust = given_trusts_at(cursor, differs)?;
@@ -79,19 +79,19 @@ fn establish_at(cursor: &mut Cursor, differs: bool) -> Result<Act, OrderEnd>
 }
 
 fn load_at(alloc: Global, cursor: &mut Cursor, differs: bool) -> Result<Act, OrderEnd>
-    ensures { Reads order_text_at (act_by OrderKind.Load differs) cursor.old result cursor.new }
+    ensures { Reads end_at (act_by OrderKind.Load differs) cursor.old result cursor.new }
 {
     Ok(Act::Load(payload_at(alloc, cursor, differs)?))
 }
 
 fn emergency_at(alloc: Global, cursor: &mut Cursor, differs: bool) -> Result<Act, OrderEnd>
-    ensures { Reads order_text_at (act_by OrderKind.Emergency differs) cursor.old result cursor.new }
+    ensures { Reads end_at (act_by OrderKind.Emergency differs) cursor.old result cursor.new }
 {
     Ok(Act::Emergency(payload_at(alloc, cursor, differs)?))
 }
 
 fn new_key_at(cursor: &mut Cursor, differs: bool) -> Result<Act, OrderEnd>
-    ensures { Reads order_text_at (act_by OrderKind.NewKey differs) cursor.old result cursor.new }
+    ensures { Reads end_at (act_by OrderKind.NewKey differs) cursor.old result cursor.new }
 {
     let kind = key_kind_at(cursor)?;
     Ok(Act::NewKey { kind })
@@ -99,7 +99,7 @@ fn new_key_at(cursor: &mut Cursor, differs: bool) -> Result<Act, OrderEnd>
 
 /// Reads what an order of the form does.
 pub fn act_at(alloc: Global, cursor: &mut Cursor, form: OrderForm) -> Result<Act, OrderEnd>
-    ensures { Reads order_text_at (act_by form.kind form.differs) cursor.old result cursor.new }
+    ensures { Reads end_at (act_by form.kind form.differs) cursor.old result cursor.new }
 {
     match form.kind {
         OrderKind::Establish => establish_at(cursor, form.differs),

@@ -6,13 +6,13 @@ ghost use Rattle.mb_model.specs.declared.limits.TheConstants.{SIGNATURE_LIMIT};
 ghost use Rattle.mb_model.specs.records.OrderFormat.{Body, sized_signature_format, countersignature_format, countersignatures_format};
 ghost use Rattle.mb_bytes.specs.Reads.{Reads};
 ghost use Rattle.mb_bytes.specs.Puts.{Puts};
-ghost use Rattle.mb_command.specs.Ends.{order_text_at};
+ghost use Rattle.mb_bytes.specs.Ends.{end_at};
 ghost use Rattle.mb_command.specs.Parts.{body_in, HasLayer, countersignature_bytes};
 ghost use Rattle.mb_command.specs.Writing.{HasShortSignature};
 
 use crate::body::SignedPart;
 use crate::end::OrderEnd;
-use crate::kind::{kind_of, most_countersigned};
+use crate::kind::{countersignature_limit, kind_of};
 use mb_bytes::{Cursor, bytes_after_u16, put_after_u16, put_u8, u8_between};
 use mb_model::{Bytes, Countersignature, Countersignatures, Items, NoMemory, SIGNATURE_LIMIT};
 use std::alloc::Global;
@@ -20,7 +20,7 @@ use std::alloc::Global;
 /// Reads a signature after its length in two bytes.
 #[tactic(auto, unfolding(mb_model::specs::records::OrderFormat::sized_signature_format))]
 pub fn signature_at(alloc: Global, cursor: &mut Cursor) -> Result<Bytes, OrderEnd>
-    ensures { Reads order_text_at sized_signature_format cursor.old result cursor.new }
+    ensures { Reads end_at sized_signature_format cursor.old result cursor.new }
 {
     let signature = bytes_after_u16(cursor, 0, SIGNATURE_LIMIT)?;
     Ok(Bytes::copy(alloc, signature)?)
@@ -36,7 +36,7 @@ fn countersignature_at(
 ) -> Result<Countersignature, OrderEnd>
     requires below { below ≤ 3 }
     requires left { left ≤ 3 }
-    ensures reads { Reads order_text_at (countersignature_format (record { below = below; left = left })) cursor.old result cursor.new }
+    ensures reads { Reads end_at (countersignature_format (record { below = below; left = left })) cursor.old result cursor.new }
     ensures layer { IfOk result (λ c. c.layer ≤ 4 - left) }
 {
     let layer = u8_between(cursor, below + 1, 4 - left)?;
@@ -53,9 +53,9 @@ pub fn countersignatures_at(
     body: &SignedPart,
 ) -> Result<Countersignatures, OrderEnd>
     requires { HasLayer body.now }
-    ensures { Reads order_text_at (countersignatures_format (body_in body.now)) cursor.old result cursor.new }
+    ensures { Reads end_at (countersignatures_format (body_in body.now)) cursor.old result cursor.new }
 {
-    let most = most_countersigned(kind_of(&body.act), body.layer);
+    let most = countersignature_limit(kind_of(&body.act), body.layer);
     let count = u8_between(cursor, 0, most)?;
     let mut list = Items::new(alloc);
     let mut below = body.layer;

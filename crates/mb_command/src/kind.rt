@@ -67,7 +67,7 @@ pub fn kind_of(act: &Act) -> OrderKind
 }
 
 /// The byte of a form.
-pub fn form_number(form: OrderForm) -> u8
+pub fn form_byte(form: OrderForm) -> u8
     ensures { result ≡ form_byte form }
 {
     if form.differs {
@@ -103,7 +103,7 @@ pub fn least_layer(kind: OrderKind) -> u8
 }
 
 /// How many countersignatures an order of the kind for the layer may have: one of each layer above, for loads.
-pub fn most_countersigned(kind: OrderKind, layer: u8) -> u8
+pub fn countersignature_limit(kind: OrderKind, layer: u8) -> u8
     requires { layer ≤ 3 }
     ensures { result ≡ countersignature_limit kind layer }
 {

@@ -25,4 +25,4 @@ pub use body::body_length;
 pub use end::OrderEnd;
 pub use order::{ORDER_LIMIT, read_order, write_order};
 pub use reader::OrderReader;
-pub use signed::signed_part;
+pub use signed::{order_body, signed_prefix};

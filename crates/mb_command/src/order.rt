@@ -5,7 +5,7 @@ ghost use Rattle.mb_command.specs.declared.order.TheConstants.{ORDER_LIMIT};
 ghost use Rattle.mb_model.specs.records.OrderFormat.{order_format};
 ghost use Rattle.mb_bytes.specs.Reads.{ReadsWhole};
 ghost use Rattle.mb_bytes.specs.Puts.{Puts, Writes};
-ghost use Rattle.mb_command.specs.Ends.{order_text_at};
+ghost use Rattle.mb_bytes.specs.Ends.{end_at};
 ghost use Rattle.mb_command.specs.Writing.{IsSizedOrder};
 
 use crate::body::{body_at, put_body};
@@ -65,11 +65,11 @@ impl WriteField for OrderField {
 
 /// Reads the order that the whole of the bytes spells. The bytes may be more than any order has.
 ///
-/// Errors: `BadText` with the offset of the first field that lacks bytes or is not allowed, or of the first byte after
+/// Errors: `Bad` with the offset of the first field that lacks bytes or is not allowed, or of the first byte after
 /// the last field, at most `ORDER_LIMIT`; and `NoMemory`.
 pub fn read_order(alloc: Global, bytes: &[u8]) -> Result<Order, OrderEnd>
-    ensures reads { ReadsWhole order_text_at order_format bytes.now result }
-    ensures near { IfErr result (λ end. IfSome (order_text_at end) (λ at. at ≤ ORDER_LIMIT)) }
+    ensures reads { ReadsWhole end_at order_format bytes.now result }
+    ensures near { IfErr result (λ end. IfSome (end_at end) (λ at. at ≤ ORDER_LIMIT)) }
 {
     let mut reader = OrderReader::new(alloc);
     reader.feed(bytes)?;

@@ -4,9 +4,9 @@ ghost use Rattle.std.specs.Prelude.{◌≡◌, ◌≤◌, ◌++◌, List, ℕ, �
 ghost use Rattle.mb_model.specs.records.OrderFormat.{order_format};
 ghost use Rattle.mb_bytes.specs.Reads.{ReadsWhole};
 ghost use Rattle.mb_command.specs.declared.order.TheConstants.{ORDER_LIMIT};
-ghost use Rattle.mb_command.specs.declared.end.OrderEnd.{OrderEnd};
+ghost use Rattle.mb_bytes.specs.declared.end.ReadEnd.{ReadEnd};
 ghost use Rattle.mb_command.specs.declared.reader.Taken.TheVariants.{Ended};
-ghost use Rattle.mb_command.specs.Ends.{order_text_at};
+ghost use Rattle.mb_bytes.specs.Ends.{end_at};
 ghost use Rattle.mb_command.specs.Feeding.{Feeds, IsKeptOf, WasFed, HasEnded};
 
 use crate::begun::Begun;
@@ -59,7 +59,7 @@ impl Begun {
     fn take_in(self, piece: &[u8]) -> (Taken, Result<(), OrderEnd>)
         ensures keeps { IsKeptOf result.0 (self.text.items ++ piece.now) }
         ensures answers { Feeds (self.text.items ++ piece.now) result.1 }
-        ensures ends { (end : OrderEnd) → result.1 ≡ Err end → result.0 ≡ Ended end }
+        ensures ends { (end : ReadEnd) → result.1 ≡ Err end → result.0 ≡ Ended end }
     {
         let Begun { mut text } = self;
         let there = text.len();
@@ -67,7 +67,7 @@ impl Begun {
             Err(_) => ended(OrderEnd::NoMemory),
             Ok(()) => match failing_offset(&text) {
                 None => (Taken::Begun(Begun { text }), Ok(())),
-                Some(at) => ended(OrderEnd::BadText { at }),
+                Some(at) => ended(OrderEnd::Bad { at }),
             },
         }
     }
@@ -85,8 +85,8 @@ fn ended(end: OrderEnd) -> (Taken, Result<(), OrderEnd>)
 fn after(taken: Taken, piece: &[u8]) -> (Taken, Result<(), OrderEnd>)
     ensures keeps { (fed : List ℕ) → IsKeptOf taken fed → IsKeptOf result.0 (fed ++ piece.now) }
     ensures answers { (fed : List ℕ) → IsKeptOf taken fed → Feeds (fed ++ piece.now) result.1 }
-    ensures stays { (end : OrderEnd) → taken ≡ Ended end → result.1 ≡ Err end }
-    ensures ends { (end : OrderEnd) → result.1 ≡ Err end → result.0 ≡ Ended end }
+    ensures stays { (end : ReadEnd) → taken ≡ Ended end → result.1 ≡ Err end }
+    ensures ends { (end : ReadEnd) → result.1 ≡ Err end → result.0 ≡ Ended end }
 {
     match taken {
         Taken::Begun(begun) => begun.take_in(piece),
@@ -106,15 +106,15 @@ impl OrderReader {
 
     /// Takes the next piece of the order's bytes.
     ///
-    /// Errors: `BadText` exactly if the pieces so far fail as an order at this offset whatever bytes follow; and
+    /// Errors: `Bad` exactly if the pieces so far fail as an order at this offset whatever bytes follow; and
     /// `NoMemory`. After an error each later call answers the same error. A field fails at its beginning as soon as its
     /// first bytes settle that it fails; if whole fields were waited for, the answer would depend on how the bytes are
     /// cut.
     pub fn feed(&mut self, piece: &[u8]) -> Result<(), OrderEnd>
         ensures answers { (fed : List ℕ) → WasFed self.old fed → Feeds (fed ++ piece.now) result }
         ensures takes { (fed : List ℕ) → WasFed self.old fed → WasFed self.new (fed ++ piece.now) }
-        ensures stays { (end : OrderEnd) → HasEnded self.old end → result ≡ Err end }
-        ensures ends { (end : OrderEnd) → result ≡ Err end → HasEnded self.new end }
+        ensures stays { (end : ReadEnd) → HasEnded self.old end → result ≡ Err end }
+        ensures ends { (end : ReadEnd) → result ≡ Err end → HasEnded self.new end }
     {
         let nothing = Taken::Ended(OrderEnd::NoMemory);
         let (taken, answer) = after(std::mem::replace(&mut self.taken, nothing), piece);
@@ -124,12 +124,12 @@ impl OrderReader {
 
     /// The order that the pieces spell together, as `read_order` reads it.
     ///
-    /// Errors: the error of an earlier `feed`; else `BadText` with the offset of the first field that lacks bytes or is
+    /// Errors: the error of an earlier `feed`; else `Bad` with the offset of the first field that lacks bytes or is
     /// not allowed, or of the first byte after the last field; and `NoMemory`.
     pub fn finish(self, alloc: Global) -> Result<Order, OrderEnd>
-        ensures reads { (fed : List ℕ) → WasFed self fed → ReadsWhole order_text_at order_format fed result }
+        ensures reads { (fed : List ℕ) → WasFed self fed → ReadsWhole end_at order_format fed result }
         ensures allowed { IfOk result (λ order. order_format.Allowed order) }
-        ensures stays { (end : OrderEnd) → HasEnded self end → result ≡ Err end }
+        ensures stays { (end : ReadEnd) → HasEnded self end → result ≡ Err end }
     {
         match self.taken {
             Taken::Begun(begun) => read_whole::<OrderField>(alloc, &begun.text),

@@ -8,7 +8,7 @@ ghost use Rattle.mb_model.specs.declared.limits.TheConstants.{FILE_LIMIT};
 ghost use Rattle.mb_model.specs.records.OrderFormat.{countersignature_format, order_format};
 ghost use Rattle.mb_command.specs.Surveys.{Surveys, NothingTold, IsLayerOf, countersignatures_above, IsSettled};
 
-use crate::kind::most_countersigned;
+use crate::kind::countersignature_limit;
 use crate::stuck::{Heading, Stuck};
 use crate::survey_body::survey_body;
 use crate::survey_fields::{survey_signature, survey_u8};
@@ -31,7 +31,7 @@ fn survey_countersignatures(cursor: &mut Cursor, heading: Heading) -> Result<(),
     requires { heading.layer ≤ 3 }
     ensures { Surveys NothingTold (countersignatures_above heading.kind heading.layer) cursor.old result cursor.new }
 {
-    let most = most_countersigned(heading.kind, heading.layer);
+    let most = countersignature_limit(heading.kind, heading.layer);
     let count = survey_u8(cursor, 0, most)?;
     let mut below = heading.layer;
     for i in 0..count {

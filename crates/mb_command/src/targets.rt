@@ -8,7 +8,7 @@ ghost use Rattle.mb_model.specs.records.OrderFormat.{serial_tag, length_tag, own
 ghost use Rattle.mb_model.specs.records.OrderFormat.{target_format};
 ghost use Rattle.mb_bytes.specs.Reads.{bad_at, Reads};
 ghost use Rattle.mb_bytes.specs.Puts.{Puts};
-ghost use Rattle.mb_command.specs.Ends.{order_text_at};
+ghost use Rattle.mb_bytes.specs.Ends.{end_at};
 ghost use Rattle.mb_command.specs.Parts.{named_bytes};
 
 use crate::end::OrderEnd;
@@ -98,10 +98,10 @@ impl WriteField for TargetField {
 
 /// Reads the targets of an order, after a byte for their number.
 pub fn targets_at(alloc: Global, cursor: &mut Cursor) -> Result<Targets, OrderEnd>
-    ensures { Reads order_text_at (counted (between w8 0 TARGET_LIMIT) target_format) cursor.old result cursor.new }
+    ensures { Reads end_at (counted (between w8 0 TARGET_LIMIT) target_format) cursor.old result cursor.new }
 {
     let count = u8_between(cursor, 0, TARGET_LIMIT)?;
-    items_at::<TargetField, OrderEnd>(alloc, (), cursor, count as u32)
+    items_at::<TargetField>(alloc, (), cursor, count as u32)
 }
 
 fn put_named(out: &mut Vec<u8>, tag: u8, layer: u8, hash: &[u8; 32]) -> Result<(), NoMemory>

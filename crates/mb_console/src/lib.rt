@@ -1,8 +1,7 @@
 //! What the commands of the command line share.
 //!
 //! This crate owns the words of the command line, the reading of inputs, the writing of outputs, and the lines and exit
-//! statuses of commands that are not done. It stands on the definition of what a command comes to (`Commands` of
-//! `mb_model_commands`). It names no command.
+//! statuses of commands that are not done. It names no command.
 #![tactic(auto)]
 
 mod end;

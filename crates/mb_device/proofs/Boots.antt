@@ -22,7 +22,7 @@ use Rattle.mb_model_memory.specs.Holding.{Means, IsReady}
 use Rattle.mb_device_orders.specs.Remembering.{Knows}
 use Rattle.mb_boot.specs.Booting.{Cleans, KeepsState}
 use Rattle.mb_device.specs.declared.device.Device.TheVariants as device
-use Rattle.mb_device.specs.declared.device.Running.{Running}
+use Rattle.mb_device_orders.specs.declared.remembering.Running.{Running}
 use Rattle.mb_device.specs.Sound.{IsSoundDevice, Steps}
 use Rattle.mb_device.proofs.Worlds.{boot_live, boot_none}
 use Rattle.mb_device.proofs.Steps.{live_world, live_sound, off_sound, cut_short}

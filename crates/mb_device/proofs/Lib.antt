@@ -9,4 +9,5 @@ pub mod Cleans
 pub mod Serves
 pub mod Stops
 pub mod Trees
+pub mod Answered
 pub mod TreeCounterProofs

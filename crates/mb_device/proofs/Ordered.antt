@@ -16,7 +16,7 @@ use Rattle.mb_device_orders.specs.declared.remembering.Known.{Known}
 use Rattle.mb_device_orders.specs.Obeying.{IsOrderAnswered, answer_lacks, answer_tells, IsOrderCut}
 use Rattle.mb_device.specs.declared.device.Device.{Device}
 use Rattle.mb_device.specs.declared.device.Device.TheVariants as device
-use Rattle.mb_device.specs.declared.device.Running.{Running}
+use Rattle.mb_device_orders.specs.declared.remembering.Running.{Running}
 use Rattle.mb_device.specs.Sound.{IsSoundDevice, IsRunning, Fits, Steps}
 use Rattle.mb_device.specs.Stepping.{stop_told}
 use Rattle.mb_device.proofs.Steps as steps

@@ -11,7 +11,7 @@ use Rattle.mb_model_lemmas.proofs.WrittenImages.{zeros_blank, length-zeros}
 use Rattle.mb_board.specs.Calls.{held_by}
 use Rattle.mb_device.specs.declared.device.Device.{Device}
 use Rattle.mb_device.specs.declared.device.Device.TheVariants as device
-use Rattle.mb_device.specs.declared.device.Running.{Running}
+use Rattle.mb_device_orders.specs.declared.remembering.Running.{Running}
 use Rattle.mb_device.specs.Sound.{IsSoundDevice, IsRunning, Fits, taken, Steps}
 use Rattle.mb_device.specs.Stepping.{IsOff}
 use Rattle.mb_device.proofs.Worlds.{off_at}

@@ -21,7 +21,7 @@ use Rattle.mb_model_memory.specs.Holding.{IsReady}
 use Rattle.mb_device_orders.specs.Remembering.{Knows}
 use Rattle.mb_device_orders.specs.declared.remembering.Known.{Known}
 use Rattle.mb_device.specs.declared.device.Device.{Device}
-use Rattle.mb_device.specs.declared.device.Running.{Running}
+use Rattle.mb_device_orders.specs.declared.remembering.Running.{Running}
 use Rattle.mb_device.specs.Sound.{IsSoundDevice, IsRunning, Fits, Steps}
 use Rattle.mb_device.specs.Stepping.{status_known}
 use Rattle.mb_device.proofs.Worlds.{awake_at, go_second, go_third, go_no_second, go_no_third}

@@ -8,7 +8,6 @@ use Rattle.mb_model.specs.declared.reply.Refusal.{Refusal}
 use Rattle.mb_model.specs.declared.reply.Reply.{Reply}
 use Rattle.mb_model.specs.declared.reply.Reply.TheVariants as reply
 use Rattle.mb_model.specs.chains.Listing.{is_done, is_signed}
-use Rattle.mb_model.specs.machine.Machine.{World}
 use Rattle.mb_model.specs.machine.Refusals.{refusal_reply}
 use Rattle.mb_outbound.specs.declared.kept.RegionTree.{RegionTree}
 use Rattle.mb_outbound.specs.KeptTrees.{IsKeptFor}
@@ -19,7 +18,7 @@ use Rattle.mb_device_regions.specs.Statements.{KeepsTree, LeavesTree}
 use Rattle.mb_device.specs.declared.device.Device.{Device}
 use Rattle.mb_device.specs.declared.device.Device.TheVariants as device
 use Rattle.mb_device.specs.Regions.{region_named}
-use Rattle.mb_device.specs.KeptTrees.{region_tree_in, HasDeviceTree, IsKeptToSign, IsKeptOnceSigned, leaves_tree, leaves_device_tree, TreesAreKept, trees_of, HasTreeFor, KeepsItsTrees, KeepsTreeOnceDone, MakesKeysOf}
+use Rattle.mb_device.specs.KeptTrees.{region_tree_in, HasDeviceTree, IsKeptToSign, IsKeptOnceSigned, leaves_tree, leaves_device_tree, TreesAreKept, trees_of, HasTreeFor, KeepsItsTrees}
 
 -- ---- answers
 
@@ -91,7 +90,7 @@ unsigned L (event.Drop M name) answer kept none = tt
 refused_unsigned : (refusal : Refusal) (answer : Reply) → answer ≡ refusal_reply refusal → is_signed answer ≡ false
 refused_unsigned refusal answer told = subst (λ (a : Reply). is_signed a ≡ false) (sym told) refl
 
-refused_undone : (refusal : Refusal) (answer : Reply) → answer ≡ refusal_reply refusal → is_done answer ≡ false
+pub refused_undone : (refusal : Refusal) (answer : Reply) → answer ≡ refusal_reply refusal → is_done answer ≡ false
 refused_undone refusal answer told = subst (λ (a : Reply). is_done a ≡ false) (sym told) refl
 
 -- ---- the trees
@@ -167,12 +166,3 @@ trees_held L e answer old new before after named was is kept =
 pub tree_to_sign : (L : ℕ) (e : Event) (old : Device) (before : Option Trees) → L ≡ region_named e → trees_of old ≡ before → HasTreeFor old e → IsKeptToSign before L e
 tree_to_sign L e old before named was own =
     subst (λ (n : ℕ). IsKeptToSign before n e) (sym named) (subst (λ (t : Option Trees). IsKeptToSign t (region_named e) e) was own)
-
--- an order that is refused
-pub refused_undone_order : (after : Device) (text draw : List ℕ) (answer : Reply) (refusal : Refusal) → answer ≡ refusal_reply refusal → KeepsTreeOnceDone (event.Order text draw) answer after
-refused_undone_order after text draw answer refusal told = λ done. let undone = refused_undone refusal answer told in absurd (cc)
-
--- the order whose bytes were taken as a slice
-pub makes_with : (world : World) (keys : ℕ) (e : Event) (text slice draw : List ℕ) → e ≡ event.Order text draw → slice ≡ text → MakesKeysOf world e keys → MakesKeysOf world (event.Order slice draw) keys
-makes_with world keys e text slice draw is same makes =
-    subst (λ (xs : List ℕ). MakesKeysOf world (event.Order xs draw) keys) (sym same) (subst (λ (x : Event). MakesKeysOf world x keys) is makes)

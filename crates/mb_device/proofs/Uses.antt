@@ -34,7 +34,7 @@ use Rattle.mb_device_orders.specs.Remembering.{Knows, IsRemembered}
 use Rattle.mb_device_orders.specs.declared.remembering.Known.{Known}
 use Rattle.mb_device.specs.declared.device.Device.{Device}
 use Rattle.mb_device.specs.declared.device.Device.TheVariants as device
-use Rattle.mb_device.specs.declared.device.Running.{Running}
+use Rattle.mb_device_orders.specs.declared.remembering.Running.{Running}
 use Rattle.mb_device.specs.Sound.{IsSoundDevice, IsRunning, Fits, Steps}
 use Rattle.mb_device.specs.Stepping.{stop_told}
 use Rattle.mb_device.specs.Regions.{IsLayerEvent, region_named, layer_outcome}
@@ -174,7 +174,7 @@ module _ (r L : ℕ) (before : Device) (running : Running) (e : Event) (old : Me
   pub use_ready : IsReady old use_is.own.state
   use_ready = running_ready before r (held_by old power level meter) world use_is.own.state use_is.sound use_is.own.phase use_is.own.live
 
-  use_runs : is_runnable use_is.own.state.layers L ≡ true
+  pub use_runs : is_runnable use_is.own.state.layers L ≡ true
   use_runs = known_runs running.known use_is.own.state L true use_is.own.knows use_ready.valid use_is.runs
 
   use_world : world ≡ live_world r use_is.own.state world.armed

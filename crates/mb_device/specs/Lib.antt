@@ -3,4 +3,5 @@ pub mod Stepping
 pub mod Regions
 pub mod Served
 pub mod KeptTrees
+pub mod Calls
 pub mod TreeCounterExamples

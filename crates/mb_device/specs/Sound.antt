@@ -14,7 +14,7 @@ use Rattle.mb_model.specs.memories.Valid.{Valid}
 use Rattle.mb_device_orders.specs.Remembering.{Knows}
 use Rattle.mb_device.specs.declared.device.Device.{Device}
 use Rattle.mb_device.specs.declared.device.Device.TheVariants as device
-use Rattle.mb_device.specs.declared.device.Running.{Running}
+use Rattle.mb_device_orders.specs.declared.remembering.Running.{Running}
 
 -- layer r runs in a live device, whose state is remembered
 pub record IsRunning (r : ℕ) (running : Running) (world : World) : Type 0 where

@@ -21,7 +21,7 @@ use Rattle.mb_device_orders.specs.Obeying.{LeavesKnown, MakesKeys}
 use Rattle.mb_device_regions.specs.Statements.{LeavesTree}
 use Rattle.mb_device.specs.declared.device.Device.{Device}
 use Rattle.mb_device.specs.declared.device.Device.TheVariants as device
-use Rattle.mb_device.specs.declared.device.Running.{Running}
+use Rattle.mb_device_orders.specs.declared.remembering.Running.{Running}
 use Rattle.mb_device.specs.KeptTrees.{HasDeviceTree, IsKeptToSign, TreesAreKept, trees_of, HasTreeFor, KeepsItsTrees}
 use Rattle.mb_device.specs.KeptTrees.{KeepsTreeOnceDone, SignsByDeviceTree}
 

@@ -8,18 +8,17 @@ ghost use Rattle.mb_device.specs.Sound.{HasSound, StepsFrom};
 ghost use Rattle.mb_device.specs.Stepping.{stop_told};
 ghost use Rattle.mb_device.specs.KeptTrees.{KeepsItsTrees};
 
-use crate::device::{Device, Running};
+use crate::device::Device;
 use mb_authority::is_runnable;
 use mb_board::Board;
+use mb_device_orders::Running;
 use mb_model::{Refusal, Reply};
 
-impl Running {
-    /// Whether the layer may run.
-    pub(crate) fn may_run(&self, layer: u8) -> bool
-        ensures { result ≡ is_runnable self.now.known.figures.layers layer }
-    {
-        is_runnable(&self.known.figures.layers, layer)
-    }
+/// Whether the layer may run.
+pub(crate) fn may_run(running: &Running, layer: u8) -> bool
+    ensures { result ≡ is_runnable running.now.known.figures.layers layer }
+{
+    is_runnable(&running.known.figures.layers, layer)
 }
 
 impl Device {
@@ -36,14 +35,14 @@ impl Device {
             Device::Off(off) => (Device::Off(off), Refusal::PoweredOff.reply()),
             Device::Dead(dead) => (Device::Dead(dead), Refusal::Zeroised.reply()),
             Device::One(up, running) => {
-                if running.may_run(2) {
+                if may_run(&running, 2) {
                     (Device::Two(up.advance(b), running), Reply::At(2))
                 } else {
                     (Device::One(up, running), Refusal::WrongLayer.reply())
                 }
             }
             Device::Two(up, running) => {
-                if running.may_run(3) {
+                if may_run(&running, 3) {
                     (Device::Three(up.advance(b), running), Reply::At(3))
                 } else {
                     (Device::Two(up, running), Refusal::WrongLayer.reply())

@@ -8,18 +8,8 @@ ghost use Rattle.mb_board.specs.Calls.{held_in};
 ghost use Rattle.mb_device.specs.Sound.{IsSoundDevice};
 
 use mb_board::Board;
-use mb_device_orders::Known;
-use mb_layout::Room;
+use mb_device_orders::Running;
 use mb_ratchet::{Dead, Off, R1, R2, R3, Up};
-
-/// What a device holds while a layer runs.
-#[derive(Drop)]
-pub struct Running {
-    /// What the device remembers of its state.
-    pub known: Known,
-    /// Working space.
-    pub room: Room,
-}
 
 /// A device between two events: the layer that has control, and what the device remembers.
 #[derive(Drop)]

@@ -16,5 +16,5 @@ mod status;
 mod step;
 
 pub use counter_examples::tree_counter_examples;
-pub use device::{Device, Running};
+pub use device::Device;
 pub use step::STEP_HASHES;

@@ -1,19 +1,17 @@
 //! How a device boots, and how its power goes.
 
-ghost use Rattle.std.specs.Prelude.{◌≡◌, ◌+◌, ◌≤◌, false, ◌*◌};
+ghost use Rattle.std.specs.Prelude.{◌≡◌, ◌*◌, false};
 ghost use Rattle.mb_model.specs.declared.event.Event.TheVariants as event;
-ghost use Rattle.mb_board.specs.Calls.{held_in, KeepsEvents, IsSwitched};
-ghost use Rattle.mb_model.specs.memories.Spared.{SparesSectors};
-ghost use Rattle.mb_boot.specs.Booting.{IsQuiet};
-ghost use Rattle.mb_device.specs.Sound.{HasSound, StepsFrom};
-ghost use Rattle.mb_device.specs.Stepping.{stop_told, IfNothingTold, IsOff};
-ghost use Rattle.mb_device.specs.KeptTrees.{KeepsItsTrees};
+ghost use Rattle.mb_board.specs.Calls.{held_in, IsSwitched};
+ghost use Rattle.mb_device.specs.Calls.{Answers};
+ghost use Rattle.mb_device.specs.Sound.{HasSound};
+ghost use Rattle.mb_device.specs.Stepping.{IsOff};
 ghost use Rattle.mb_lms.specs.declared.hash_count.TheConstants.{SIGNING_HASHES};
 
-use crate::device::{Device, Running};
+use crate::device::Device;
 use mb_board::Board;
 use mb_boot::{BootEnd, boot};
-use mb_device_orders::{Trees, remember};
+use mb_device_orders::{Running, Trees, remember};
 use mb_lms::HashCount;
 use mb_model::{Refusal, Reply};
 use mb_ratchet::Off;
@@ -28,15 +26,8 @@ fn come_up<B: Board, L: Ledger>(
     hashes: &mut HashCount<L>,
 ) -> (Device, Reply)
     requires sound { HasSound (Device.Off off) (held_in (B.seen b.old)) }
-    ensures steps { StepsFrom (Device.Off off) (held_in (B.seen b.old)) event.Boot result
-        (held_in (B.seen b.new)) }
-    ensures quiet { IsQuiet (B.seen b.old).memory (B.seen b.new).memory (B.seen b.old).meter
-        (B.seen b.new).meter }
-    ensures untold { IfNothingTold result.1 (B.seen b.old).memory (B.seen b.new).memory
-        (B.seen b.old).meter (B.seen b.new).meter }
-    ensures spared { SparesSectors (B.seen b.old).memory (B.seen b.new).memory }
-    ensures events { KeepsEvents 15 (stop_told result.1) (B.seen b.old) (B.seen b.new) }
-    ensures cost { hashes.new ≤ hashes.old + 2 * SIGNING_HASHES }
+    ensures { Answers 15 (2 * SIGNING_HASHES) (Device.Off off) event.Boot result
+        (B.seen b.old) (B.seen b.new) hashes.old hashes.new }
 {
     let trees = match Box::new(alloc, Trees::none()) {
         Ok(trees) => trees,
@@ -65,16 +56,8 @@ impl Device {
         hashes: &mut HashCount<L>,
     ) -> (Device, Reply)
         requires sound { HasSound self (held_in (B.seen b.old)) }
-        ensures steps { StepsFrom self (held_in (B.seen b.old)) event.Boot result
-            (held_in (B.seen b.new)) }
-        ensures quiet { IsQuiet (B.seen b.old).memory (B.seen b.new).memory (B.seen b.old).meter
-            (B.seen b.new).meter }
-        ensures untold { IfNothingTold result.1 (B.seen b.old).memory (B.seen b.new).memory
-            (B.seen b.old).meter (B.seen b.new).meter }
-        ensures spared { SparesSectors (B.seen b.old).memory (B.seen b.new).memory }
-        ensures events { KeepsEvents 15 (stop_told result.1) (B.seen b.old) (B.seen b.new) }
-        ensures trees { KeepsItsTrees self event.Boot result.1 result.0 }
-        ensures cost { hashes.new ≤ hashes.old + 2 * SIGNING_HASHES }
+        ensures { Answers 15 (2 * SIGNING_HASHES) self event.Boot result
+            (B.seen b.old) (B.seen b.new) hashes.old hashes.new }
     {
         match self {
             Device::Off(off) => come_up(alloc, off, b, hashes),

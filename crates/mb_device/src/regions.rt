@@ -1,24 +1,21 @@
 //! How layers use their regions.
 
-ghost use Rattle.std.specs.Prelude.{◌≡◌, ◌+◌, ◌≤◌, true, IfOk, Some};
+ghost use Rattle.std.specs.Prelude.{◌≡◌, Some};
 ghost use Rattle.mb_format.specs.Format.{IsBytes};
-ghost use Rattle.mb_model.specs.declared.state.State.{State};
-ghost use Rattle.mb_model.specs.owners.Layers.{is_runnable};
 ghost use Rattle.mb_model.specs.chains.Script.{IsScriptEvent};
-ghost use Rattle.mb_board.specs.Calls.{held_in, KeepsEvents, RanOnBbram};
-ghost use Rattle.mb_model_memory.specs.Holding.{IsReady};
-ghost use Rattle.mb_model_memory.specs.Answering.{ComesTo, TellsOfWrites};
-ghost use Rattle.mb_device_regions.specs.Uses.{CanAnswer};
-ghost use Rattle.mb_device_orders.specs.Remembering.{Knows, IsRemembered};
-ghost use Rattle.mb_device.specs.Sound.{HasSound, StepsFrom};
-ghost use Rattle.mb_device.specs.Stepping.{stop_told, IfNothingTold};
+ghost use Rattle.mb_board.specs.Calls.{held_in};
+ghost use Rattle.mb_device_orders.specs.Remembering.{CanAnswer};
+ghost use Rattle.mb_device_regions.specs.Calls.{AnswersIn};
+ghost use Rattle.mb_device.specs.Calls.{Answers, SignsIn};
+ghost use Rattle.mb_device.specs.Sound.{HasSound};
 ghost use Rattle.mb_device.specs.Regions.{IsLayerEvent, region_named, layer_outcome};
-ghost use Rattle.mb_device.specs.KeptTrees.{IsKeptToSign, TreesAreKept, HasTreeFor, KeepsItsTrees};
-ghost use Rattle.mb_lms.specs.declared.hash_count.TheConstants.{LEAF_HASHES, SIGNING_HASHES};
+ghost use Rattle.mb_lms.specs.declared.hash_count.TheConstants.{SIGNING_HASHES};
 
-use crate::device::{Device, Running};
+use crate::control::may_run;
+use crate::device::Device;
 use crate::runs::Runs;
 use mb_board::Board;
+use mb_device_orders::Running;
 use mb_device_regions::{drop_secret, get_secret, put_secret, sign_message};
 use mb_lms::HashCount;
 use mb_model::{Event, Refusal, Reply};
@@ -36,43 +33,25 @@ fn ask<S: Reaches<L>, L: Named, B: Board, C: Ledger>(
     event: &Event,
     hashes: &mut HashCount<C>,
 ) -> Result<(S, Reply), Off>
-    requires can_answer { CanAnswer S.stage (B.seen b.old) }
-    requires remembered { IsRemembered running.old.known (B.seen b.old).memory }
-    requires runs { is_runnable running.old.known.figures.layers L.place ≡ true }
+    requires can_answer { CanAnswer S.stage running.old.known (B.seen b.old) }
     requires event { IsLayerEvent event.now }
     requires script { IsScriptEvent event.now }
-    ensures told { (state : State) → IsReady (B.seen b.old).memory state
-        → Knows running.old.known state
-        → ComesTo state (layer_outcome L.place event.now state) (B.seen b.old).memory
-        (B.seen b.new).memory result }
-    ensures writes { TellsOfWrites result (B.seen b.old).memory (B.seen b.new).memory
-        (B.seen b.old).meter (B.seen b.new).meter }
-    ensures known { (state : State) → IsReady (B.seen b.old).memory state
-        → Knows running.old.known state → Knows running.new.known state }
-    ensures trees { IfOk result (λ told. TreesAreKept L.place event.now told.1
-        (Some running.old.known.trees.value) (Some running.new.known.trees.value)) }
-    ensures ran { RanOnBbram 3 result (B.seen b.old) (B.seen b.new) }
-    ensures cost { hashes.new ≤ hashes.old + SIGNING_HASHES }
-    ensures again { IsKeptToSign (Some running.old.known.trees.value) L.place event.now
-        → hashes.new ≤ hashes.old + LEAF_HASHES }
+    ensures answers { AnswersIn L.place (layer_outcome L.place event.now) running.old running.new result
+        (B.seen b.old) (B.seen b.new) }
+    ensures signs { SignsIn L.place event.now (Some running.old.known.trees.value)
+        (Some running.new.known.trees.value) result hashes.old hashes.new }
 {
-    let number = running.known.figures.number;
-    let serial = running.known.serial;
-    let room = &mut running.room;
     match event {
-        Event::Put { name, value, .. } => put_secret::<S, L, B>(
-            alloc, s, b, name, value, number, room,
-        ),
+        Event::Put { name, value, .. } => {
+            put_secret::<S, L, B>(alloc, s, b, name, value, running)
+        }
         Event::Get { name, .. } => {
-            let reply = get_secret::<S, L, B>(alloc, &s, b, name, room);
+            let reply = get_secret::<S, L, B>(alloc, &s, b, name, &mut running.room);
             Ok((s, reply))
         }
-        Event::Drop { name, .. } => drop_secret::<S, L, B>(alloc, s, b, name, room),
+        Event::Drop { name, .. } => drop_secret::<S, L, B>(alloc, s, b, name, running),
         Event::Sign { key, message, .. } => {
-            let kept = &mut running.known.trees.region;
-            sign_message::<S, L, B, C>(
-                alloc, s, b, *key, message, &serial, number, kept, room, hashes,
-            )
+            sign_message::<S, L, B, C>(alloc, s, b, *key, message, running, hashes)
         }
         _ => unreachable!(),
     }
@@ -93,18 +72,11 @@ fn use_at<S: Reaches<L> + Runs, L: Named, B: Board, C: Ledger>(
     requires region { L.place ≡ region_named event.now }
     requires script { IsScriptEvent event.now }
     requires sound { HasSound (S.holder s running) (held_in (B.seen b.old)) }
-    ensures steps { StepsFrom (S.holder s running) (held_in (B.seen b.old)) event.now result
-        (held_in (B.seen b.new)) }
-    ensures untold { IfNothingTold result.1 (B.seen b.old).memory (B.seen b.new).memory
-        (B.seen b.old).meter (B.seen b.new).meter }
-    ensures flash { (B.seen b.new).memory.flash ≡ (B.seen b.old).memory.flash }
-    ensures events { KeepsEvents 3 (stop_told result.1) (B.seen b.old) (B.seen b.new) }
-    ensures trees { KeepsItsTrees (S.holder s running) event.now result.1 result.0 }
-    ensures cost { hashes.new ≤ hashes.old + SIGNING_HASHES }
-    ensures again { HasTreeFor (S.holder s running) event.now → hashes.new ≤ hashes.old + LEAF_HASHES }
+    ensures { Answers 3 SIGNING_HASHES (S.holder s running) event.now result
+        (B.seen b.old) (B.seen b.new) hashes.old hashes.new }
 {
     let mut running = running;
-    if !running.may_run(L::number() as u8) {
+    if !may_run(&running, L::number() as u8) {
         return (s.into_device(running), Refusal::WrongLayer.reply());
     }
     match ask::<S, L, B, C>(alloc, s, &mut running, b, event, hashes) {
@@ -128,15 +100,8 @@ impl Device {
         requires region { region ≡ region_named event.now }
         requires script { IsScriptEvent event.now }
         requires sound { HasSound self (held_in (B.seen b.old)) }
-        ensures steps { StepsFrom self (held_in (B.seen b.old)) event.now result
-            (held_in (B.seen b.new)) }
-        ensures untold { IfNothingTold result.1 (B.seen b.old).memory (B.seen b.new).memory
-            (B.seen b.old).meter (B.seen b.new).meter }
-        ensures flash { (B.seen b.new).memory.flash ≡ (B.seen b.old).memory.flash }
-        ensures events { KeepsEvents 3 (stop_told result.1) (B.seen b.old) (B.seen b.new) }
-        ensures trees { KeepsItsTrees self event.now result.1 result.0 }
-        ensures cost { hashes.new ≤ hashes.old + SIGNING_HASHES }
-        ensures again { HasTreeFor self event.now → hashes.new ≤ hashes.old + LEAF_HASHES }
+        ensures { Answers 3 SIGNING_HASHES self event.now result
+            (B.seen b.old) (B.seen b.new) hashes.old hashes.new }
     {
         match self {
             Device::Off(off) => (Device::Off(off), Refusal::PoweredOff.reply()),

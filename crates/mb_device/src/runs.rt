@@ -5,11 +5,12 @@ ghost use Rattle.std.specs.Prelude.{◌≡◌, ℕ, Some};
 ghost use Rattle.mb_model.specs.machine.Machine.{World};
 ghost use Rattle.mb_device.specs.declared.device.Device.{Device as Whole};
 ghost use Rattle.mb_device.specs.declared.device.Device.TheVariants as device;
-ghost use Rattle.mb_device.specs.declared.device.Running.{Running as Remembered};
+ghost use Rattle.mb_device_orders.specs.declared.remembering.Running.{Running as Remembered};
 ghost use Rattle.mb_device.specs.Sound.{IsRunning, Fits};
 ghost use Rattle.mb_device.specs.KeptTrees.{trees_of};
 
-use crate::device::{Device, Running};
+use crate::device::Device;
+use mb_device_orders::Running;
 use mb_ratchet::{R1, R2, R3, Up};
 
 /// A typed state in which a layer runs. The trait says which device holds the state, and at which level it stands.

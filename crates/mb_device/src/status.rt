@@ -7,8 +7,9 @@ ghost use Rattle.mb_model.specs.memories.Valid.{Valid};
 ghost use Rattle.mb_device.specs.Sound.{Fits};
 ghost use Rattle.mb_device.specs.Stepping.{status_known, stop_told};
 
-use crate::device::{Device, Running};
+use crate::device::Device;
 use mb_authority::{is_owned, is_runnable, layer_of};
+use mb_device_orders::Running;
 use mb_model::{Layers, Refusal, Reply, Standing};
 
 /// How a layer stands.
@@ -28,20 +29,18 @@ fn standing(layers: &Layers, layer: u8) -> Standing
     }
 }
 
-impl Running {
-    /// The answer to a status event.
-    fn status(&self) -> Reply
-        ensures { result ≡ status_known self.now.known }
-    {
-        let figures = &self.known.figures;
-        Reply::Status {
-            serial: self.known.serial,
-            number: figures.number,
-            length: figures.length,
-            one: standing(&figures.layers, 1),
-            two: standing(&figures.layers, 2),
-            three: standing(&figures.layers, 3),
-        }
+/// The answer to a status event while a layer runs.
+fn running_status(running: &Running) -> Reply
+    ensures { result ≡ status_known running.now.known }
+{
+    let figures = &running.known.figures;
+    Reply::Status {
+        serial: running.known.serial,
+        number: figures.number,
+        length: figures.length,
+        one: standing(&figures.layers, 1),
+        two: standing(&figures.layers, 2),
+        three: standing(&figures.layers, 3),
     }
 }
 
@@ -55,9 +54,9 @@ impl Device {
         match self {
             Device::Off(_) => Refusal::PoweredOff.reply(),
             Device::Dead(_) => Refusal::Zeroised.reply(),
-            Device::One(_, running) => running.status(),
-            Device::Two(_, running) => running.status(),
-            Device::Three(_, running) => running.status(),
+            Device::One(_, running) => running_status(running),
+            Device::Two(_, running) => running_status(running),
+            Device::Three(_, running) => running_status(running),
         }
     }
 }

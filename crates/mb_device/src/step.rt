@@ -1,19 +1,15 @@
 //! How a device answers the events of its board.
 
-ghost use Rattle.std.specs.Prelude.{◌≡◌, ℕ, ◌+◌, ◌*◌, ◌≤◌, [], All, length};
+ghost use Rattle.std.specs.Prelude.{◌≡◌, ◌+◌, ◌*◌, ◌≤◌, [], All, length};
 ghost use Rattle.mb_model.specs.declared.limits.TheConstants.{WRITE_LIMIT};
-ghost use Rattle.mb_model.specs.outside.Board.{AreBytes, Held, IsLoaded, use_of, having_answered};
+ghost use Rattle.mb_model.specs.outside.Board.{AreBytes, IsLoaded, use_of, having_answered};
 ghost use Rattle.mb_model.specs.machine.Machine.{World};
 ghost use Rattle.mb_model.specs.chains.Script.{IsScriptEvent};
-ghost use Rattle.mb_board.specs.Calls.{held_in, KeepsEvents, IsBetweenEvents};
-ghost use Rattle.mb_model.specs.memories.Spared.{SparesSectors};
-ghost use Rattle.mb_boot.specs.Booting.{IsQuiet};
-ghost use Rattle.mb_device.specs.Sound.{IsSoundDevice, HasSound, taken, CanStep, Steps};
-ghost use Rattle.mb_device.specs.Stepping.{stop_told, IfNothingTold, IfBoot};
+ghost use Rattle.mb_board.specs.Calls.{held_in, IsBetweenEvents};
+ghost use Rattle.mb_device.specs.Calls.{Answers};
+ghost use Rattle.mb_device.specs.Sound.{IsSoundDevice, HasSound, CanStep};
 ghost use Rattle.mb_device.specs.Served.{IsServedFrom};
-ghost use Rattle.mb_device.specs.KeptTrees.{HasTreeFor, KeepsItsTrees, KeepsTreeOnceDone, MakesKeysOf, SignsByDeviceTree};
 ghost use Rattle.mb_device.specs.declared.step.TheConstants.{STEP_HASHES};
-ghost use Rattle.mb_lms.specs.declared.hash_count.TheConstants.{LEAF_HASHES};
 
 use crate::device::Device;
 use mb_board::Board;
@@ -37,7 +33,6 @@ impl Device {
     /// until power goes, an order is done, or another region's key signs. From the first order that is done until power
     /// goes, the device keeps the tree of its own key, a new one's too. With it an order takes at most 34,399 hashes for
     /// each key that it makes, and 2,148 to sign by.
-    #[tactic(auto, using(mb_device_orders::proofs::Spared::same_flash_spared, mb_device_orders::proofs::Spared::same_memory_spared))]
     pub fn step<B: Board, L: Ledger>(
         self,
         alloc: Global,
@@ -47,23 +42,8 @@ impl Device {
     ) -> (Device, Reply)
         requires bytes { AreBytes (B.seen b.old).memory }
         requires can_step { CanStep self event.now (held_in (B.seen b.old)) }
-        ensures steps { (before : Held) (world : World) → IsSoundDevice self before world
-            → held_in (B.seen b.old) ≡ taken event.now before
-            → Steps world event.now result.1 result.0 (held_in (B.seen b.new)) }
-        ensures untold { IfNothingTold result.1 (B.seen b.old).memory (B.seen b.new).memory
-            (B.seen b.old).meter (B.seen b.new).meter }
-        ensures quiet { IfBoot event.now
-            (IsQuiet (B.seen b.old).memory (B.seen b.new).memory (B.seen b.old).meter
-            (B.seen b.new).meter) }
-        ensures spared { SparesSectors (B.seen b.old).memory (B.seen b.new).memory }
-        ensures events { KeepsEvents WRITE_LIMIT (stop_told result.1) (B.seen b.old) (B.seen b.new) }
-        ensures trees { KeepsItsTrees self event.now result.1 result.0 }
-        ensures done { KeepsTreeOnceDone event.now result.1 result.0 }
-        ensures order { (before : Held) (world : World) (keys : ℕ) → IsSoundDevice self before world
-            → held_in (B.seen b.old) ≡ taken event.now before → MakesKeysOf world event.now keys
-            → SignsByDeviceTree self keys hashes.old hashes.new }
-        ensures cost { hashes.new ≤ hashes.old + STEP_HASHES }
-        ensures again { HasTreeFor self event.now → hashes.new ≤ hashes.old + LEAF_HASHES }
+        ensures { Answers WRITE_LIMIT STEP_HASHES self event.now result (B.seen b.old) (B.seen b.new)
+            hashes.old hashes.new }
     {
         match event {
             Event::Boot => self.boot(alloc, b, hashes),

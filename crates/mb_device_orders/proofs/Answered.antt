@@ -1,5 +1,5 @@
 -- How an order is answered.
-use Rattle.std.proofs.Common.{◌≡◌, ◌⊎◌, inl, inr, ℕ, List, length, refl, ap, ◌∙◌}
+use Rattle.std.proofs.Common.{◌≡◌, ◌⊎◌, ◌+◌, ◌*◌, ◌≤◌, inl, inr, ℕ, List, length, false, Ok, refl, sym, ap, subst, ◌∙◌, arith}
 use Rattle.std.proofs.lemmas.List.{length-map}
 use Rattle.mb_model.specs.declared.entry.SignedEntry.{SignedEntry}
 use Rattle.mb_model.specs.declared.reply.Reply.{Reply}
@@ -7,18 +7,24 @@ use Rattle.mb_model.specs.declared.reply.Reply.TheVariants as reply
 use Rattle.mb_model.specs.declared.state.State.{State}
 use Rattle.mb_model.specs.declared.stored.Root.{Root}
 use Rattle.mb_model.specs.outside.Board.{Memory}
+use Rattle.mb_model.specs.chains.Listing.{is_done}
 use Rattle.mb_model.specs.owners.Log.{entries_of, figures_of, number_of}
+use Rattle.mb_board.specs.Calls.{Seen, IsUp}
+use Rattle.mb_boot.proofs.Joined.{ran_not}
+use Rattle.mb_lms.specs.declared.hash_count.TheConstants.{TREE_HASHES}
 use Rattle.mb_model.specs.machine.OrderEffects.{state_after_order}
 use Rattle.mb_model.specs.machine.OrderStep.{OrderStep, is_obeyed}
 use Rattle.mb_model.specs.declared.state.Figures.{Figures}
 use Rattle.mb_model_memory.specs.Holding.{Means, IsReady}
 use Rattle.mb_layout.specs.declared.room.Room.{Room}
-use Rattle.mb_boot.specs.Settling.{IsOnlyRoot}
+use Rattle.mb_area.specs.Roots.{IsOnlyRoot}
 use Rattle.mb_device_orders.specs.declared.judging.Judged.{Judged}
 use Rattle.mb_device_orders.specs.declared.remembering.Known.{Known}
 use Rattle.mb_device_orders.specs.Remembering.{Knows, IsRemembered}
-use Rattle.mb_device_orders.specs.Obeying.{IsOrderAnswered, answer_lacks, answer_tells, IsOrderCut}
+use Rattle.mb_device_orders.specs.Calls.{AnswersOrder}
+use Rattle.mb_device_orders.specs.Obeying.{MakesKeys, IsOrderAnswered, answer_lacks, answer_tells, IsOrderCut}
 use Rattle.mb_device_orders.specs.Planning.{PassesAs, HasPassed, IsCommit, HasCommit}
+use Rattle.mb_device_orders.proofs.Spared.{same_memory_spared}
 
 -- ---- what a device that remembers its state has of one
 
@@ -70,6 +76,22 @@ pub answered_done : (before after : Memory) (state : State) (text draw : List �
     → IsOrderAnswered state text draw known (reply.Done known.figures.number known.figures.length) before after
 answered_done before after state text draw judged known passed ready knows =
     answer_tells (state_after_order state judged.order draw) (obeyed_step state text draw judged known.figures passed knows.figures) ready knows
+
+-- an answer before anything is written, for which hashes were counted for new keys alone
+pub answered_before : {S E : Type 0} (known known_after : Known) (text draw : List ℕ) (handed : S) (answer : Reply) (seen : Seen) (hashes hashes_after : ℕ) → IsUp 1 seen → known_after ≡ known → is_done answer ≡ false
+    → ((state : State) → IsReady seen.memory state → Knows known state → (answer ≡ reply.NoMemory) ⊎ OrderStep state text draw answer state) → hashes_after ≤ hashes + 2 * TREE_HASHES
+    → ((state : State) (keys : ℕ) → IsReady seen.memory state → Knows known state → MakesKeys state text draw keys → hashes_after ≤ hashes + keys * TREE_HASHES)
+    → AnswersOrder known known_after text draw {S = S} {E = E} (Ok (handed, answer)) seen seen hashes hashes_after
+answered_before known known_after text draw handed answer seen hashes hashes_after up same undone step cost keys = record {
+  told = λ state ready knows. answered_same seen.memory state text draw known_after answer ready (subst (λ (k : Known). Knows k state) (sym same) knows) (step state ready knows);
+  stays = λ is. same;
+  keeps = λ done. absurd (cc);
+  writes = λ uncut. (refl, refl);
+  spared = same_memory_spared seen.memory seen.memory refl;
+  ran = ran_not 35 (handed, answer) seen up;
+  cost = omega (arith, cost);
+  again = λ state count ready knows some makes. omega (arith, keys state count ready knows makes);
+}
 
 pub order_cut : (after : Memory) (state : State) (text draw : List ℕ) (judged : Judged) (figures : Figures) → PassesAs state text draw judged → figures ≡ figures_of (entries_of (state_after_order state judged.order draw).log)
     → Means after state ⊎ Means after (state_after_order state judged.order draw) → IsOrderCut state text draw after

@@ -1,12 +1,12 @@
 -- How the steps of a commit join.
-use Rattle.std.proofs.Common.{◌≡◌, ◌≤◌, ◌<◌, ◌⊎◌, inl, inr, ℕ, ◌+◌, ◌-◌, ◌/◌, List, length, Bool, true, false, Option, None, Some, Result, Ok, Err, refl, sym, ap, subst, ◌∙◌, arith, eqb-true}
+use Rattle.std.proofs.Common.{◌≡◌, ◌≤◌, ◌<◌, ◌⊎◌, inl, inr, ℕ, ◌+◌, ◌-◌, ◌/◌, List, length, Bool, true, false, Option, None, Some, refl, sym, ap, subst, ◌∙◌, arith, eqb-true}
 use Rattle.std.specs.Prelude.{◌==◌, IfSome, if◌then◌else◌}
 use Rattle.mb_model.specs.declared.order.Order.{Order}
 use Rattle.mb_model.specs.declared.state.Codes.{Codes}
 use Rattle.mb_model.specs.declared.state.State.{State}
 use Rattle.mb_model.specs.declared.stored.Header.{Header}
 use Rattle.mb_model.specs.declared.stored.Root.{Root}
-use Rattle.mb_model.specs.outside.Board.{Memory, Meter, IsLoaded}
+use Rattle.mb_model.specs.outside.Board.{Memory, IsLoaded}
 use Rattle.mb_model.specs.memories.Clean.{root_of}
 use Rattle.mb_model.specs.memories.Flash.{sector, HoldsHeader, HoldsPublic}
 use Rattle.mb_model.specs.records.HeaderFormat.{header_format}
@@ -29,10 +29,9 @@ use Rattle.mb_model_memory.proofs.FlashWrites.{order_written}
 use Rattle.mb_model_memory.proofs.HoldingLemmas.{contents_keep}
 use Rattle.mb_model_memory.proofs.StorableMemories.{stands_storable}
 use Rattle.mb_model_memory.proofs.StorableRecords.{committed_root}
-use Rattle.mb_board.specs.Calls.{IsMetered, Seen, Ran}
 use Rattle.mb_layout.specs.declared.room.Room.{Room}
-use Rattle.mb_area.specs.Flashes.{HasSomeHeader, IsPlan, IsPublicWritten, code_to_write, code_sectors}
-use Rattle.mb_area.specs.Roots.{CommitsRoot}
+use Rattle.mb_area.specs.Flashes.{HoldsSomeHeader, IsCurrentArea, IsPlan, IsPublicWritten, code_to_write, code_sectors}
+use Rattle.mb_area.specs.Roots.{HasSomeRoot, CommitsRoot}
 use Rattle.mb_boot.specs.Settling.{IsLive}
 use Rattle.mb_boot.specs.Booting.{Cleans}
 use Rattle.mb_device_orders.specs.Planning.{IsToWrite, IsCommit, HasCommit}
@@ -42,13 +41,26 @@ use Rattle.mb_device_orders.proofs.Remembered.{small_area}
 
 -- ---- before the first write
 
-pub header_there : (memory : Memory) (root : Root) (room : Room) → HasCommit memory root room → HasSomeHeader memory
-header_there memory root room has = record {
-  root = root_of has.state has.commit.area;
-  in_force = has.commit.holds.root;
-  header = has.commit.holds.public.header;
-  holds = has.commit.holds.public.begins;
-}
+pub next_area : (memory : Memory) (root : Root) (room : Room) (state : State) (order : Order) (draw : List ℕ) (is : IsCommit memory root room state order draw) → (root.area ≤ 1) × (1 - root.area ≡ is.area)
+next_area memory root room state order draw is =
+    let area : root.area ≡ 1 - is.area = ap (λ (r : Root). r.area) is.root_is ∙ committed_area_is state order draw (1 - is.area) in
+    let small : is.area ≤ 1 = small_area memory.bbram (root_of state is.area) is.only_root in
+    (omega (arith, area), omega (arith, area, small))
+
+-- the root that commits the order names the header area that is not current
+pub small_next : (memory : Memory) (root : Root) (room : Room) → HasCommit memory root room → root.area ≤ 1
+small_next memory root room has = (next_area memory root room has.state has.order has.draw has.commit).0
+
+pub area_there : (memory : Memory) (root : Root) (room : Room) → HasCommit memory root room → IsCurrentArea memory (1 - root.area)
+area_there memory root room has =
+    let is = has.commit in
+    let same : is.area ≡ 1 - root.area = sym (next_area memory root room has.state has.order has.draw is).1 in
+    record {
+      root = root_of has.state is.area;
+      only = is.only_root;
+      area_is = same;
+      header = subst (λ (n : ℕ). HoldsSomeHeader memory.flash n) same (record { header = is.holds.public.header; begins = is.holds.public.begins });
+    }
 
 code_fits : (room : Room) (layer : ℕ) (brought : Option (List ℕ)) → layer ≤ 3 → IfSome brought (λ code. length code ≤ 32768) → IsToWrite room layer brought → (room.code_layer ≤ 3) × (length room.code.items ≤ 32768)
 code_fits room layer None most short is = (omega (arith, is.0), omega (arith, ap length is.1))
@@ -68,9 +80,9 @@ root_allowed memory root room has =
 
 -- ---- the commit
 
--- both are written, whatever root and header are in force
-abbrev pub Written : Memory → Memory → Room → Type 0
-Written before between room = (root : Root) (header : Header) → RootIn before.bbram root → HoldsHeader before.flash root.area header → IsPublicWritten room header root.area before.flash between.flash
+-- both are written, for this current header area, whatever header it holds
+abbrev pub Written : ℕ → Memory → Memory → Room → Type 0
+Written area before between room = (header : Header) → HoldsHeader before.flash area header → IsPublicWritten room header area before.flash between.flash
 
 -- what was written of the code is what the order brings
 code_by : (n layer : ℕ) (code : List ℕ) (b : Bool) (header : Header) (before between : List ℕ) → (layer == 0) ≡ b → 1 ≤ layer → n ≡ layer
@@ -96,17 +108,20 @@ module _ (before between : Memory) (root : Root) (room : Room) (state : State) (
   small : is.area ≤ 1
   small = small_area before.bbram (root_of state is.area) is.only_root
 
+  written_there : Written (1 - root.area) before between room → Written is.area before between room
+  written_there written = subst (λ (n : ℕ). Written n before between room) (next_area before root room state order draw is).1 written
+
   -- the new root names the area that now holds the new header
-  pub header_stands : Written before between room → HoldsHeader between.flash root.area (header_after is.holds.public.header order.layer order.act is.first is.second)
+  pub header_stands : Written (1 - root.area) before between room → HoldsHeader between.flash root.area (header_after is.holds.public.header order.layer order.act is.first is.second)
   header_stands written =
-      let w = written (root_of state is.area) is.holds.public.header is.holds.root is.holds.public.begins in
+      let w = written_there written is.holds.public.header is.holds.public.begins in
       subst (λ n. HoldsHeader between.flash n (header_after is.holds.public.header order.layer order.act is.first is.second)) (sym area_is)
       (begins_with header_format (sector between.flash (header_sector (1 - is.area))) room.header.items _ is.header w.header.begins)
 
   -- once both are written, the flash holds for the root what the order leaves
-  pub held_public : IsLoaded before → Written before between room → HoldsPublic between.flash root (state_after_order state order draw).codes state.log (new_entries state order draw)
+  pub held_public : IsLoaded before → Written (1 - root.area) before between room → HoldsPublic between.flash root (state_after_order state order draw).codes state.log (new_entries state order draw)
   held_public sized written =
-      let w = written (root_of state is.area) is.holds.public.header is.holds.root is.holds.public.begins in
+      let w = written_there written is.holds.public.header is.holds.public.begins in
       let layer = order_layer order is.allowed in
       let code = code_written room order.layer (code_brought order.act) is.holds.public.header before.flash w.between layer.0 is.code w.code in
       let counted : AreCounted root.pending (new_entries state order draw) = subst (λ (r : Root). AreCounted r.pending (new_entries state order draw)) (sym is.root_is) (commit_counted state order draw (1 - is.area)) in
@@ -115,7 +130,7 @@ module _ (before between : Memory) (root : Root) (room : Room) (state : State) (
       sized.flash code w.header is.header area_is is.texts counted).0
 
 holds_committed : (before between after : Memory) (root : Root) (room : Room) (state : State) (order : Order) (draw : List ℕ) (is : IsCommit before root room state order draw) → IsLoaded before
-    → KeepsContents before between → Written before between room → CommitsRoot root between after → Holds after (committed state order draw (1 - is.area))
+    → KeepsContents before between → Written (1 - root.area) before between room → CommitsRoot root between after → Holds after (committed state order draw (1 - is.area))
 unfolding committed
 holds_committed before between after root room state order draw is sized kept written commits =
     let public = held_public before between root room state order draw is sized written in
@@ -128,7 +143,7 @@ holds_committed before between after root room state order draw is sized kept wr
 pub record IsCommitted (before between after : Memory) (root : Root) (room : Room) : Type 0 where
   pub sized : IsLoaded before
   pub kept : KeepsContents before between
-  pub written : Written before between room
+  pub written : Written (1 - root.area) before between room
   pub commits : CommitsRoot root between after
   pub sized_after : IsLoaded after
 
@@ -144,6 +159,13 @@ live_committed before between after root room has done = record {
   valid = obeyed_valid has.state has.order has.draw has.commit.ready.valid has.commit.allowed has.commit.passes;
 }
 
+-- some root is current still, when the next one is written
+pub root_still : (before between : Memory) (root : Root) (room : Room) → HasCommit before root room → KeepsContents before between → HasSomeRoot between
+root_still before between root room has kept = record {
+  root = root_of has.state has.commit.area;
+  holds = (kept.kept (at_rest has.state has.commit.area) has.commit.holds).root;
+}
+
 pub root_committed : (before between after : Memory) (root : Root) (room : Room) (state : State) (order : Order) (draw : List ℕ) → IsCommit before root room state order draw → IsCommitted before between after root room → RootIn after.bbram root
 unfolding committed
 root_committed before between after root room state order draw is done =
@@ -155,7 +177,7 @@ pub means_old : (before between : Memory) (root : Root) (room : Room) (state : S
 means_old before between root room state order draw is kept sized = (contents_keep before between sized kept).kept state is.ready.means
 
 pub means_either : (before between after : Memory) (root : Root) (room : Room) (state : State) (order : Order) (draw : List ℕ) → IsCommit before root room state order draw → IsLoaded before
-    → KeepsContents before between → IsLoaded between → Written before between room → IsLoaded after → KeepsContents between after ⊎ CommitsRoot root between after → Means after state ⊎ Means after (state_after_order state order draw)
+    → KeepsContents before between → IsLoaded between → Written (1 - root.area) before between room → IsLoaded after → KeepsContents between after ⊎ CommitsRoot root between after → Means after state ⊎ Means after (state_after_order state order draw)
 means_either before between after root room state order draw is sized kept first written last (inl stays) =
     inl ((contents_keep between after last stays).kept state (means_old before between root room state order draw is kept first))
 means_either before between after root room state order draw is sized kept first written last (inr commits) =
@@ -173,19 +195,26 @@ ready_committed before between after last root room state order draw is done kee
 
 -- ---- the signed log, and the sectors that hold nothing
 
+agree_now : (before between : Memory) (root : Root) (room : Room) → HasCommit before root room → AgreeForArea before.flash between.flash (1 - root.area)
+    → (any : Root) → RootIn before.bbram any → AgreeForArea before.flash between.flash any.area
+agree_now before between root room has agree = λ any in_force.
+    let area : any.area ≡ has.commit.area = ap (λ (r : Root). r.area) (has.commit.only_root.only any in_force) in
+    subst (AgreeForArea before.flash between.flash) ((next_area before root room has.state has.order has.draw has.commit).1 ∙ sym area) agree
+
 -- they stay until the root is written, which leaves the flash
-pub spared_before : (before between after : Memory) (root : Root) (room : Room) → HasCommit before root room → ((root : Root) → RootIn before.bbram root → AgreeForArea before.flash between.flash root.area) → after.flash ≡ between.flash → SparesSectors before after
+pub spared_before : (before between after : Memory) (root : Root) (room : Room) → HasCommit before root room → AgreeForArea before.flash between.flash (1 - root.area) → after.flash ≡ between.flash → SparesSectors before after
 spared_before before between after root room has agree same = record {
   log = record {
-    kept = λ root header has holds position less.
-        ap (λ (flash : List ℕ). sector flash (log_sector position)) same ∙ (signed_log_stays before between agree).kept root header has holds position less;
+    kept = λ root_then header has_root holds position less.
+        ap (λ (flash : List ℕ). sector flash (log_sector position)) same
+        ∙ (signed_log_stays before between (agree_now before between root room has agree)).kept root_then header has_root holds position less;
   };
-  unused = λ n is. ap (λ (flash : List ℕ). sector flash n) same ∙ (agree (root_of has.state has.commit.area) has.commit.only_root.holds).unused n is;
+  unused = λ n is. ap (λ (flash : List ℕ). sector flash n) same ∙ agree.unused n is;
 }
 
 -- and then, since the new header counts as many entries
 pub spared_after : (before between after last : Memory) (root : Root) (room : Room) (has : HasCommit before root room) → IsCommitted before between after root room
-    → ((root : Root) → RootIn before.bbram root → AgreeForArea before.flash between.flash root.area) → after.flash ≡ between.flash → SparesSectors after last → SparesSectors before last
+    → AgreeForArea before.flash between.flash (1 - root.area) → after.flash ≡ between.flash → SparesSectors after last → SparesSectors before last
 spared_after before between after last root room has done agree same keeps =
     let is = has.commit in
     let own : RootIn after.bbram root =
@@ -212,44 +241,3 @@ sectors_by false n short = omega (arith, short)
 
 pub few_sectors : (room : Room) → IsPlan room → code_sectors room ≤ 8
 few_sectors room is = sectors_by (room.code_layer == 0) (length room.code.items) is.code
-
--- calls after calls that power did not stop
-metered_then : {A E C D : Type 0} (n m : ℕ) (value : A) (result : Result C D) (before between after : Meter) → IsMetered n {A = A} {E = E} (Ok value) before between → IsMetered m result between after → IsMetered (n + m) result before after
-metered_then n m value (Ok next) before between after first second = record { armed = second.armed ∙ first.armed; stops = second.stops ∙ first.stops; writes = omega (arith, first.writes, second.writes); cut = tt }
-metered_then n m value (Err stop) before between after first second =
-    record { armed = second.armed; stops = second.stops ∙ ap (λ k. k + 1) first.stops; writes = omega (arith, first.writes, second.writes); cut = sym first.armed ∙ second.cut }
-
-pub ran_then : {A E C D : Type 0} (n m : ℕ) (value : A) (result : Result C D) (before between after : Seen) → Ran n {A = A} {E = E} (Ok value) before between → Ran m result between after → Ran (n + m) result before after
-ran_then {A} {E} n m value (Ok next) before between after first second = record {
-  power = second.power;
-  level = second.level ∙ first.level;
-  sized = second.sized;
-  ledger = second.ledger ∙ first.ledger;
-  meter = metered_then n m value (Ok next) before.meter between.meter after.meter first.meter second.meter;
-}
-ran_then {A} {E} n m value (Err stop) before between after first second = record {
-  power = second.power;
-  level = second.level;
-  sized = second.sized;
-  ledger = second.ledger ∙ first.ledger;
-  meter = metered_then n m value (Err stop) before.meter between.meter after.meter first.meter second.meter;
-}
-
--- what is handed on counts the same
-pub ok_most : {A B C D : Type 0} (n m : ℕ) (value : A) (other : B) (before after : Seen) → n ≤ m → Ran n {A = A} {E = C} (Ok value) before after → Ran m {A = B} {E = D} (Ok other) before after
-ok_most n m value other before after most ran = record {
-  power = ran.power;
-  level = ran.level;
-  sized = ran.sized;
-  ledger = ran.ledger;
-  meter = record { armed = ran.meter.armed; stops = ran.meter.stops; writes = omega (arith, most, ran.meter.writes); cut = tt };
-}
-
-pub err_most : {A B C D : Type 0} (n m : ℕ) (stop : C) (other : D) (before after : Seen) → n ≤ m → Ran n {A = A} {E = C} (Err stop) before after → Ran m {A = B} {E = D} (Err other) before after
-err_most n m stop other before after most ran = record {
-  power = ran.power;
-  level = ran.level;
-  sized = ran.sized;
-  ledger = ran.ledger;
-  meter = record { armed = ran.meter.armed; stops = ran.meter.stops; writes = omega (arith, most, ran.meter.writes); cut = ran.meter.cut };
-}

@@ -1,12 +1,12 @@
 -- What judging the bytes of an order comes to.
-use Rattle.std.proofs.Common.{◌≡◌, ◌≤◌, ◌⊎◌, inl, inr, ℕ, List, length, Option, None, Some, Err, refl, sym, ap, subst, ◌∙◌, arith}
+use Rattle.std.proofs.Common.{◌≡◌, ◌≤◌, ◌⊎◌, inl, inr, ℕ, List, length, Err, refl, sym, ap, subst, ◌∙◌, arith}
 use Rattle.std.proofs.lemmas.List.{length-map}
 use Rattle.mb_format.specs.Format.{IsBytes, Spells, FailsWhole}
 use Rattle.mb_format.proofs.Whole.{IsClearWhole-from_exact}
 use Rattle.mb_bytes.specs.Reads.{FailsWholeAt}
-use Rattle.mb_command.specs.declared.end.OrderEnd.{OrderEnd}
-use Rattle.mb_command.specs.declared.end.OrderEnd.TheVariants.{BadText}
-use Rattle.mb_command.specs.Ends.{order_text_at}
+use Rattle.mb_bytes.specs.declared.end.ReadEnd.{ReadEnd}
+use Rattle.mb_bytes.specs.declared.end.ReadEnd.TheVariants.{Bad}
+use Rattle.mb_bytes.specs.Ends.{end_at}
 use Rattle.mb_model.specs.declared.limits.TheConstants.{LAST_INDEX, ENTRY_LIMIT}
 use Rattle.mb_model.specs.declared.entry.Entry.{Entry}
 use Rattle.mb_model.specs.declared.entry.SignedEntry.{SignedEntry}
@@ -21,41 +21,39 @@ use Rattle.mb_model.specs.memories.Clean.{root_of}
 use Rattle.mb_model.specs.owners.Log.{entries_of, number_of, uses_of_device_key, keys_made_by}
 use Rattle.mb_model.specs.memories.Memory.{area_of_slot}
 use Rattle.mb_model.specs.records.OrderFormat.{order_format}
-use Rattle.mb_model.specs.declared.reply.Refusal.{Refusal}
-use Rattle.mb_model.specs.machine.OrderChecks.{view_of}
+use Rattle.mb_model.specs.machine.OrderChecks.{view_of, Fails}
 use Rattle.mb_model.specs.machine.OrderStep.{OrderStep, spells_none, fails_check}
 use Rattle.mb_model.proofs.OrderFormatLaws.{order_exact}
 use Rattle.mb_model_lemmas.proofs.LogLemmas.{used-bound, number_of-le-length, made-le-length}
 use Rattle.mb_model_lemmas.proofs.ValidStates.{valid_is_ruled}
 use Rattle.mb_model.specs.declared.state.Figures.{Figures}
-use Rattle.mb_orders.specs.declared.end.JudgeEnd.{JudgeEnd}
-use Rattle.mb_orders.specs.Judging.{refusal_of, FailsFor}
 use Rattle.mb_model_memory.specs.Holding.{IsReady}
 use Rattle.mb_model_memory.specs.Storable.{IsStorableState}
 use Rattle.mb_model_memory.proofs.StorableMemories.{stands_storable}
 use Rattle.mb_region.specs.Regions.{HoldsSomeRegion}
-use Rattle.mb_boot.specs.Settling.{IsOnlyRoot}
+use Rattle.mb_area.specs.Roots.{IsOnlyRoot}
 use Rattle.mb_device_orders.specs.declared.remembering.Known.{Known}
 use Rattle.mb_device_orders.specs.Remembering.{Knows, IsRemembered}
-use Rattle.mb_device_orders.specs.Planning.{reply_for, ReadsText}
+use Rattle.mb_device_orders.specs.Planning.{ReadsText, FailsWith}
 
 -- ---- refusals
 
-pub no_order : (text : List ℕ) (end : OrderEnd) (at : ℕ) → end ≡ BadText at → IsBytes text → FailsWholeAt order_format text (order_text_at end) → (order : Order) → Spells order_format text order → ⊥
+pub no_order : (text : List ℕ) (end : ReadEnd) (at : ℕ) → end ≡ Bad at → IsBytes text → FailsWholeAt order_format text (end_at end) → (order : Order) → Spells order_format text order → ⊥
 no_order text end at is are fails order s =
-    let there : FailsWhole order_format text at = subst (λ (e : OrderEnd). FailsWholeAt order_format text (order_text_at e)) is fails in
+    let there : FailsWhole order_format text at = subst (λ (e : ReadEnd). FailsWholeAt order_format text (end_at e)) is fails in
     (IsClearWhole-from_exact order_exact).never_both text order at are s there
 
-refused_for : (state : State) (text draw : List ℕ) (order : Order) (refusal : Option Refusal) (answer : Reply) → Spells order_format text order → FailsFor (view_of state) order refusal → answer ≡ reply_for refusal
+pub refused_step : (state : State) (view : View) (text draw : List ℕ) (order : Order) (answer : Reply) → view ≡ view_of state → Spells order_format text order → FailsWith view order answer
     → (answer ≡ reply.NoMemory) ⊎ OrderStep state text draw answer state
-refused_for state text draw order None answer s fails told = inl told
-refused_for state text draw order (Some refusal) answer s fails told =
-    inr (fails_check (record { order = order; spelled = s; refusal = refusal; fails = fails; answered = told; stays = refl }))
-
-pub refused_step : (state : State) (view : View) (text draw : List ℕ) (order : Order) (end : JudgeEnd) (answer : Reply) → view ≡ view_of state → Spells order_format text order → FailsFor view order (refusal_of end) → answer ≡ reply_for (refusal_of end)
-    → (answer ≡ reply.NoMemory) ⊎ OrderStep state text draw answer state
-refused_step state view text draw order end answer is s fails told =
-    refused_for state text draw order (refusal_of end) answer s (subst (λ (v : View). FailsFor v order (refusal_of end)) is fails) told
+refused_step state view text draw order answer is s why =
+    inr (fails_check (record {
+      order = order;
+      spelled = s;
+      refusal = why.refusal;
+      fails = subst (λ (v : View). Fails v order why.refusal) is why.fails;
+      answered = why.answered;
+      stays = refl;
+    }))
 
 pub none_step : (state : State) (text draw : List ℕ) (answer : Reply) → ReadsText text (Err answer) → (answer ≡ reply.NoMemory) ⊎ OrderStep state text draw answer state
 none_step state text draw answer (inl lacks) = inl lacks

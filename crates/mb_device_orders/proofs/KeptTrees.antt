@@ -4,7 +4,6 @@ use Rattle.std.specs.Prelude.{if◌then◌else◌, ◌||◌, IsSome, Err}
 use Rattle.mb_model.specs.declared.entry.Entry.{Entry}
 use Rattle.mb_model.specs.declared.key.KeySeed.{KeySeed}
 use Rattle.mb_model.specs.declared.order.Order.{Order}
-use Rattle.mb_model.specs.declared.reply.Refusal.{Refusal}
 use Rattle.mb_model.specs.declared.reply.Reply.{Reply}
 use Rattle.mb_model.specs.declared.state.Bodies.{Bodies}
 use Rattle.mb_model.specs.declared.state.State.{State}
@@ -17,7 +16,7 @@ use Rattle.mb_model.specs.chains.Listing.{is_done}
 use Rattle.mb_model.specs.owners.Log.{keys_made_by}
 use Rattle.mb_model.specs.machine.OrderChecks.{view_of, succession_is_due}
 use Rattle.mb_model.specs.machine.OrderEffects.{fact_of, names_next, device_after, state_after_order}
-use Rattle.mb_model.specs.memories.StoredLog.{outgoing_of}
+use Rattle.mb_model.specs.memories.StoredLog.{outgoing_of, signer_by, signer_of}
 use Rattle.mb_model.specs.machine.Work.{after_succession, bodies_by, bodies_for, pending_for}
 use Rattle.mb_model_lemmas.proofs.AdditionLemmas.{device_is}
 use Rattle.mb_model_memory.specs.Commits.{root_for, new_entries}
@@ -25,26 +24,21 @@ use Rattle.mb_model_memory.specs.Holding.{IsReady}
 use Rattle.mb_layout.specs.declared.room.Room.{Room}
 use Rattle.mb_orders.specs.declared.plan.Plan.{Plan}
 use Rattle.mb_orders.specs.Judging.{plan_by}
-use Rattle.mb_boot.specs.Completions.{signer_by, signer_of}
-use Rattle.mb_boot.specs.Settling.{IsOnlyRoot}
+use Rattle.mb_area.specs.Roots.{IsOnlyRoot}
 use Rattle.mb_boot.specs.Signers.{HasSigners, HoldsDeviceTree, DeviceKeySigns}
 use Rattle.mb_boot.proofs.Signers.{second_signs}
 use Rattle.mb_signer.specs.declared.bench.Bench.{Bench}
 use Rattle.mb_signer.specs.Benches.{HasTree, HasRoom}
 use Rattle.mb_device_orders.specs.declared.judging.Judged.{Judged}
 use Rattle.mb_device_orders.specs.Obeying.{MakesKeys}
-use Rattle.mb_device_orders.specs.Planning.{reply_for, ReadsText, PassesAs, IsCommit}
+use Rattle.mb_device_orders.specs.Planning.{ReadsText, FailsWith, PassesAs, IsCommit}
 use Rattle.mb_device_orders.proofs.Committed.{IsCommitted, header_stands}
 use Rattle.mb_device_orders.proofs.Remembered.{root_is}
 
 -- ---- answers
 
-pub reply_undone : (refusal : Option Refusal) → is_done (reply_for refusal) ≡ false
-reply_undone (Some refusal) = refl
-reply_undone None = refl
-
-pub undone_so : (answer : Reply) (refusal : Option Refusal) → answer ≡ reply_for refusal → is_done answer ≡ false
-undone_so answer refusal is = subst (λ (a : Reply). is_done a ≡ false) (sym is) (reply_undone refusal)
+pub failing_undone : (view : View) (order : Order) (answer : Reply) → FailsWith view order answer → is_done answer ≡ false
+failing_undone view order answer why = subst (λ (a : Reply). is_done a ≡ false) (sym why.answered) refl
 
 pub reading_undone : (text : List ℕ) (answer : Reply) → ReadsText text (Err answer) → is_done answer ≡ false
 reading_undone text answer (inl lacks) = subst (λ (a : Reply). is_done a ≡ false) (sym lacks) refl

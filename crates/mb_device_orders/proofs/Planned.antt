@@ -29,7 +29,7 @@ use Rattle.mb_model.specs.machine.OrderEffects.{entry_signed_by, state_after_suc
 use Rattle.mb_model.specs.records.OrderFormat.{order_format}
 use Rattle.mb_model.specs.owners.Rules.{kind_of}
 use Rattle.mb_model.specs.memories.Sectors.{header_sector, BeginsAs}
-use Rattle.mb_model.specs.memories.StoredLog.{entries_signed_for, outgoing_of, log_completed_by}
+use Rattle.mb_model.specs.memories.StoredLog.{signer_by, entries_signed_for, outgoing_of, log_completed_by}
 use Rattle.mb_model.specs.memories.Valid.{IsValidState}
 use Rattle.mb_model.specs.machine.Work.{pending_for}
 use Rattle.mb_orders.specs.declared.plan.Plan.{Plan}
@@ -47,7 +47,7 @@ use Rattle.mb_model_memory.proofs.FlashHeaders.{entries_have_texts, code_brought
 use Rattle.mb_model_memory.proofs.StorableMemories.{stands_storable}
 use Rattle.mb_model_memory.proofs.StorableOrders.{obeyed_storable, least_one, may_be_for}
 use Rattle.mb_layout.specs.declared.room.Room.{Room}
-use Rattle.mb_boot.specs.Settling.{IsOnlyRoot}
+use Rattle.mb_area.specs.Roots.{IsOnlyRoot}
 use Rattle.mb_device_orders.specs.declared.judging.Judged.{Judged}
 use Rattle.mb_outbound.specs.declared.kept.RegionTree.{RegionTree}
 use Rattle.mb_outbound.specs.KeptTrees.{IsKeptIn}
@@ -116,9 +116,9 @@ mapped_entries key index (entry ∷ more) = ap (λ (xs : List Entry). entry ∷ 
 
 signed_entries : (device : KeySeed) (uses : ℕ) (outgoing : Option Outgoing) (unsigned : List Entry) → entries_of (entries_signed_for device uses outgoing unsigned) ≡ unsigned
 unfolding entry_signed_by
-signed_entries device uses None unsigned = mapped_entries device (uses - 1) unsigned
-signed_entries device uses (Some outgoing) [] = refl
-signed_entries device uses (Some outgoing) (first ∷ rest) = ap (λ (xs : List Entry). first ∷ xs) (mapped_entries device 0 rest)
+signed_entries device uses outgoing [] = refl
+signed_entries device uses outgoing (first ∷ rest) =
+    ap (λ (xs : List Entry). first ∷ xs) (mapped_entries (signer_by device uses outgoing 1).key (signer_by device uses outgoing 1).index rest)
 
 completed_entries : (root : Root) (signed : List SignedEntry) (unsigned : List Entry) → entries_of (log_completed_by root signed unsigned) ≡ entries_of signed ++ unsigned
 unfolding log_completed_by

@@ -28,8 +28,7 @@ use Rattle.mb_model_lemmas.proofs.OneFlash.{one_begun}
 use Rattle.mb_model_memory.specs.Commits.{at_rest}
 use Rattle.mb_model_memory.specs.Holding.{Holds, IsReady, HasReady}
 use Rattle.mb_model_memory.proofs.RestLemmas.{clean_and_stands, rests_by_root}
-use Rattle.mb_area.specs.Roots.{HasSomeRoot}
-use Rattle.mb_boot.specs.Settling.{IsOnlyRoot}
+use Rattle.mb_area.specs.Roots.{HasSomeRoot, IsOnlyRoot}
 use Rattle.mb_boot.proofs.Settled.{bounded}
 use Rattle.mb_device_orders.specs.declared.judging.Judged.{Judged}
 use Rattle.mb_device_orders.specs.Planning.{HasPassed}

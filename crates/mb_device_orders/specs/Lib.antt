@@ -1,3 +1,4 @@
+pub mod Calls
 pub mod Remembering
 pub mod Obeying
 pub mod Planning

@@ -9,6 +9,7 @@ use Rattle.mb_model.specs.declared.order.Order.{Order}
 use Rattle.mb_model.specs.declared.reply.Reply.{Reply}
 use Rattle.mb_model.specs.declared.reply.Reply.TheVariants as reply
 use Rattle.mb_model.specs.declared.state.State.{State}
+use Rattle.mb_model.specs.declared.state.View.{View}
 use Rattle.mb_model.specs.declared.stored.Header.{Header}
 use Rattle.mb_model.specs.declared.stored.Root.{Root}
 use Rattle.mb_model.specs.outside.Board.{Memory}
@@ -18,10 +19,10 @@ use Rattle.mb_model.specs.memories.Flash.{AreBytesOf}
 use Rattle.mb_model.specs.records.HeaderFormat.{header_format}
 use Rattle.mb_model.specs.records.OrderFormat.{order_format}
 use Rattle.mb_model.specs.memories.Sectors.{BeginsAs}
-use Rattle.mb_model.specs.declared.reply.Refusal.{Refusal}
-use Rattle.mb_model.specs.declared.reply.Refusal.TheVariants.{BadText}
+use Rattle.mb_model.specs.declared.reply.OrderRefusal.{OrderRefusal}
+use Rattle.mb_model.specs.declared.reply.Refusal.TheVariants as refused
 use Rattle.mb_model.specs.machine.Refusals.{refusal_reply}
-use Rattle.mb_model.specs.machine.OrderChecks.{view_of, Passes}
+use Rattle.mb_model.specs.machine.OrderChecks.{view_of, Passes, Fails}
 use Rattle.mb_model.specs.machine.OrderStep.{OrderStep}
 use Rattle.mb_orders.specs.Judging.{plan_by}
 use Rattle.mb_model_lemmas.specs.SegmentLaws.{IsOnlyHeader}
@@ -29,22 +30,28 @@ use Rattle.mb_model_memory.specs.Commits.{root_for, new_entries, at_rest}
 use Rattle.mb_model_memory.specs.Holding.{Holds, IsReady}
 use Rattle.mb_model_memory.specs.NextHeaders.{code_brought, header_after}
 use Rattle.mb_layout.specs.declared.room.Room.{Room}
-use Rattle.mb_boot.specs.Settling.{IsOnlyRoot}
+use Rattle.mb_area.specs.Roots.{IsOnlyRoot}
 use Rattle.mb_device_orders.specs.declared.judging.Judged.{Judged}
 
 -- ---- judging
-
--- the answer to an order that is not obeyed: a refusal, or that an allocation failed
-abbrev pub reply_for : Option Refusal → Reply
-reply_for (Some refusal) = refusal_reply refusal
-reply_for None = reply.NoMemory
 
 -- the order that the bytes spell; else they spell none and are refused for that, or an allocation failed
 abbrev pub ReadsText : List ℕ → Result Order Reply → Type 0
 ReadsText text (Ok order) = Spells order_format text order
 ReadsText text (Err answer) =
     (answer ≡ reply.NoMemory)
-    ⊎ ((answer ≡ refusal_reply BadText) × ((order : Order) → Spells order_format text order → ⊥))
+    ⊎ ((answer ≡ refusal_reply refused.BadText) × ((order : Order) → Spells order_format text order → ⊥))
+
+-- the order fails this check, and is answered so
+pub record FailsWith (view : View) (order : Order) (answer : Reply) : Type 0 where
+  pub refusal : OrderRefusal
+  pub fails : Fails view order refusal
+  pub answered : answer ≡ refusal_reply (refused.Order refusal)
+
+-- the result of the checks: the order passes, or is answered by the first that it fails
+abbrev pub ChecksText : View → Order → Result (Unit {0}) Reply → Type 0
+ChecksText view order (Ok passed) = Passes view order
+ChecksText view order (Err answer) = FailsWith view order answer
 
 -- the bytes spell an order that passes in this state, and this is its effect
 pub record PassesAs (state : State) (text draw : List ℕ) (judged : Judged) : Type 0 where

@@ -1,5 +1,7 @@
 -- What a device remembers of its state while power is on. Does it agree with the memory?
-use Rattle.std.specs.Prelude.{◌≡◌, Option, IfSome}
+use Rattle.std.specs.Prelude.{◌≡◌, ℕ, Option, IfSome}
+use Rattle.mb_format.specs.Format.{IsBytes}
+use Rattle.mb_board.specs.Calls.{Seen, IsUp}
 use Rattle.mb_model.specs.declared.state.State.{State}
 use Rattle.mb_model.specs.outside.Board.{Memory}
 use Rattle.mb_model.specs.owners.Log.{figures_of, entries_of}
@@ -30,3 +32,10 @@ pub record IsRemembered (known : Known) (memory : Memory) : Type 0 where
   pub state : State
   pub ready : IsReady memory state
   pub knows : Knows known state
+
+-- A board that shows this can be used at the level, and its battery-backed memory holds bytes. The device is ready for
+-- an event, and remembers its state.
+pub record CanAnswer (level : ℕ) (known : Known) (seen : Seen) : Type 0 where
+  pub up : IsUp level seen
+  pub bytes : IsBytes seen.memory.bbram
+  pub remembered : IsRemembered known seen.memory

@@ -13,7 +13,7 @@ ghost use Rattle.mb_area.specs.Flashes.{BeginWithHeader};
 ghost use Rattle.mb_device_orders.specs.Planning.{BringsShortCode, CanTake, IsToWrite};
 
 use mb_bytes::put_slice;
-use mb_layout::{Room, write_entry};
+use mb_layout::{Room, entry_bytes};
 use mb_model::{Act, Bytes, Entry, Header, NoMemory, Order, Slot};
 use mb_segments::{StoredHeader, header_at, write_header};
 use std::alloc::Global;
@@ -59,9 +59,7 @@ fn text_at(alloc: Global, entries: &[Entry], place: usize) -> Result<Option<Byte
     let Some(entry) = entries.get(place) else {
         return Ok(None);
     };
-    let mut bytes = Vec::new(alloc);
-    write_entry(entry, &mut bytes)?;
-    Ok(Some(Bytes::from_vec(bytes)))
+    Ok(Some(entry_bytes(alloc, entry)?))
 }
 
 /// The header after an order. The order's entries are in it as texts, not signed yet.

@@ -1,29 +1,26 @@
 //! How the bytes of an order are read and judged.
 
-ghost use Rattle.std.specs.Prelude.{◌≡◌, ◌≤◌, ◌+◌, false, IfOk, IfErr, IsSome, OnErr, ◌*◌};
-ghost use Rattle.mb_format.specs.Format.{IsBytes};
+ghost use Rattle.std.specs.Prelude.{◌≡◌};
+ghost use Rattle.mb_format.specs.Format.{Spells};
 ghost use Rattle.mb_model.specs.declared.state.State.{State};
-ghost use Rattle.mb_model.specs.chains.Listing.{is_done};
-ghost use Rattle.mb_model.specs.owners.Log.{keys_made_by};
+ghost use Rattle.mb_model.specs.records.OrderFormat.{order_format};
 ghost use Rattle.mb_model.specs.machine.OrderChecks.{view_of};
 ghost use Rattle.mb_log.specs.Additions.{IsInRange};
-ghost use Rattle.mb_orders.specs.Judging.{refusal_of};
 ghost use Rattle.mb_board.specs.Calls.{IsUp};
 ghost use Rattle.mb_model_memory.specs.Holding.{IsReady};
-ghost use Rattle.mb_boot.specs.Settling.{IsOnlyRoot};
-ghost use Rattle.mb_device_orders.specs.Remembering.{Knows, IsRemembered};
-ghost use Rattle.mb_device_orders.specs.Planning.{reply_for, ReadsText, JudgesText};
-ghost use Rattle.mb_signer.specs.Benches.{HasTree, IsBare, HasRoom};
-ghost use Rattle.mb_lms.specs.declared.hash_count.TheConstants.{TREE_HASHES};
+ghost use Rattle.mb_area.specs.Roots.{IsOnlyRoot};
+ghost use Rattle.mb_device_orders.specs.Calls.{Judges};
+ghost use Rattle.mb_device_orders.specs.Remembering.{Knows, IsRemembered, CanAnswer};
+ghost use Rattle.mb_device_orders.specs.Planning.{ReadsText, ChecksText};
 
-use crate::remembering::Known;
+use crate::remembering::{Known, Running};
 use mb_area::read_root;
 use mb_board::Board;
-use mb_command::{OrderEnd, read_order};
+use mb_command::{OrderEnd, read_order, signed_prefix};
 use mb_layout::Room;
 use mb_lms::HashCount;
-use mb_model::{Order, Refusal, Reply, Root, View};
-use mb_orders::{JudgeEnd, Plan, judge};
+use mb_model::{NoMemory, Order, Refusal, Reply, Root, View};
+use mb_orders::{Plan, check, make_plan};
 use mb_ratchet::{R1, Three, Two, Up};
 use mb_region::count_stored_keys;
 use mb_signer::Bench;
@@ -46,18 +43,19 @@ fn read_text(alloc: Global, text: &[u8]) -> Result<Order, Reply>
 {
     match read_order(alloc, text) {
         Ok(order) => Ok(order),
-        Err(OrderEnd::BadText { .. }) => Err(Refusal::BadText.reply()),
+        Err(OrderEnd::Bad { .. }) => Err(Refusal::BadText.reply()),
         Err(OrderEnd::NoMemory) => Err(Reply::NoMemory),
     }
 }
 
-/// The answer to an order that is not obeyed.
-fn reply_for(end: JudgeEnd) -> Reply
-    ensures { result ≡ reply_for (refusal_of end) }
+/// Tries every check on the order that the bytes spell. The error is the answer to an order that fails one.
+fn check_text(view: &View, order: &Order, text: &[u8]) -> Result<(), Reply>
+    requires { Spells order_format text.now order.now }
+    ensures { ChecksText view.now order.now result }
 {
-    match end.refusal() {
-        Some(refusal) => refusal.reply(),
-        None => Reply::NoMemory,
+    match check(view, order, signed_prefix(order, text)) {
+        Ok(()) => Ok(()),
+        Err(refusal) => Err(Refusal::Order(refusal).reply()),
     }
 }
 
@@ -89,38 +87,27 @@ fn view_now<B: Board>(up: &Up<R1>, b: &B, known: &Known, root: &Root, room: &mut
 /// Reads the order that the bytes spell, and judges it. The error is the answer to an order that is not obeyed; nothing
 /// is hashed then. New keys are derived from `draw`, in 34,399 hashes for each key that the order's entries name. The
 /// tree of a new device key is on the bench afterwards. A bench that was bare has room for another tree.
-#[tactic(auto, using(crate::proofs::Remembered::remembered_root, mb_boot::proofs::Settled::only_root, crate::proofs::Judgement::none_step))]
+#[tactic(auto, using(crate::proofs::Remembered::remembered_root, crate::proofs::Judgement::none_step))]
 pub fn judge_text<B: Board, L: Ledger>(
     alloc: Global,
     up: &Up<R1>,
     b: &B,
-    known: &Known,
+    running: &mut Running,
     text: &[u8],
     draw: &[u8; 32],
     bench: &mut Bench,
-    room: &mut Room,
     hashes: &mut HashCount<L>,
 ) -> Result<Judged, Reply>
-    requires up { IsUp 1 (B.seen b.now) }
-    requires bytes { IsBytes (B.seen b.now).memory.bbram }
-    requires remembered { IsRemembered known.now (B.seen b.now).memory }
-    ensures judged { (state : State) → IsReady (B.seen b.now).memory state → Knows known.now state
-        → JudgesText state text.now draw.now result }
-    ensures undone { IfErr result (λ answer. is_done answer ≡ false) }
-    ensures root { IfOk result (λ judged. IsOnlyRoot (B.seen b.now).memory.bbram judged.root) }
-    ensures at_hand { IfOk result (λ judged. IsSome judged.plan.bodies.outgoing
-        → HasTree bench.new judged.plan.bodies.device) }
-    ensures room { IsBare bench.old → HasRoom bench.new }
-    ensures cost { hashes.new ≤ hashes.old + 2 * TREE_HASHES }
-    ensures keys { IfOk result (λ judged. hashes.new
-        ≤ hashes.old + keys_made_by judged.plan.bodies.entries * TREE_HASHES) }
-    ensures unhashed { OnErr result (hashes.new ≡ hashes.old) }
+    requires { CanAnswer 1 running.old.known (B.seen b.now) }
+    ensures { Judges (B.seen b.now).memory running.old.known running.new.known text.now draw.now
+        result bench.old bench.new hashes.old hashes.new }
 {
     let order = read_text(alloc, text)?;
-    let root = read_root(b, room);
-    let view = view_now(up, b, known, &root, room);
-    match judge(alloc, &view, &order, draw, bench, hashes) {
+    let root = read_root(b, &mut running.room);
+    let view = view_now(up, b, &running.known, &root, &mut running.room);
+    check_text(&view, &order, text)?;
+    match make_plan(alloc, &view, &order, draw, bench, hashes) {
         Ok(plan) => Ok(Judged { order, plan, root }),
-        Err(end) => Err(reply_for(end)),
+        Err(NoMemory) => Err(Reply::NoMemory),
     }
 }

@@ -13,4 +13,4 @@ mod planning;
 mod remembering;
 
 pub use obeying::obey;
-pub use remembering::{Known, Trees, remember};
+pub use remembering::{Known, Running, Trees, remember};

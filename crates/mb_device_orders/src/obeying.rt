@@ -1,23 +1,13 @@
 //! How an order is answered.
 
-ghost use Rattle.std.specs.Prelude.{◌≡◌, ℕ, ◌≤◌, ◌+◌, ◌*◌, true, IfOk, IsSome};
-ghost use Rattle.mb_format.specs.Format.{IsBytes};
-ghost use Rattle.mb_model.specs.declared.state.State.{State};
-ghost use Rattle.mb_model.specs.chains.Listing.{is_done};
-ghost use Rattle.mb_board.specs.Calls.{IsUp, Ran};
-ghost use Rattle.mb_model.specs.memories.Spared.{SparesSectors};
-ghost use Rattle.mb_model_memory.specs.Holding.{IsReady};
-ghost use Rattle.mb_model_memory.specs.Answering.{TellsOfWrites};
-ghost use Rattle.mb_device_orders.specs.Remembering.{Knows, IsRemembered};
-ghost use Rattle.mb_device_orders.specs.Obeying.{Obeys, LeavesKnown, MakesKeys};
-ghost use Rattle.mb_lms.specs.declared.hash_count.TheConstants.{LEAF_HASHES, SIGNING_HASHES, TREE_HASHES};
+ghost use Rattle.mb_device_orders.specs.Calls.{AnswersOrder};
+ghost use Rattle.mb_device_orders.specs.Remembering.{CanAnswer};
 
 use crate::committing::commit;
 use crate::judging::judge_text;
 use crate::planning::plan_commit;
-use crate::remembering::{Known, Trees};
+use crate::remembering::{Running, Trees};
 use mb_board::Board;
-use mb_layout::Room;
 use mb_lms::HashCount;
 use mb_model::{NoMemory, Reply};
 use mb_ratchet::{Off, R1, Up};
@@ -44,51 +34,35 @@ pub fn obey<B: Board, L: Ledger>(
     alloc: Global,
     up: Up<R1>,
     b: &mut B,
-    known: &mut Known,
+    running: &mut Running,
     text: &[u8],
     draw: &[u8; 32],
-    room: &mut Room,
     hashes: &mut HashCount<L>,
 ) -> Result<(Up<R1>, Reply), Off>
-    requires up { IsUp 1 (B.seen b.old) }
-    requires bytes { IsBytes (B.seen b.old).memory.bbram }
-    requires remembered { IsRemembered known.old (B.seen b.old).memory }
-    ensures told { (state : State) → IsReady (B.seen b.old).memory state → Knows known.old state
-        → Obeys state text.now draw.now known.new (B.seen b.old).memory (B.seen b.new).memory
-        result }
-    ensures stays { LeavesKnown result known.old known.new }
-    ensures keeps { IfOk result (λ told. is_done told.1 ≡ true
-        → IsSome known.new.trees.value.device) }
-    ensures writes { TellsOfWrites result (B.seen b.old).memory (B.seen b.new).memory
-        (B.seen b.old).meter (B.seen b.new).meter }
-    ensures spared { SparesSectors (B.seen b.old).memory (B.seen b.new).memory }
-    ensures ran { Ran 35 result (B.seen b.old) (B.seen b.new) }
-    ensures cost { hashes.new ≤ hashes.old + 2 * TREE_HASHES + 2 * SIGNING_HASHES }
-    ensures again { (state : State) (keys : ℕ) → IsReady (B.seen b.old).memory state
-        → Knows known.old state → IsSome known.old.trees.value.device
-        → MakesKeys state text.now draw.now keys
-        → hashes.new ≤ hashes.old + keys * TREE_HASHES + 2 * LEAF_HASHES }
+    requires { CanAnswer 1 running.old.known (B.seen b.old) }
+    ensures { AnswersOrder running.old.known running.new.known text.now draw.now result (B.seen b.old)
+        (B.seen b.new) hashes.old hashes.new }
 {
     let mut bench = Bench::new();
-    let judged = match judge_text(alloc, &up, b, known, text, draw, &mut bench, room, hashes) {
+    let judged = match judge_text(alloc, &up, b, running, text, draw, &mut bench, hashes) {
         Ok(judged) => judged,
         Err(reply) => return Ok((up, reply)),
     };
     let device = judged.root.device;
-    let planned = match plan_commit(alloc, b, known, judged, room) {
+    let planned = match plan_commit(alloc, b, &running.known, judged, &mut running.room) {
         Ok(planned) => planned,
         Err(NoMemory) => return Ok((up, Reply::NoMemory)),
     };
-    known.lend(&device, &mut bench);
-    let up = commit(up, b, &planned.root, room, &mut bench, hashes)?;
-    known.figures = planned.figures;
-    *known.trees = Trees {
+    running.known.lend(&device, &mut bench);
+    let up = commit(up, b, &planned.root, &mut running.room, &mut bench, hashes)?;
+    running.known.figures = planned.figures;
+    *running.known.trees = Trees {
         device: bench.take(&planned.root.device),
         region: None,
     };
     let reply = Reply::Done {
-        number: known.figures.number,
-        length: known.figures.length,
+        number: running.known.figures.number,
+        length: running.known.figures.length,
     };
     Ok((up, reply))
 }

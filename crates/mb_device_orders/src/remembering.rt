@@ -1,6 +1,6 @@
 //! What a device remembers of its state.
 
-ghost use Rattle.std.specs.Prelude.{◌≡◌, ◌≤◌, ◌<◌, ◌⊎◌, List, length, IfSome, IsSome, None, Some};
+ghost use Rattle.std.specs.Prelude.{◌≡◌, ◌≤◌, ◌<◌, List, length, IfSome, None, Some};
 ghost use Rattle.mb_model.specs.declared.limits.TheConstants.{ENTRY_LIMIT, FILE_LIMIT};
 ghost use Rattle.mb_model.specs.declared.entry.SignedEntry.{SignedEntry};
 ghost use Rattle.mb_model.specs.declared.state.State.{State};
@@ -11,8 +11,8 @@ ghost use Rattle.mb_model.specs.owners.Log.{figures_of, entries_of};
 ghost use Rattle.mb_model.specs.memories.Sectors.{log_sector, BeginsAs};
 ghost use Rattle.mb_board.specs.Calls.{IsPowered, IsUp};
 ghost use Rattle.mb_model_memory.specs.Holding.{IsReady, HasReady};
-ghost use Rattle.mb_signer.specs.Benches.{HasTree, HasRoom, KeepsTrees};
 ghost use Rattle.mb_signer.specs.Tree.{IsTreeOf};
+ghost use Rattle.mb_device_orders.specs.Calls.{Lends};
 ghost use Rattle.mb_device_orders.specs.Remembering.{Knows};
 
 use mb_area::{read_header, read_log, read_root};
@@ -64,16 +64,21 @@ impl Known {
     /// Moves the tree of the device key to the bench, if one is kept.
     pub(crate) fn lend(&mut self, device: &KeySeed, bench: &mut Bench)
         requires { IfSome self.old.trees.value.device (λ tree. IsTreeOf device.now tree) }
-        ensures serial { self.new.serial ≡ self.old.serial }
-        ensures figures { self.new.figures ≡ self.old.figures }
-        ensures lent { IsSome self.old.trees.value.device → HasTree bench.new device.now }
-        ensures beside { HasRoom bench.old → KeepsTrees bench.old bench.new }
-        ensures room { HasRoom bench.old → HasRoom bench.new ⊎ HasTree bench.new device.now }
+        ensures { Lends device.now self.old self.new bench.old bench.new }
     {
         if let Some(tree) = self.trees.device.take() {
             bench.put(device, tree);
         }
     }
+}
+
+/// What a device holds while a layer runs.
+#[derive(Drop)]
+pub struct Running {
+    /// What the device remembers of its state.
+    pub known: Known,
+    /// Working space.
+    pub room: Room,
 }
 
 /// The number of signed entries that the header at the beginning of a sector counts; 0 if there is no header.

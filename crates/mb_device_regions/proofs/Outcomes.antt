@@ -29,7 +29,7 @@ use Rattle.mb_format.specs.Combinators.{limit}
 use Rattle.std.specs.Int.{w32}
 use Rattle.mb_device_regions.specs.declared.end.NotPut.{NotPut}
 use Rattle.mb_device_regions.specs.declared.end.NotPut.TheVariants.{Full, NoMemory}
-use Rattle.mb_device_regions.specs.Secrets.{IsKeptRegion, region_with_secret, IsPut, IsDropped, PutOf, PutsInto, secret_of}
+use Rattle.mb_device_regions.specs.Secrets.{IsKeptRegion, region_with_secret, IsPut, IsDropped, PutOf, PutsInto, secret_of, IsSecretOf}
 
 -- an answer is to the outcome that an event has
 pub answered_as : {outcome known : Outcome} {answer : Reply} {before after : Memory} → outcome ≡ known → IsAnswered known answer before after → IsAnswered outcome answer before after
@@ -40,28 +40,29 @@ cut_as {state} {outcome} {known} {after} same is = subst (λ (o : Outcome). IsCu
 
 -- ---- a region that has a record
 
-pub put_record : (name value : List ℕ) (number : ℕ) (old new : Region) → IsName name → FitsMessage value → number < limit w32 → IsKeptRegion old → IsPut old (secret_of name value number) new → CanBeWritten new
-put_record name value number old new is_name fits small kept is =
-    let secret : Secret = secret_of name value number in
-    let own : secret_format.Allowed secret = secret_allowed secret is_name.some is_name.most (named name is_name) fits small in
-    subst CanBeWritten (sym is.is) (region_written (region_with_secret secret old) (put_region secret old own kept.storable is.room))
+pub put_record : (secret : Secret) (old new : Region) → secret_format.Allowed secret → IsKeptRegion old → IsPut old secret new → CanBeWritten new
+put_record secret old new allowed kept is = subst CanBeWritten (sym is.is) (region_written (region_with_secret secret old) (put_region secret old allowed kept.storable is.room))
 
 pub drop_record : (name : List ℕ) (old new : Region) → IsKeptRegion old → IsDropped old name new → CanBeWritten new
 drop_record name old new kept is = subst CanBeWritten (sym is.is) (region_written (without_secret name old) (drop_region name old kept.storable))
 
 -- ---- what the stored region comes to
 
-pub full_for : (end : NotPut) (old known new : Region) (read secret : Secret) → old ≡ known → read ≡ secret → PutOf old read (Err end) new → PutsInto known secret (Err end)
-full_for Full old known new read secret same copied is = subst (λ (s : Secret). is_full_for s.name known ≡ true) copied (subst (λ (r : Region). is_full_for read.name r ≡ true) same is)
-full_for NoMemory old known new read secret same copied is = tt
+pub full_for : (end : NotPut) (old known new : Region) (secret : Secret) → old ≡ known → PutOf old secret (Err end) new → PutsInto known secret (Err end)
+full_for Full old known new secret same is = subst (λ (r : Region). is_full_for secret.name r ≡ true) same is
+full_for NoMemory old known new secret same is = tt
 
-pub secret_copied : {name read_name value read_value from_name from_value : List ℕ} (number : ℕ) → read_name ≡ from_name → from_name ≡ name → read_value ≡ from_value → from_value ≡ value
+secret_copied : {name read_name value read_value from_name from_value : List ℕ} (number : ℕ) → read_name ≡ from_name → from_name ≡ name → read_value ≡ from_value → from_value ≡ value
     → secret_of read_name read_value number ≡ secret_of name value number
 secret_copied {name} {read_name} {value} {read_value} number read_first first read_second second =
     ap (λ (n : List ℕ). secret_of n read_value number) (read_first ∙ first) ∙ ap (λ (v : List ℕ). secret_of name v number) (read_second ∙ second)
 
-pub put_as : (old new : Region) (read secret : Secret) → read ≡ secret → IsPut old read new → IsPut old secret new
-put_as old new read secret copied is = subst (λ (s : Secret). IsPut old s new) copied is
+-- the secret of what was copied
+pub secret_is : {name read_name value read_value from_name from_value : List ℕ} (number : ℕ) → IsName name → FitsMessage value → number < limit w32 → read_name ≡ from_name → from_name ≡ name → read_value ≡ from_value → from_value ≡ value
+    → IsSecretOf name value number (secret_of read_name read_value number)
+secret_is {name} {read_name} {value} {read_value} number is_name fits small read_first first read_second second =
+    let is : secret_of read_name read_value number ≡ secret_of name value number = secret_copied number read_first first read_second second in
+    record { is = is; allowed = subst secret_format.Allowed (sym is) (secret_allowed (secret_of name value number) is_name.some is_name.most (named name is_name) fits small) }
 
 pub dropped_as : (old new : Region) (read name : List ℕ) → read ≡ name → IsDropped old read new → IsDropped old name new
 dropped_as old new read name same is = subst (λ (n : List ℕ). IsDropped old n new) same is

@@ -84,16 +84,20 @@ used_outcome L number message state key has =
     ap (λ (found : Option RegionKey). sign_with L found message state) has.found
     ∙ ap (λ (b : Bool). let o : Outcome = if b then (refusal_reply KeySpent, state) else after_use L key message state in o) (left_one key.uses has.left)
 
+-- what is signed for a subject, by its parts
+abbrev bytes_by : KeySeed → ℕ → ℕ → List ℕ → ℕ → List ℕ → List ℕ
+bytes_by seed index key serial number message = signed_statement_bytes seed index (record { serial = serial; key = key; number = number }) message
+
 -- the bytes are those of the statement
 stated_as : (state : State) (key : RegionKey) (number right : ℕ) (seed : KeySeed) (serial : List ℕ) (configuration : ℕ) (message : List ℕ) → key.number ≡ number → right ≡ key.uses → seed ≡ key.seed
-    → serial ≡ state.serial → configuration ≡ number_of (entries_of state.log) → signed_statement_bytes seed right number serial configuration message ≡ statement_format.spelling (statement_of state key message)
+    → serial ≡ state.serial → configuration ≡ number_of (entries_of state.log) → bytes_by seed right number serial configuration message ≡ statement_format.spelling (statement_of state key message)
 unfolding statement_of
 stated_as state key number right seed serial configuration message own index same serial_is number_is =
-    ap (λ (n : ℕ). signed_statement_bytes seed right n serial configuration message) (sym own)
-    ∙ ap (λ (n : ℕ). signed_statement_bytes seed n key.number serial configuration message) index
-    ∙ ap (λ (k : KeySeed). signed_statement_bytes k key.uses key.number serial configuration message) same
-    ∙ ap (λ (xs : List ℕ). signed_statement_bytes key.seed key.uses key.number xs configuration message) serial_is
-    ∙ ap (λ (n : ℕ). signed_statement_bytes key.seed key.uses key.number state.serial n message) number_is
+    ap (λ (n : ℕ). bytes_by seed right n serial configuration message) (sym own)
+    ∙ ap (λ (n : ℕ). bytes_by seed n key.number serial configuration message) index
+    ∙ ap (λ (k : KeySeed). bytes_by k key.uses key.number serial configuration message) same
+    ∙ ap (λ (xs : List ℕ). bytes_by key.seed key.uses key.number xs configuration message) serial_is
+    ∙ ap (λ (n : ℕ). bytes_by key.seed key.uses key.number state.serial n message) number_is
 
 use_valid : (L number : ℕ) (state : State) → Runnable state.layers L → IsValidState state → IsValidState (with_region state L (region_with_use number (region_of state L)))
 use_valid L number state runs valid =
@@ -124,13 +128,13 @@ reply_as number own right uses bytes spelled same index is =
 
 pub signed_told : (L number right index : ℕ) (seed : KeySeed) (serial : List ℕ) (configuration : ℕ) (copied message bytes : List ℕ) (state : State) (before after : Memory) → IsRegionSlot L
     → IsBound (region_of state L) number right seed → UsesKey L number before after → IsOwn state serial configuration → copied ≡ message → index ≡ right
-    → bytes ≡ signed_statement_bytes seed right number serial configuration copied → Runnable state.layers L → IsReady before state
+    → bytes ≡ signed_statement_bytes seed right (record { serial = serial; key = number; number = configuration }) copied → Runnable state.layers L → IsReady before state
     → IsAnswered (sign_event L number message state) (reply.Signed number index bytes) before after
 signed_told L number right index seed serial configuration copied message bytes state before after which bound uses own same index_is is runs ready =
     let key : RegionKey = bound.key in
     let own_number : key.number ≡ number = found_number number (region_of state L).keys key bound.has_use.found in
     let spelled : bytes ≡ statement_format.spelling (statement_of state key message) =
-    is ∙ ap (λ (xs : List ℕ). signed_statement_bytes seed right number serial configuration xs) same
+    is ∙ ap (λ (xs : List ℕ). bytes_by seed right number serial configuration xs) same
     ∙ stated_as state key number right seed serial configuration message own_number bound.index bound.seed own.serial_is own.number_is in
     answered_as (used_outcome L number message state key bound.has_use)
     (tells (reply_as number key.number index key.uses bytes _ own_number (index_is ∙ bound.index) spelled)

@@ -1,3 +1,3 @@
+pub mod Calls
 pub mod Secrets
-pub mod Uses
 pub mod Statements

@@ -4,6 +4,7 @@ use Rattle.std.specs.Prelude.{Result, Ok, Err, Option, Some, None}
 use Rattle.std.specs.List.{list_any}
 use Rattle.mb_model.specs.declared.region.Region.{Region}
 use Rattle.mb_model.specs.declared.region.Secret.{Secret}
+use Rattle.mb_model.specs.records.RegionFormat.{secret_format}
 use Rattle.mb_model.specs.machine.LayerEvents.{has_name, with_secret, is_full_for}
 use Rattle.mb_model_memory.specs.Storable.{IsStorableRegion}
 use Rattle.mb_model_lemmas.specs.RegionLaws.{without_secret}
@@ -44,6 +45,11 @@ DropOf old name false new = list_any (has_name name) old.secrets ≡ false
 
 abbrev pub secret_of : List ℕ → List ℕ → ℕ → Secret
 secret_of name value number = record { name = name; value = value; born = number }
+
+-- this is the secret, and it has a spelling
+pub record IsSecretOf (name value : List ℕ) (number : ℕ) (secret : Secret) : Type 0 where
+  pub is : secret ≡ secret_of name value number
+  pub allowed : secret_format.Allowed secret
 
 -- the result of putting a secret into a copy of the region
 abbrev pub PutsInto : Region → Secret → Result Region NotPut → Type 0

@@ -2,90 +2,90 @@
 
 ghost use Rattle.std.specs.Prelude.{◌≡◌, IfOk, IfSome};
 ghost use Rattle.mb_layout.specs.Plans.{SamePlans};
-ghost use Rattle.mb_model.specs.declared.region.Region.{Region};
 ghost use Rattle.mb_model.specs.declared.state.State.{State};
-ghost use Rattle.mb_model.specs.owners.Layers.{Runnable};
 ghost use Rattle.mb_model.specs.machine.LayerEvents.{put_event, get_event, drop_event};
-ghost use Rattle.mb_model.specs.owners.Log.{entries_of, number_of};
 ghost use Rattle.mb_model.specs.owners.Regions.{region_of};
 ghost use Rattle.mb_model.specs.chains.Script.{IsName, FitsMessage};
-ghost use Rattle.mb_board.specs.Calls.{IsUp, RanOnBbram};
+ghost use Rattle.mb_board.specs.Calls.{IsUp};
 ghost use Rattle.mb_model_memory.specs.Holding.{IsReady, HasReady};
-ghost use Rattle.mb_model_memory.specs.Answering.{IsAnswered, ComesTo, TellsOfWrites};
-ghost use Rattle.mb_model.specs.records.RegionFormat.{CanBeWritten};
-ghost use Rattle.mb_device_regions.specs.Uses.{CanAnswer};
-ghost use Rattle.mb_device_regions.specs.Secrets.{secret_of, PutsInto, DropsFrom};
+ghost use Rattle.mb_model_memory.specs.Answering.{IsAnswered};
+ghost use Rattle.mb_model.specs.records.RegionFormat.{secret_format, CanBeWritten};
+ghost use Rattle.mb_device_orders.specs.Remembering.{CanAnswer};
+ghost use Rattle.mb_device_regions.specs.Calls.{AnswersIn};
+ghost use Rattle.mb_device_regions.specs.Secrets.{IsSecretOf, PutsInto, DropsFrom};
 
 use crate::end::NotPut;
 use crate::named::{drop_in, put_in, value_in};
 use crate::stored::{load, replace};
 use mb_board::Board;
+use mb_device_orders::Running;
 use mb_layout::Room;
 use mb_model::{Bytes, NoMemory, Refusal, Region, Reply, Secret};
 use mb_ratchet::{Off, Reaches};
 use mb_region::Named;
 use std::alloc::Global;
 
+/// A secret of its own memory, put at this configuration number.
+fn secret_with(alloc: Global, name: &Bytes, value: &Bytes, number: u32) -> Result<Secret, NoMemory>
+    requires name { IsName name.now }
+    requires value { FitsMessage value.now }
+    ensures { IfOk result (IsSecretOf name.now value.now number) }
+{
+    Ok(Secret {
+        name: Bytes::copy(alloc, name.as_slice())?,
+        value: Bytes::copy(alloc, value.as_slice())?,
+        born: number,
+    })
+}
+
 /// The stored region with this secret.
 fn region_with<S: Reaches<L>, L: Named, B: Board>(
     alloc: Global,
     s: &S,
     b: &B,
-    name: &Bytes,
-    value: &Bytes,
-    number: u32,
+    secret: Secret,
     room: &mut Room,
 ) -> Result<Region, NotPut>
     requires up { IsUp S.stage (B.seen b.now) }
     requires ready { HasReady (B.seen b.now).memory }
-    requires name { IsName name.now }
-    requires value { FitsMessage value.now }
+    requires allowed { secret_format.Allowed secret }
     ensures put { (state : State) → IsReady (B.seen b.now).memory state
-        → PutsInto (region_of state L.place) (secret_of name.now value.now number) result }
+        → PutsInto (region_of state L.place) secret result }
     ensures stored { IfOk result (λ region. CanBeWritten region) }
     ensures plans { SamePlans room.old room.new }
 {
     let mut region = load::<S, L, B>(alloc, s, b, room)?;
-    let secret = Secret {
-        name: Bytes::copy(alloc, name.as_slice())?,
-        value: Bytes::copy(alloc, value.as_slice())?,
-        born: number,
-    };
     put_in(&mut region, secret)?;
     Ok(region)
 }
 
-/// Answers a put: the secret is kept, or refused if the region is full of secrets of other names. The layer may run,
-/// and `number` is the configuration number. If power fails, the secret is kept as a whole or not at all. There are at
-/// most three write calls.
+/// Answers a put: the secret is kept, or refused if the region is full of secrets of other names. The layer may run. If
+/// power fails, the secret is kept as a whole or not at all. There are at most three write calls.
 pub fn put_secret<S: Reaches<L>, L: Named, B: Board>(
     alloc: Global,
     s: S,
     b: &mut B,
     name: &Bytes,
     value: &Bytes,
-    number: u32,
-    room: &mut Room,
+    running: &mut Running,
 ) -> Result<(S, Reply), Off>
-    requires can_answer { CanAnswer S.stage (B.seen b.old) }
+    requires can_answer { CanAnswer S.stage running.old.known (B.seen b.old) }
     requires name { IsName name.now }
     requires value { FitsMessage value.now }
-    ensures told { (state : State) → IsReady (B.seen b.old).memory state
-        → Runnable state.layers L.place
-        → number ≡ number_of (entries_of state.log)
-        → ComesTo state (put_event L.place name.now value.now state) (B.seen b.old).memory
-        (B.seen b.new).memory result }
-    ensures writes { TellsOfWrites result (B.seen b.old).memory (B.seen b.new).memory
-        (B.seen b.old).meter (B.seen b.new).meter }
-    ensures ran { RanOnBbram 3 result (B.seen b.old) (B.seen b.new) }
-    ensures plans { SamePlans room.old room.new }
+    ensures answers { AnswersIn L.place (put_event L.place name.now value.now) running.old running.new
+        result (B.seen b.old) (B.seen b.new) }
+    ensures stays { running.new.known ≡ running.old.known }
 {
-    let region = match region_with::<S, L, B>(alloc, &s, b, name, value, number, room) {
+    let secret = match secret_with(alloc, name, value, running.known.figures.number) {
+        Ok(secret) => secret,
+        Err(NoMemory) => return Ok((s, Reply::NoMemory)),
+    };
+    let region = match region_with::<S, L, B>(alloc, &s, b, secret, &mut running.room) {
         Ok(region) => region,
         Err(NotPut::Full) => return Ok((s, Refusal::RegionFull.reply())),
         Err(NotPut::NoMemory) => return Ok((s, Reply::NoMemory)),
     };
-    let s = replace::<S, L, B>(s, b, &region, room)?;
+    let s = replace::<S, L, B>(s, b, &region, &mut running.room)?;
     Ok((s, Reply::Kept))
 }
 
@@ -140,23 +140,18 @@ pub fn drop_secret<S: Reaches<L>, L: Named, B: Board>(
     s: S,
     b: &mut B,
     name: &Bytes,
-    room: &mut Room,
+    running: &mut Running,
 ) -> Result<(S, Reply), Off>
-    requires can_answer { CanAnswer S.stage (B.seen b.old) }
-    ensures told { (state : State) → IsReady (B.seen b.old).memory state
-        → Runnable state.layers L.place
-        → ComesTo state (drop_event L.place name.now state) (B.seen b.old).memory
-        (B.seen b.new).memory result }
-    ensures writes { TellsOfWrites result (B.seen b.old).memory (B.seen b.new).memory
-        (B.seen b.old).meter (B.seen b.new).meter }
-    ensures ran { RanOnBbram 3 result (B.seen b.old) (B.seen b.new) }
-    ensures plans { SamePlans room.old room.new }
+    requires can_answer { CanAnswer S.stage running.old.known (B.seen b.old) }
+    ensures answers { AnswersIn L.place (drop_event L.place name.now) running.old running.new result
+        (B.seen b.old) (B.seen b.new) }
+    ensures stays { running.new.known ≡ running.old.known }
 {
-    let region = match region_without::<S, L, B>(alloc, &s, b, name, room) {
+    let region = match region_without::<S, L, B>(alloc, &s, b, name, &mut running.room) {
         Ok(Some(region)) => region,
         Ok(None) => return Ok((s, Reply::Absent)),
         Err(NoMemory) => return Ok((s, Reply::NoMemory)),
     };
-    let s = replace::<S, L, B>(s, b, &region, room)?;
+    let s = replace::<S, L, B>(s, b, &region, &mut running.room)?;
     Ok((s, Reply::Dropped))
 }

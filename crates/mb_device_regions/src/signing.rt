@@ -1,27 +1,21 @@
 //! Statements: messages that a key of a region signs.
 
-ghost use Rattle.std.specs.Prelude.{◌≡◌, ◌+◌, ◌≤◌, ◌<◌, length, IfOk};
-ghost use Rattle.mb_layout.specs.Plans.{SamePlans};
-ghost use Rattle.mb_model.specs.declared.state.State.{State};
-ghost use Rattle.mb_model.specs.owners.Layers.{Runnable};
+ghost use Rattle.std.specs.Prelude.{◌≡◌, ◌+◌, ◌≤◌, length, IfOk};
 ghost use Rattle.mb_model.specs.machine.LayerEvents.{sign_event};
-ghost use Rattle.mb_model.specs.owners.Log.{entries_of, number_of};
 ghost use Rattle.mb_model.specs.chains.Script.{FitsMessage};
-ghost use Rattle.mb_board.specs.Calls.{RanOnBbram};
-ghost use Rattle.mb_model_memory.specs.Holding.{IsReady};
-ghost use Rattle.mb_model_memory.specs.Answering.{ComesTo, TellsOfWrites};
-ghost use Rattle.mb_device_regions.specs.Uses.{CanAnswer};
+ghost use Rattle.mb_model.specs.records.ChainFormat.{statement_format};
 ghost use Rattle.mb_signer.specs.Tree.{IsTreeOf};
-ghost use Rattle.mb_outbound.specs.KeptTrees.{IsKeptFor, IsKeptIn};
-ghost use Rattle.mb_device_regions.specs.Statements.{IsPreparedMessage, signed_statement_bytes, HasKeptTree, KeepsTree, LeavesTree};
-ghost use Rattle.mb_lms.specs.declared.hash_count.TheConstants.{LEAF_HASHES, SIGNING_HASHES};
+ghost use Rattle.mb_device_orders.specs.Remembering.{CanAnswer};
+ghost use Rattle.mb_device_regions.specs.Calls.{AnswersIn, SignsByTree};
+ghost use Rattle.mb_device_regions.specs.Statements.{IsPreparedMessage, signed_statement, signed_statement_bytes};
+ghost use Rattle.mb_lms.specs.declared.hash_count.TheConstants.{LEAF_HASHES};
 
 use mb_board::Board;
 use mb_cert::{Statement, write_statement};
-use mb_layout::Room;
+use mb_device_orders::Running;
 use mb_lms::HashCount;
 use mb_model::{Bytes, KeySeed, MESSAGE_LIMIT, NoMemory, Refusal, Reply, SIGNATURE_LENGTH};
-use mb_outbound::{BindEnd, RegionTree, bind, region_tree, state_text};
+use mb_outbound::{BindEnd, Subject, bind, region_tree, state_text};
 use mb_ratchet::{Off, Reaches};
 use mb_region::Named;
 use mb_signer::{KeptTree, OneUse};
@@ -50,23 +44,34 @@ fn prepare(alloc: Global, message: &Bytes) -> Result<Prepared, NoMemory>
     })
 }
 
-/// Signs a statement with the key of this number, and spells it. The seed and the tree are the key's. The right is
-/// spent. Takes no memory.
+/// The statement of a message, with this signature.
+#[tactic(auto, using(mb_model_lemmas::proofs::AttachLemmas::statement_allowed))]
+fn statement_with(number: u32, message: Bytes, signature: [u8; SIGNATURE_LENGTH]) -> Statement
+    requires { length message ≤ MESSAGE_LIMIT }
+    ensures is { result ≡ signed_statement number message signature }
+    ensures allowed { statement_format.Allowed result }
+{
+    Statement {
+        number,
+        message,
+        signature,
+    }
+}
+
+/// Signs a statement with the subject's key, and spells it. The seed and the tree are the key's. The right is spent.
+/// Takes no memory.
 fn make_statement<Lg: Ledger>(
     right: OneUse,
     seed: &KeySeed,
     tree: &KeptTree,
-    key: u32,
-    serial: &[u8; 16],
-    number: u32,
+    subject: &Subject,
     prepared: Prepared,
     hashes: &mut HashCount<Lg>,
 ) -> Bytes
     requires short { length prepared.message ≤ MESSAGE_LIMIT }
     requires prepared { IsPreparedMessage prepared.message prepared }
     requires tree { IsTreeOf seed.now tree.now }
-    ensures statement { result ≡ signed_statement_bytes seed.now right key serial.now number
-        prepared.message }
+    ensures statement { result ≡ signed_statement_bytes seed.now right subject.now prepared.message }
     ensures cost { hashes.new ≤ hashes.old + LEAF_HASHES }
 {
     let mut signature = [0; SIGNATURE_LENGTH];
@@ -75,18 +80,12 @@ fn make_statement<Lg: Ledger>(
         right,
         seed,
         tree,
-        serial,
-        key,
-        number,
+        subject,
         message.as_slice(),
         &mut signature,
         hashes,
     );
-    let statement = Statement {
-        number,
-        message,
-        signature,
-    };
+    let statement = statement_with(subject.number, message, signature);
     match write_statement(&statement, &mut bytes) {
         Ok(()) => Bytes::from_vec(bytes),
         Err(NoMemory) => unreachable!(),
@@ -94,9 +93,9 @@ fn make_statement<Lg: Ledger>(
 }
 
 /// Answers a request to sign: a statement of the message, signed by the key with number `key` at its next index, or a
-/// refusal if the region has no such key or the key has no index left. The layer may run, and `serial` and `number` are
-/// the device's serial and configuration number. One more use of the key is stored before it signs, so that no index
-/// signs twice; if power fails, the use is stored or not. There are at most three write calls and 35,473 hashes.
+/// refusal if the region has no such key or the key has no index left. The layer may run. One more use of the key is
+/// stored before it signs, so that no index signs twice; if power fails, the use is stored or not. There are at most
+/// three write calls and 35,473 hashes.
 ///
 /// The key signs with its tree, which is kept in place of the previous one, so that the same key signs again in at most
 /// 1,074 hashes. Where no key signs, the tree that was kept is kept still. A kept tree has to be that of the key for
@@ -107,42 +106,31 @@ pub fn sign_message<S: Reaches<L>, L: Named, B: Board, Lg: Ledger>(
     b: &mut B,
     key: u32,
     message: &Bytes,
-    serial: &[u8; 16],
-    number: u32,
-    kept: &mut Option<RegionTree>,
-    room: &mut Room,
+    running: &mut Running,
     hashes: &mut HashCount<Lg>,
 ) -> Result<(S, Reply), Off>
-    requires can_answer { CanAnswer S.stage (B.seen b.old) }
+    requires can_answer { CanAnswer S.stage running.old.known (B.seen b.old) }
     requires message { FitsMessage message.now }
-    requires kept { HasKeptTree kept.old (B.seen b.old).memory }
-    ensures told { (state : State) → IsReady (B.seen b.old).memory state
-        → Runnable state.layers L.place
-        → serial.now ≡ state.serial → number ≡ number_of (entries_of state.log)
-        → ComesTo state (sign_event L.place key message.now state) (B.seen b.old).memory
-        (B.seen b.new).memory result }
-    ensures writes { TellsOfWrites result (B.seen b.old).memory (B.seen b.new).memory
-        (B.seen b.old).meter (B.seen b.new).meter }
-    ensures ran { RanOnBbram 3 result (B.seen b.old) (B.seen b.new) }
-    ensures kept { (state : State) → IsReady (B.seen b.old).memory state → IsKeptIn kept.old state
-        → IsKeptIn kept.new state }
-    ensures keeps { KeepsTree result kept.new L.place key }
-    ensures stays { LeavesTree result kept.old kept.new }
-    ensures plans { SamePlans room.old room.new }
-    ensures cost { hashes.new ≤ hashes.old + SIGNING_HASHES }
-    ensures again { IsKeptFor kept.old L.place key → hashes.new ≤ hashes.old + LEAF_HASHES }
+    ensures answers { AnswersIn L.place (sign_event L.place key message.now) running.old running.new
+        result (B.seen b.old) (B.seen b.new) }
+    ensures trees { SignsByTree L.place key running.old.known.trees.value
+        running.new.known.trees.value result hashes.old hashes.new }
 {
     let prepared = match prepare(alloc, message) {
         Ok(prepared) => prepared,
         Err(NoMemory) => return Ok((s, Reply::NoMemory)),
     };
-    match bind::<S, L, B>(s, b, key, room) {
+    match bind::<S, L, B>(s, b, key, &mut running.room) {
         Ok((s, right, seed)) => {
             let index = right.index();
+            let subject = Subject {
+                serial: running.known.serial,
+                key,
+                number: running.known.figures.number,
+            };
+            let kept = &mut running.known.trees.region;
             let own = region_tree(kept.take(), L::number(), key, &seed, hashes);
-            let statement = make_statement(
-                right, &seed, &own.tree, key, serial, number, prepared, hashes,
-            );
+            let statement = make_statement(right, &seed, &own.tree, &subject, prepared, hashes);
             *kept = Some(own);
             Ok((
                 s,

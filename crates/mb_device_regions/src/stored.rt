@@ -3,16 +3,13 @@
 ghost use Rattle.std.specs.Prelude.{◌≡◌, ◌⊎◌, OnOk, IfOk};
 ghost use Rattle.mb_format.specs.Format.{IsBytes};
 ghost use Rattle.mb_layout.specs.Plans.{SamePlans};
-ghost use Rattle.mb_model.specs.declared.region.Region.{Region};
 ghost use Rattle.mb_model.specs.declared.state.State.{State};
-ghost use Rattle.mb_model.specs.memories.Memory.{IsBlank, inactive_area_of_slot};
 ghost use Rattle.mb_model.specs.owners.Regions.{region_of, with_region};
 ghost use Rattle.mb_model.specs.memories.Valid.{IsValidState};
 ghost use Rattle.mb_board.specs.Calls.{IsUp, RanOnBbram};
 ghost use Rattle.mb_model_memory.specs.Holding.{Means, IsReady, HasReady};
 ghost use Rattle.mb_model.specs.records.RegionFormat.{CanBeWritten};
-ghost use Rattle.mb_slot.specs.Slots.{RanInSlot};
-ghost use Rattle.mb_region.specs.Regions.{ReplacesRegion, KeepsOrReplaces};
+ghost use Rattle.mb_outbound.specs.Calls.{PutsInSlot};
 ghost use Rattle.mb_device_regions.specs.Secrets.{IsKeptRegion};
 
 use mb_board::Board;
@@ -48,13 +45,8 @@ fn exchange<S: Reaches<L>, L: Named, B: Board>(
 ) -> Result<S, Off>
     requires up { IsUp S.stage (B.seen b.old) }
     requires stored { CanBeWritten region.now }
-    ensures done { OnOk result (ReplacesRegion L.place region.now (B.seen b.old).memory
-        (B.seen b.new).memory) }
-    ensures either { KeepsOrReplaces L.place region.now (B.seen b.old).memory
-        (B.seen b.new).memory }
-    ensures blank { OnOk result (IsBlank (inactive_area_of_slot (B.seen b.new).memory.bbram L.place)) }
-    ensures ran { RanInSlot 3 L.place result (B.seen b.old) (B.seen b.new) }
-    ensures plans { SamePlans room.old room.new }
+    ensures { PutsInSlot L.place (λ given. given ≡ region.now) room.old room.new result (B.seen b.old)
+        (B.seen b.new) }
 {
     let s = commit_region::<S, L, B>(s, b, region, room)?;
     wipe_region::<S, L, B>(s, b)

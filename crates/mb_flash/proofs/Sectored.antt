@@ -1,14 +1,15 @@
 -- What the writes of a sector, and of several, leave.
-use Rattle.std.proofs.Common.{◌≡◌, ℕ, ◌+◌, ◌*◌, ◌<◌, ◌≤◌, ◌⊎◌, inl, inr, List, [], ◌∷◌, ◌++◌, length, take, drop, refl, ap, sym, ◌∙◌, arith, length-append}
+use Rattle.std.proofs.Common.{◌≡◌, ℕ, ◌+◌, ◌*◌, ◌<◌, ◌≤◌, ◌⊎◌, inl, inr, List, [], ◌∷◌, ◌++◌, length, take, drop, Bool, true, Result, Ok, Err, IsErr, OnErr, true≢false, refl, ap, sym, subst, ◌∙◌, arith, length-append}
 use Rattle.std.proofs.Math.Seq.{take-add, take-append_seam, drop-append_seam}
 use Rattle.std.proofs.lemmas.List.{take-take, take-replicate, drop-drop, drop-take, append-nil}
 use Rattle.mb_model.specs.outside.Pieces.{part}
 use Rattle.mb_model.specs.outside.Board.{Memory, IsLoaded, memory_with_bytes, erased_bytes}
 use Rattle.mb_model.proofs.Places.{length-erased, part-put}
-use Rattle.mb_board.specs.Calls.{Torn}
+use Rattle.mb_board.specs.Calls.{Torn, Seen, RanOnFlash, level_of, armed_by, stops_by}
 use Rattle.mb_slot.specs.Slots.{IsOutside, IsSameOutside}
 use Rattle.mb_slot.proofs.Ranges.{torn_same, apart_same}
 use Rattle.mb_flash.specs.Sectors.{sectors_for}
+use Rattle.mb_flash.specs.Calls.{WritesSectors}
 
 -- ---- what stays
 
@@ -118,3 +119,71 @@ pub next_stands : (first : ℕ) (flash piece rest bytes : List ℕ) → bytes �
 next_stands first flash piece rest bytes whole full stands =
     let next : 4096 * (first + 1) ≡ 4096 * first + 4096 = omega arith in
     ap (λ k. part k (length rest) flash) next ∙ rest_stands (4096 * first) flash piece rest bytes whole full stands
+
+-- ---- the sectors of all the bytes
+
+-- the first piece takes a sector, and the rest those after it
+pub one_more : (piece rest bytes : List ℕ) → bytes ≡ piece ++ rest → 0 < length piece → length piece ≤ 4096 → (length piece ≡ 4096) ⊎ (length rest ≡ 0)
+    → sectors_for (length bytes) ≡ 1 + sectors_for (length rest)
+one_more piece rest bytes whole some most (inl full) = omega (arith, full, ap length whole, length-append piece rest)
+one_more piece rest bytes whole some most (inr none) = omega (arith, some, most, none, ap length whole, length-append piece rest)
+
+-- what stays while the first sector is written, and then those after it
+pub both_same : (first count all : ℕ) (before mid after : List ℕ) → all ≡ 1 + count → IsSameOutside (4096 * first) 4096 before mid → IsSameOutside (4096 * (first + 1)) (4096 * count) mid after
+    → IsSameOutside (4096 * first) (4096 * all) before after
+both_same first count all before mid after is one more = record {
+  sized = more.sized ∙ one.sized;
+  bytes = λ offset outside. more.bytes offset (after_first offset outside) ∙ one.bytes offset (before_rest offset outside);
+}
+  where
+    after_first : (offset : ℕ) → IsOutside (4096 * first) (4096 * all) offset → IsOutside (4096 * (first + 1)) (4096 * count) offset
+    after_first offset (inl below) = inl (omega arith)
+    after_first offset (inr above) = inr (omega (arith, is))
+
+    before_rest : (offset : ℕ) → IsOutside (4096 * first) (4096 * all) offset → IsOutside (4096 * first) 4096 offset
+    before_rest offset (inl below) = inl below
+    before_rest offset (inr above) = inr (omega (arith, is))
+
+-- calls that were not stopped, and then others
+pub ran_then : {A B E F : Type 0} (n m all : ℕ) (value : A) (result : Result B F) (before mid after : Seen) → n + m ≤ all → RanOnFlash n {A = A} {E = E} (Ok value) before mid → RanOnFlash m result mid after
+    → RanOnFlash all result before after
+ran_then n m all value result before mid after less one more = record {
+  ran = record {
+    power = more.ran.power;
+    level = more.ran.level ∙ ap (level_of result) one.ran.level;
+    sized = more.ran.sized;
+    ledger = more.ran.ledger ∙ one.ran.ledger;
+    meter = record {
+      armed = more.ran.meter.armed ∙ ap (armed_by result) one.ran.meter.armed;
+      stops = more.ran.meter.stops ∙ ap (stops_by result) one.ran.meter.stops;
+      writes = omega (arith, less, one.ran.meter.writes, more.ran.meter.writes);
+      cut = subst (λ (armed : Bool). OnErr result (armed ≡ true)) one.ran.meter.armed more.ran.meter.cut;
+    };
+  };
+  bbram = more.bbram ∙ one.bbram;
+}
+
+-- what is written of all the bytes where the first sector was stopped
+pub first_stopped : {A B E F : Type 0} (first : ℕ) (bytes piece rest : List ℕ) (error : E) (result : Result B F) (before after : Seen) → 1 ≤ sectors_for (length bytes) → bytes ≡ piece ++ rest → IsErr result
+    → WritesSectors first 1 piece {A = A} {E = E} (Err error) before after → WritesSectors first (sectors_for (length bytes)) bytes result before after
+first_stopped first bytes piece rest error (Ok value) before after some whole is stopped = absurd (true≢false (sym is))
+first_stopped first bytes piece rest error (Err other) before after some whole is stopped = record {
+  written = tt;
+  idle = λ stands. stopped.idle (piece_stands (4096 * first) before.memory.flash piece rest bytes whole stands);
+  same = widened (4096 * first) 4096 (4096 * sectors_for (length bytes)) before.memory.flash after.memory.flash (omega (arith, some)) stopped.same;
+  ran = record {
+    ran = record {
+      power = stopped.ran.ran.power;
+      level = stopped.ran.ran.level;
+      sized = stopped.ran.ran.sized;
+      ledger = stopped.ran.ran.ledger;
+      meter = record {
+        armed = stopped.ran.ran.meter.armed;
+        stops = stopped.ran.ran.meter.stops;
+        writes = omega (arith, some, stopped.ran.ran.meter.writes);
+        cut = stopped.ran.ran.meter.cut;
+      };
+    };
+    bbram = stopped.ran.bbram;
+  };
+}

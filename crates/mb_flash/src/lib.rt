@@ -1,8 +1,7 @@
 //! Sectors of the flash.
 //!
 //! This crate owns how sectors of the flash are written: none that holds its bytes already, and each of the others
-//! erased and programmed once. If power fails, all other sectors are as they were. The crate stands on the board of
-//! `mb_board`. No call takes memory.
+//! erased and programmed once. If power fails, all other sectors are as they were. No call takes memory.
 #![tactic(auto)]
 
 mod sector;

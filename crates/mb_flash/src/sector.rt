@@ -1,12 +1,13 @@
 //! Writing bytes to one sector, and to several.
 
-ghost use Rattle.std.specs.Prelude.{◌≡◌, ℕ, ◌+◌, ◌*◌, ◌<◌, ◌≤◌, ◌++◌, ◌⊎◌, ◌↔◌, length, IsTrue, OnOk, Ok};
+ghost use Rattle.std.specs.Prelude.{◌≡◌, ℕ, ◌+◌, ◌*◌, ◌<◌, ◌≤◌, ◌++◌, ◌⊎◌, ◌↔◌, length, IsTrue, OnOk};
 ghost use Rattle.mb_model.specs.declared.limits.TheConstants.{SECTOR_COUNT, SECTOR_LENGTH};
 ghost use Rattle.mb_model.specs.outside.Pieces.{part};
 ghost use Rattle.mb_model.specs.outside.Board.{erased_bytes};
 ghost use Rattle.mb_board.specs.Calls.{IsPowered, RanOnFlash};
 ghost use Rattle.mb_slot.specs.Slots.{IsSameOutside};
 ghost use Rattle.mb_flash.specs.Sectors.{sectors_for};
+ghost use Rattle.mb_flash.specs.Calls.{WritesSectors};
 
 use mb_board::{Board, Stopped};
 use mb_model::SECTOR_LENGTH;
@@ -61,15 +62,7 @@ pub fn write_sector<B: Board>(b: &mut B, sector: u16, bytes: &[u8]) -> Result<()
     requires powered { IsPowered (B.seen b.old) }
     requires sector { sector < SECTOR_COUNT }
     requires bytes { (0 < length bytes.now) × (length bytes.now ≤ SECTOR_LENGTH) }
-    ensures written { OnOk result (part (SECTOR_LENGTH * sector) (length bytes.now)
-        (B.seen b.new).memory.flash ≡ bytes.now) }
-    ensures idle { part (SECTOR_LENGTH * sector) (length bytes.now) (B.seen b.old).memory.flash
-        ≡ bytes.now
-        → (result ≡ Ok tt) × ((B.seen b.new).memory ≡ (B.seen b.old).memory)
-        × ((B.seen b.new).meter ≡ (B.seen b.old).meter) }
-    ensures same { IsSameOutside (SECTOR_LENGTH * sector) SECTOR_LENGTH (B.seen b.old).memory.flash
-        (B.seen b.new).memory.flash }
-    ensures ran { RanOnFlash 2 result (B.seen b.old) (B.seen b.new) }
+    ensures { WritesSectors sector 1 bytes.now result (B.seen b.old) (B.seen b.new) }
 {
     if begins_with(b, sector, bytes) {
         return Ok(());
@@ -96,16 +89,8 @@ fn split_piece(bytes: &[u8]) -> (&[u8], &[u8])
 pub fn write_sectors<B: Board>(b: &mut B, first: u16, bytes: &[u8]) -> Result<(), Stopped>
     requires powered { IsPowered (B.seen b.old) }
     requires within { first + sectors_for (length bytes.now) ≤ SECTOR_COUNT }
-    ensures written { OnOk result (part (SECTOR_LENGTH * first) (length bytes.now)
-        (B.seen b.new).memory.flash ≡ bytes.now) }
-    ensures idle { part (SECTOR_LENGTH * first) (length bytes.now) (B.seen b.old).memory.flash
-        ≡ bytes.now
-        → (result ≡ Ok tt) × ((B.seen b.new).memory ≡ (B.seen b.old).memory)
-        × ((B.seen b.new).meter ≡ (B.seen b.old).meter) }
-    ensures same { IsSameOutside (SECTOR_LENGTH * first)
-        (SECTOR_LENGTH * sectors_for (length bytes.now)) (B.seen b.old).memory.flash
-        (B.seen b.new).memory.flash }
-    ensures ran { RanOnFlash (2 * sectors_for (length bytes.now)) result (B.seen b.old) (B.seen b.new) }
+    ensures { WritesSectors first (sectors_for (length bytes.now)) bytes.now result (B.seen b.old)
+        (B.seen b.new) }
 {
     if bytes.is_empty() {
         return Ok(());

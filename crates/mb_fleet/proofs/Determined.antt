@@ -24,7 +24,7 @@ use Rattle.mb_fleet.specs.declared.comparison.Comparison.TheVariants as found
 use Rattle.mb_fleet.specs.Order.{IsBefore}
 use Rattle.mb_fleet.specs.Rows.{AreOrdered, IsRowOf, serial_of_row}
 use Rattle.mb_fleet.specs.Showing.{Answer, newly_added, same, extended, chain_refused, older, forked, full, IsNewDevice, StandsBetween, HasOld, Meets, is_added, is_full, is_same, is_extended, is_older, is_forked, IsShown, is_chain_refused, is_shown}
-use Rattle.mb_fleet.specs.Places.{Compares}
+use Rattle.mb_fleet.specs.Lookups.{Compares}
 use Rattle.mb_fleet.specs.Laws.{RowsHaveOneAnswer, ChainsHaveOneAnswer}
 use Rattle.mb_fleet.proofs.Each.{each_weaker, each_middle}
 use Rattle.mb_fleet.proofs.Ascending.{before_trans, not_before_itself, middle_below, middle_above}

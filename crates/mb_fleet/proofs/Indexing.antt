@@ -21,7 +21,7 @@ use Rattle.mb_fleet.specs.declared.indexes.CodeIndexes.{CodeIndexes}
 use Rattle.mb_fleet.specs.declared.indexes.CodeChange.{CodeChange}
 use Rattle.mb_fleet.specs.Order.{IsBefore}
 use Rattle.mb_fleet.specs.Rows.{code_at, serial_of_row, AreOrdered}
-use Rattle.mb_fleet.specs.Places.{IsHeld, IsFree}
+use Rattle.mb_fleet.specs.Lookups.{IsHeld, IsFree}
 use Rattle.mb_fleet.specs.Questions.{is_hash, row_has_code, serials_with}
 use Rattle.mb_fleet.specs.Indexes.{serials_at, IsIndexOf, lower, higher, without, among, IsListingOf, IsChangeOf, overlaid, IsChanged, KeepsCodes, ListsSame, HasCodeOf, AreIndexesOf, AreChangesOf, AreChanged}
 use Rattle.mb_fleet.proofs.Each.{each_weaker, each_any}

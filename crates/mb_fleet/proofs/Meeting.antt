@@ -12,7 +12,7 @@ use Rattle.mb_format.proofs.Fields.{same_bytes-true}
 use Rattle.mb_fleet.specs.declared.row.Row.{Row}
 use Rattle.mb_fleet.specs.Rows.{AreOrdered, serial_of_row}
 use Rattle.mb_fleet.specs.Showing.{newly_added, same, extended, older, forked, full, IsShorter, DifferAt, HasOld, Meets, is_added, is_full, is_same, is_extended, is_older, is_forked}
-use Rattle.mb_fleet.specs.Places.{IsHeld, IsFree, HasFewEntries, FitsRegister}
+use Rattle.mb_fleet.specs.Lookups.{IsHeld, IsFree, HasFewEntries, FitsRegister}
 use Rattle.mb_fleet.proofs.Each.{each_between, each_instead}
 use Rattle.mb_fleet.proofs.Ascending.{ascending_between, ascending_instead, none_has}
 use Rattle.mb_fleet.proofs.Standing.{held_here_is, insert_between, set_between}

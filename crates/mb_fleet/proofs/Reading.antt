@@ -18,9 +18,10 @@ use Rattle.mb_bytes.proofs.Exactly.{is_read, stands}
 use Rattle.mb_fleet.specs.declared.item.Item.{Item}
 use Rattle.mb_fleet.specs.declared.item.Item.TheVariants.{Show, Find, Codes}
 use Rattle.mb_fleet.specs.ItemFormat.{ItemTag, show_tag, find_tag, codes_tag, item_byte, item_rows, item_tag, show_in, find_in, codes_item_in, show_format, find_format, codes_item_format, item_by, item_format, AreItems, ItemsFailAt}
-use Rattle.mb_fleet.specs.declared.end.FleetReadEnd.{FleetReadEnd}
-use Rattle.mb_fleet.specs.declared.end.FleetReadEnd.TheVariants as end
-use Rattle.mb_fleet.specs.Ends.{fleet_at, HasShortChain, ReadsItems}
+use Rattle.mb_bytes.specs.declared.end.ReadEnd.{ReadEnd}
+use Rattle.mb_bytes.specs.declared.end.ReadEnd.TheVariants as end
+use Rattle.mb_bytes.specs.Ends.{end_at}
+use Rattle.mb_fleet.specs.Ends.{HasShortChain, ReadsItems}
 use Rattle.mb_fleet.proofs.Each.{each_push}
 
 -- ---- one item is read exactly
@@ -139,7 +140,7 @@ module _ (bytes : List ℕ) (cursor : Cursor) (listed : List Item) (so_far : IsR
       }
 
 -- an error points at an offset, or nowhere
-pub reading_ends_at : (bytes : List ℕ) (cursor : Cursor) (listed : List Item) → IsReadTo bytes cursor listed → (e : FleetReadEnd) (after : Cursor) → ReadsErrAt item_format cursor (fleet_at e) after
+pub reading_ends_at : (bytes : List ℕ) (cursor : Cursor) (listed : List Item) → IsReadTo bytes cursor listed → (e : ReadEnd) (after : Cursor) → ReadsErrAt item_format cursor (end_at e) after
     → cursor.offset < length bytes → ReadsItems bytes (Err e)
-reading_ends_at bytes cursor listed so_far (end.Bad bad) after failed more = reading_stops bytes cursor listed so_far after bad.at failed more
+reading_ends_at bytes cursor listed so_far (end.Bad at) after failed more = reading_stops bytes cursor listed so_far after at failed more
 reading_ends_at bytes cursor listed so_far end.NoMemory after failed more = tt

@@ -14,7 +14,7 @@ use Rattle.mb_fleet.specs.declared.row.Row.{Row}
 use Rattle.mb_fleet.specs.Order.{IsBefore}
 use Rattle.mb_fleet.specs.Rows.{AreOrdered}
 use Rattle.mb_fleet.specs.RegisterFormat.{hashes_format, row_format, last_serial, rows_format, register_format}
-use Rattle.mb_fleet.specs.Places.{HasFewEntries, FitsRegister}
+use Rattle.mb_fleet.specs.Lookups.{HasFewEntries, FitsRegister}
 use Rattle.mb_fleet.proofs.Each.{each_weaker}
 use Rattle.mb_fleet.proofs.Ascending.{before_trans}
 

@@ -1,50 +1,52 @@
--- The row of a chain whose entries are good, and what a register answers to the chain.
-use Rattle.std.proofs.Common.{◌≡◌, ◌≤◌, ℕ, List, [], ◌∷◌, length, Option, None, Some, Result, Ok, Err, refl, ap, true≢false, arith}
-use Rattle.std.specs.Prelude.{IfSome, is_some}
-use Rattle.std.specs.Option.{option_or}
+-- The row of a device whose chain has good entries, and what a register answers to the chain.
+use Rattle.std.proofs.Common.{◌≡◌, ◌≤◌, ◌∙◌, ℕ, List, length, Some, Result, Ok, Err, refl, ap, arith}
+use Rattle.std.specs.Prelude.{IfSome}
+use Rattle.std.proofs.lemmas.List.{length-map}
 use Rattle.mb_model.specs.declared.key.PublicKey.{PublicKey}
-use Rattle.mb_model.specs.declared.entry.Entry.{Entry}
-use Rattle.mb_model.specs.declared.entry.Entry.TheVariants.{Birth, Change, NewKey, Succession}
-use Rattle.mb_model.specs.declared.entry.Chain.{Chain}
 use Rattle.mb_model.specs.declared.entry.SignedEntry.{SignedEntry}
-use Rattle.mb_model.specs.owners.Log.{entries_of, figures_of, last_of, serial_in, serial_of, Ruled}
-use Rattle.mb_model.specs.records.ChainFormat.{chain_format}
-use Rattle.mb_model.specs.chains.Acceptance.{AreGood}
+use Rattle.mb_model.specs.declared.state.Figures.{Figures}
+use Rattle.mb_model.specs.owners.Log.{entries_of}
+use Rattle.mb_model.specs.records.EntryFormat.{entry_hash}
+use Rattle.mb_verifier.specs.declared.chain.Shown.{Shown}
 use Rattle.mb_verifier.specs.declared.refusal.ChainRefusal as verifier
 use Rattle.mb_verifier.specs.declared.refusal.ChainRefusal.TheVariants as why
 use Rattle.mb_verifier.specs.Ends.{chain_refusal_of}
-use Rattle.mb_verifier.specs.Entries.{IsEntriesRefused}
+use Rattle.mb_verifier.specs.Entries.{ChainShows, IsEntriesRefused}
+use Rattle.mb_verifier.proofs.Verdicts.{entries_few}
+use Rattle.mb_fleet.specs.declared.row.CodeHashes.{CodeHashes}
 use Rattle.mb_fleet.specs.declared.row.Row.{Row}
 use Rattle.mb_fleet.specs.declared.end.Added.{Added}
 use Rattle.mb_fleet.specs.declared.end.FleetEnd.{FleetEnd}
 use Rattle.mb_fleet.specs.declared.end.FleetEnd.TheVariants as end
+use Rattle.mb_fleet.specs.Rows.{code_hashes}
 use Rattle.mb_fleet.specs.Showing.{IsShown, is_chain_refused, is_shown}
 use Rattle.mb_fleet.specs.Ends.{fleet_end_of, AnswersChain, AnswersRow}
 
--- ---- the serial of a good log
+-- ---- the row
 
-or_some : (o : Option (List ℕ)) (x : List ℕ) → option_or o (Some x) ≡ None → ⊥
-or_some None x e = true≢false (ap is_some e)
-or_some (Some y) x e = true≢false (ap is_some e)
+pub shown_row : (maker : PublicKey) (bytes : List ℕ) (shown : Shown) (code : CodeHashes) → code ≡ code_hashes shown.figures.layers → ChainShows maker bytes shown
+    → IsShown maker bytes (record { serial = shown.serial; number = shown.figures.number; code = code; hashes = shown.hashes })
+shown_row maker bytes shown code is shows = record {
+  chain = shows.chain;
+  spelled = shows.spelled;
+  good = shows.good;
+  row_is = record {
+    serial = shows.serial;
+    number = ap (λ (f : Figures). f.number) shows.figures;
+    code = is ∙ ap (λ (f : Figures). code_hashes f.layers) shows.figures;
+    hashes = shows.hashes;
+  };
+}
 
-first_is_birth : (entry : Entry) (rest : List Entry) → Ruled (figures_of []) entry → serial_of (entry ∷ rest) ≡ None → ⊥
-unfolding serial_of last_of
-first_is_birth (Birth version serial key layers) rest ruled e = or_some (last_of serial_in rest) serial e
-first_is_birth (Change version position number kind layer cosigned layers kept next) rest ruled e = ruled.0 refl
-first_is_birth (NewKey position number key_number layer kind key) rest ruled e = ruled.0 refl
-first_is_birth (Succession position key) rest ruled e = ruled.0 refl
-
-some_serial : (maker : PublicKey) (log : List SignedEntry) → 1 ≤ length log → AreGood maker log → serial_of (entries_of log) ≡ None → ⊥
-some_serial maker [] some good e = absurd (omega (arith, some))
-some_serial maker (signed ∷ rest) some good e = first_is_birth signed.entry (entries_of rest) (good [] signed rest refl).ruled e
-
-some_entries : (chain : Chain) → chain_format.Allowed chain → 1 ≤ length chain.entries
-unfolding chain_format
-some_entries chain is = is.1.0.0.0
-
-pub has_serial : (maker : PublicKey) (chain : Chain) (log : List SignedEntry) → chain_format.Allowed chain → AreGood maker chain.entries → log ≡ chain.entries
-    → serial_of (entries_of log) ≡ None → ⊥
-has_serial maker chain log spelled good is none = some_serial maker chain.entries (some_entries chain spelled) good (rw is at none)
+pub shown_few : (maker : PublicKey) (bytes : List ℕ) (shown : Shown) → ChainShows maker bytes shown → length shown.hashes ≤ 128
+shown_few maker bytes shown shows =
+    omega (
+      arith,
+      ap length shows.hashes,
+      length-map (entries_of shows.chain.entries) entry_hash,
+      length-map shows.chain.entries (λ (s : SignedEntry). s.entry),
+      entries_few shows.chain shows.spelled.allowed,
+    )
 
 -- ---- answers
 

@@ -10,7 +10,7 @@ use Rattle.std.specs.Ordering.{nat_cmp}
 use Rattle.std.specs.declared.cmp.Ordering.TheVariants.{Less, Equal, Greater}
 use Rattle.mb_bytes.proofs.Putting.{item_at}
 use Rattle.mb_fleet.specs.Order.{IsBefore, IsAscending}
-use Rattle.mb_fleet.specs.Places.{IsHeld, IsFree}
+use Rattle.mb_fleet.specs.Lookups.{IsHeld, IsFree}
 use Rattle.mb_fleet.proofs.Each.{each_push}
 use Rattle.mb_fleet.proofs.Ascending.{before_all, after_is_before, equal_keys, middle_above}
 

@@ -21,19 +21,14 @@ use Rattle.mb_fleet.specs.declared.end.Added.{Added}
 use Rattle.mb_fleet.specs.declared.end.Added.TheVariants as shown
 use Rattle.mb_fleet.specs.declared.end.FleetEnd.{FleetEnd}
 use Rattle.mb_fleet.specs.declared.end.FleetEnd.TheVariants as end
-use Rattle.mb_fleet.specs.declared.end.FleetReadEnd.{FleetReadEnd}
-use Rattle.mb_fleet.specs.declared.end.FleetReadEnd.TheVariants as reading
+use Rattle.mb_bytes.specs.declared.end.ReadEnd.{ReadEnd}
+use Rattle.mb_bytes.specs.declared.end.ReadEnd.TheVariants as reading
 use Rattle.mb_fleet.specs.declared.end.ServeEnd.{ServeEnd}
 use Rattle.mb_fleet.specs.declared.end.ServeEnd.TheVariants as serving
 use Rattle.mb_fleet.specs.Showing.{Answer, newly_added, same, extended, chain_refused, older, forked, full}
 use Rattle.mb_fleet.specs.Showing.{Meets, IsChainAnswered}
 use Rattle.mb_fleet.specs.ItemFormat.{AreItems, ItemsFailAt}
 use Rattle.mb_fleet.specs.Serving.{answer_line, FleetStep, AreServed, IsTooLong}
-
--- the offset to which an error points; None if an allocation failed
-abbrev pub fleet_at : FleetReadEnd → Option ℕ
-fleet_at (reading.Bad bad) = Some bad.at
-fleet_at reading.NoMemory = None
 
 abbrev pub answer_of : Added → Answer
 answer_of (shown.Same serial n) = same serial n
@@ -103,9 +98,9 @@ HasShortChain (Find layer hash) = Unit {0}
 HasShortChain (Codes layer) = Unit {0}
 
 -- the result of reading items: the bytes spell these, or fail at this offset
-abbrev pub ReadsItems : List ℕ → Result (List Item) FleetReadEnd → Type 0
+abbrev pub ReadsItems : List ℕ → Result (List Item) ReadEnd → Type 0
 ReadsItems bytes (Ok listed) = AreItems bytes listed
-ReadsItems bytes (Err (reading.Bad bad)) = ItemsFailAt bytes bad.at
+ReadsItems bytes (Err (reading.Bad at)) = ItemsFailAt bytes at
 ReadsItems bytes (Err reading.NoMemory) = Unit {0}
 
 -- the result of serving items: the text of the answers, or that this text is too long

@@ -7,7 +7,7 @@ pub mod Showing
 pub mod Questions
 pub mod Serving
 pub mod Ends
-pub mod Places
+pub mod Lookups
 pub mod Indexes
 pub mod Laws
 pub mod Examples

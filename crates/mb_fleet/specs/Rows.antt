@@ -1,12 +1,11 @@
 -- What a device has shown, as a row of a register. Does the row distinguish two histories of a device?
 use Rattle.std.specs.Prelude.{◌≡◌, ℕ, ◌==◌, List, map, Option, None, Some, if◌then◌else◌}
 use Rattle.std.specs.Option.{option_map}
-use Rattle.sha2.specs.Sha256.{sha256}
 use Rattle.mb_model.specs.declared.layer.Layer.{Layer}
 use Rattle.mb_model.specs.declared.layer.Layers.{Layers}
 use Rattle.mb_model.specs.declared.entry.Entry.{Entry}
 use Rattle.mb_model.specs.owners.Log.{number_of, layers_of, serial_of}
-use Rattle.mb_model.specs.records.EntryFormat.{entry_format}
+use Rattle.mb_model.specs.records.EntryFormat.{entry_hash}
 use Rattle.mb_fleet.specs.declared.row.CodeHashes.{CodeHashes}
 use Rattle.mb_fleet.specs.declared.row.Row.{Row}
 use Rattle.mb_fleet.specs.Order.{IsAscending}
@@ -18,10 +17,6 @@ hash_of_code layer = option_map (λ code. code.hash) layer.code
 abbrev pub code_hashes : Layers → CodeHashes
 code_hashes layers =
     record { one = hash_of_code layers.one; two = hash_of_code layers.two; three = hash_of_code layers.three }
-
--- the hash of an entry, without its signature
-abbrev pub entry_hash : Entry → List ℕ
-entry_hash entry = sha256 (entry_format.spelling entry)
 
 -- The row of the device whose log this is: its serial, its configuration number, its code, and the hash of each entry
 -- in order. A log without a birth has none.

@@ -2,7 +2,7 @@
 
 ghost use Rattle.mb_model.specs.declared.limits.TheConstants.{ENTRY_LIMIT};
 ghost use Rattle.std.specs.Prelude.{◌≤◌, length};
-ghost use Rattle.mb_fleet.specs.Places.{Compares};
+ghost use Rattle.mb_fleet.specs.Lookups.{Compares};
 
 /// How the hashes of the entries that are shown compare with those that were shown before.
 #[derive(Clone, Copy)]

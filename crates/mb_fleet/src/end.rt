@@ -2,8 +2,8 @@
 
 ghost use Rattle.std.specs.Prelude.{◌≡◌};
 
-use mb_bytes::{ReadError, ReadMemoryError, Short};
-use mb_model::{BadRecord, NoMemory};
+use mb_bytes::ReadEnd;
+use mb_model::NoMemory;
 use mb_verifier::ChainRefusal;
 
 /// A chain that a register took, or had taken before. Each variant has the serial of the device, and the number of the
@@ -53,68 +53,8 @@ impl From<NoMemory> for FleetEnd {
     }
 }
 
-/// Why a register or items were not read.
-#[derive(Clone, Copy, Debug, PartialEq, Eq)]
-pub enum FleetReadEnd {
-    /// The bytes spell no register or no items. The offset is that of the first field that lacks bytes or is not
-    /// allowed, or of the first byte after the last field.
-    Bad(BadRecord),
-    /// An allocation failed. No clause says when; the tests read with ample memory.
-    NoMemory,
-}
-
-impl From<Short> for FleetReadEnd {
-    ghost use Rattle.mb_fleet.specs.declared.end.FleetReadEnd.TheVariants as end;
-
-    ghost from_gives = { λ short e. e ≡ end.Bad (record { at = short.at }) };
-
-    fn from(short: Short) -> FleetReadEnd {
-        FleetReadEnd::Bad(BadRecord { at: short.at })
-    }
-}
-
-impl From<BadRecord> for FleetReadEnd {
-    ghost use Rattle.mb_fleet.specs.declared.end.FleetReadEnd.TheVariants as end;
-
-    ghost from_gives = { λ bad e. e ≡ end.Bad bad };
-
-    fn from(bad: BadRecord) -> FleetReadEnd {
-        FleetReadEnd::Bad(bad)
-    }
-}
-
-impl From<NoMemory> for FleetReadEnd {
-    ghost use Rattle.mb_fleet.specs.declared.end.FleetReadEnd.TheVariants as end;
-
-    ghost from_gives = { λ _ e. e ≡ end.NoMemory };
-
-    fn from(_error: NoMemory) -> FleetReadEnd {
-        FleetReadEnd::NoMemory
-    }
-}
-
-impl ReadError for FleetReadEnd {
-    ghost use Rattle.mb_fleet.specs.Ends.{fleet_at};
-
-    ghost points = { fleet_at };
-
-    fn bad(at: u32) -> FleetReadEnd {
-        FleetReadEnd::Bad(BadRecord { at })
-    }
-
-    fn offset(&self) -> Option<u32> {
-        match self {
-            FleetReadEnd::Bad(bad) => Some(bad.at),
-            FleetReadEnd::NoMemory => None,
-        }
-    }
-}
-
-impl ReadMemoryError for FleetReadEnd {
-    fn no_memory() -> FleetReadEnd {
-        FleetReadEnd::NoMemory
-    }
-}
+/// Why a register or items were not read: the bytes spell none, or an allocation failed.
+pub type FleetReadEnd = ReadEnd;
 
 /// Why items were not served.
 #[derive(Clone, Copy, Debug, PartialEq, Eq)]

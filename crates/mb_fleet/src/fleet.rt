@@ -5,8 +5,9 @@ ghost use Rattle.std.specs.List.{insert};
 ghost use Rattle.mb_model.specs.declared.limits.TheConstants.{FILE_LIMIT, ENTRY_LIMIT};
 ghost use Rattle.mb_bytes.specs.Reads.{ReadsWhole};
 ghost use Rattle.mb_bytes.specs.Puts.{Writes};
-ghost use Rattle.mb_fleet.specs.Ends.{fleet_at, fleet_end_of, AnswersChain, AnswersRow};
-ghost use Rattle.mb_fleet.specs.Places.{HasFewEntries, IsHeld, IsFree};
+ghost use Rattle.mb_bytes.specs.Ends.{end_at};
+ghost use Rattle.mb_fleet.specs.Ends.{fleet_end_of, AnswersChain, AnswersRow};
+ghost use Rattle.mb_fleet.specs.Lookups.{HasFewEntries, IsHeld, IsFree};
 ghost use Rattle.mb_fleet.specs.Questions.{serials_with, AreCounts};
 ghost use Rattle.mb_fleet.specs.RegisterFormat.{register_format};
 ghost use Rattle.mb_fleet.specs.Rows.{serial_of_row};
@@ -15,13 +16,13 @@ use crate::comparison::{Comparison, compare};
 use crate::end::{Added, FleetEnd, FleetReadEnd};
 use crate::indexes::CodeIndexes;
 use crate::limits::DEVICE_LIMIT;
-use crate::place::{Place, place_of_serial};
+use crate::lookup::{Lookup, look_up_serial};
 use crate::question::{Counts, Serials};
 use crate::register::{put_register, register_at};
 use crate::row::{CodeHashes, Row, row_of};
 use mb_bytes::{Cursor, Field, WriteField, read_whole, write_field};
 use mb_model::{NoMemory, PublicKey};
-use mb_verifier::{ChainRefusal, verify_entries};
+use mb_verifier::{ChainRefusal, verify_shown};
 use std::alloc::Global;
 use std::marker::Model;
 
@@ -36,7 +37,7 @@ pub struct Fleet {
 impl Model for Fleet {
     ghost use Rattle.std.specs.Prelude.{List};
     ghost use Rattle.mb_fleet.specs.declared.row.Row.{Row};
-    ghost use Rattle.mb_fleet.specs.Places.{FitsRegister};
+    ghost use Rattle.mb_fleet.specs.Lookups.{FitsRegister};
     ghost use Rattle.mb_fleet.specs.Indexes.{AreIndexesOf};
 
     ghost Value = { List Row };
@@ -63,7 +64,7 @@ impl Fleet {
     /// the last field; and `NoMemory`.
     pub fn read(alloc: Global, bytes: &[u8]) -> Result<Fleet, FleetReadEnd>
         requires { length bytes.now ≤ FILE_LIMIT }
-        ensures { ReadsWhole fleet_at register_format bytes.now result }
+        ensures { ReadsWhole end_at register_format bytes.now result }
     {
         read_whole::<RegisterField>(alloc, bytes)
     }
@@ -86,12 +87,10 @@ impl Fleet {
         requires { length chain.now ≤ FILE_LIMIT }
         ensures { AnswersChain root.now self.old chain.now result self.new }
     {
-        let chain = match verify_entries(alloc, root, chain) {
-            Ok(chain) => chain,
-            Err(refusal) => return Err(end_of(refusal)),
-        };
-        let row = row_of(alloc, root, &chain)?;
-        self.meet(alloc, row)
+        match verify_shown(alloc, root, chain) {
+            Ok(shown) => self.meet(alloc, row_of(shown)),
+            Err(refusal) => Err(end_of(refusal)),
+        }
     }
 
     /// The serials of the devices whose layer, 1 to 3, has this code now, in ascending order.
@@ -121,9 +120,9 @@ impl Fleet {
         requires { HasFewEntries row }
         ensures { AnswersRow self.old row result self.new }
     {
-        match place_of_serial(self.rows.as_slice(), &row.serial) {
-            Place::Held(at) => self.meet_old(alloc, at, row),
-            Place::Free(at) => self.take_new(alloc, at, row),
+        match look_up_serial(self.rows.as_slice(), &row.serial) {
+            Lookup::Held(at) => self.meet_old(alloc, at, row),
+            Lookup::Free(at) => self.take_new(alloc, at, row),
         }
     }
 

@@ -4,7 +4,8 @@ ghost use Rattle.std.specs.Prelude.{◌≡◌, ◌≤◌, length, IfOk};
 ghost use Rattle.std.specs.List.{AllByRecursion};
 ghost use Rattle.mb_model.specs.declared.limits.TheConstants.{FILE_LIMIT};
 ghost use Rattle.mb_bytes.specs.Reads.{bad_at, Reads};
-ghost use Rattle.mb_fleet.specs.Ends.{fleet_at, HasShortChain, ReadsItems};
+ghost use Rattle.mb_bytes.specs.Ends.{end_at};
+ghost use Rattle.mb_fleet.specs.Ends.{HasShortChain, ReadsItems};
 ghost use Rattle.mb_fleet.specs.ItemFormat.{show_format, find_format, codes_item_format, item_format};
 
 use crate::end::FleetReadEnd;
@@ -50,7 +51,7 @@ pub fn read_items(alloc: Global, bytes: &[u8]) -> Result<Items<Item>, FleetReadE
 /// An item, by its first byte.
 #[tactic(auto, unfolding(crate::specs::ItemFormat::item_format))]
 fn item_at(alloc: Global, cursor: &mut Cursor<'_>) -> Result<Item, FleetReadEnd>
-    ensures reads { Reads fleet_at item_format cursor.old result cursor.new }
+    ensures reads { Reads end_at item_format cursor.old result cursor.new }
     ensures short { IfOk result HasShortChain }
 {
     let at = cursor.offset();
@@ -58,14 +59,14 @@ fn item_at(alloc: Global, cursor: &mut Cursor<'_>) -> Result<Item, FleetReadEnd>
         1 => show_at(alloc, cursor),
         2 => Ok(find_at(cursor)?),
         3 => Ok(codes_at(cursor)?),
-        _ => Err(FleetReadEnd::Bad(BadRecord { at })),
+        _ => Err(FleetReadEnd::Bad { at }),
     }
 }
 
 /// A chain's bytes after their number.
 #[tactic(auto, unfolding(crate::specs::ItemFormat::show_format))]
 fn show_at(alloc: Global, cursor: &mut Cursor<'_>) -> Result<Item, FleetReadEnd>
-    ensures reads { Reads fleet_at show_format cursor.old result cursor.new }
+    ensures reads { Reads end_at show_format cursor.old result cursor.new }
     ensures short { IfOk result HasShortChain }
 {
     let length = cursor.take_u32()?;

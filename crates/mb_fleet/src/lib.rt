@@ -14,7 +14,7 @@ mod indexes;
 mod item;
 mod laws;
 mod limits;
-mod place;
+mod lookup;
 mod question;
 mod register;
 mod row;

@@ -7,7 +7,7 @@ ghost use Rattle.mb_model.specs.declared.limits.TheConstants.{ENTRY_LIMIT};
 ghost use Rattle.mb_bytes.specs.Reads.{bad_at, Reads};
 ghost use Rattle.mb_bytes.specs.Puts.{Puts};
 ghost use Rattle.mb_fleet.specs.declared.limits.TheConstants.{DEVICE_LIMIT};
-ghost use Rattle.mb_fleet.specs.Ends.{fleet_at};
+ghost use Rattle.mb_bytes.specs.Ends.{end_at};
 ghost use Rattle.mb_fleet.specs.RegisterFormat.{may_follow, code_hashes_format, hashes_format, row_format, rows_format, register_format};
 
 use crate::end::FleetReadEnd;
@@ -30,7 +30,7 @@ pub(crate) fn register_at(
     alloc: Global,
     cursor: &mut Cursor<'_>,
 ) -> Result<Items<Row>, FleetReadEnd>
-    ensures { Reads fleet_at register_format cursor.old result cursor.new }
+    ensures { Reads end_at register_format cursor.old result cursor.new }
 {
     word_at(cursor, &WORD)?;
     rows_at(alloc, cursor)
@@ -41,7 +41,7 @@ pub(crate) fn register_at(
 /// not by a count.
 #[tactic(auto, unfolding(crate::specs::RegisterFormat::rows_format))]
 fn rows_at(alloc: Global, cursor: &mut Cursor<'_>) -> Result<Items<Row>, FleetReadEnd>
-    ensures { Reads fleet_at rows_format cursor.old result cursor.new }
+    ensures { Reads end_at rows_format cursor.old result cursor.new }
 {
     let count = u16_between(cursor, 0, DEVICE_LIMIT)?;
     let mut rows = Items::new(alloc);
@@ -61,7 +61,7 @@ fn row_at(
     cursor: &mut Cursor<'_>,
     last: &Option<[u8; 16]>,
 ) -> Result<Row, FleetReadEnd>
-    ensures { Reads fleet_at (row_format last.now) cursor.old result cursor.new }
+    ensures { Reads end_at (row_format last.now) cursor.old result cursor.new }
 {
     let serial = serial_at(cursor, last)?;
     let number = cursor.take_u32()?;
@@ -112,10 +112,10 @@ fn code_hashes_at(cursor: &mut Cursor<'_>) -> Result<CodeHashes, BadRecord>
 /// The hashes of entries, after their number.
 #[tactic(auto, unfolding(crate::specs::RegisterFormat::hashes_format))]
 fn hashes_at(alloc: Global, cursor: &mut Cursor<'_>) -> Result<Items<[u8; 32]>, FleetReadEnd>
-    ensures { Reads fleet_at hashes_format cursor.old result cursor.new }
+    ensures { Reads end_at hashes_format cursor.old result cursor.new }
 {
     let count = u16_between(cursor, 1, ENTRY_LIMIT)?;
-    items_at::<[u8; 32], FleetReadEnd>(alloc, (), cursor, count as u32)
+    items_at::<[u8; 32]>(alloc, (), cursor, count as u32)
 }
 
 /// Appends the register, or a prefix of it if an allocation fails.

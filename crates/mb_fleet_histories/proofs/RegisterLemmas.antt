@@ -6,7 +6,7 @@ use Rattle.std.proofs.lemmas.List.Elements.{All-head, All-tail, All-contains, Co
 use Rattle.mb_model.specs.declared.entry.Entry.{Entry}
 use Rattle.mb_model.specs.declared.entry.SignedEntry.{SignedEntry}
 use Rattle.mb_model.specs.declared.key.PublicKey.{PublicKey}
-use Rattle.mb_model.specs.records.EntryFormat.{entry_format}
+use Rattle.mb_model.specs.records.EntryFormat.{entry_format, entry_hash}
 use Rattle.mb_model.specs.owners.Log.{entries_of, serial_of}
 use Rattle.mb_model.specs.memories.Valid.{EachFollows}
 use Rattle.mb_model_lemmas.proofs.ChainLemmas.{honest_is_front}
@@ -21,7 +21,7 @@ use Rattle.mb_fleet.specs.Showing.{Answer, forked, IsNewDevice, DifferAt, Meets,
 use Rattle.mb_fleet.proofs.Ascending.{before_differs}
 use Rattle.mb_fleet.proofs.Each.{all_of_each}
 use Rattle.mb_fleet_histories.specs.RegisterLaws.{IsHashPrefix, AgreeSoFar, GoesOnFrom, RowsOnlyGrow, RegistersStayOrdered, DoubledRowsStay, GoodChainsMeet, IsTaken, ForksAreCaught, TwoRowsHideAFork, spelled_entries, SpellingsCollide, HashesTellOfEntries, PartedLogsAreCaught, IsTrueTo, IsHonestChain, IsHonestItem, HonestDevicesAreNotAccused, ForgedRowsAccuse, AccusedRowsDiffer}
-use Rattle.mb_fleet.specs.Rows.{entry_hash, AreOrdered}
+use Rattle.mb_fleet.specs.Rows.{AreOrdered}
 use Rattle.mb_fleet.proofs.Determined.{good_or_refused, shown_once}
 use Rattle.mb_fleet.proofs.Ordered.{step_ordered, meets_ordered}
 

@@ -7,14 +7,14 @@ use Rattle.mb_model.specs.declared.entry.SignedEntry.{SignedEntry}
 use Rattle.mb_model.specs.declared.key.PublicKey.{PublicKey}
 use Rattle.mb_model.specs.chains.Acceptance.{AreGood, Honest}
 use Rattle.mb_model.specs.records.ChainFormat.{chain_format}
-use Rattle.mb_model.specs.records.EntryFormat.{entry_format}
+use Rattle.mb_model.specs.records.EntryFormat.{entry_format, entry_hash}
 use Rattle.mb_model.specs.owners.Log.{entries_of, serial_of}
 use Rattle.mb_model.specs.memories.Valid.{EachFollows}
 use Rattle.mb_model_histories.specs.KeyLaws.{Collide}
 use Rattle.mb_fleet.specs.declared.item.Item.{Item}
 use Rattle.mb_fleet.specs.declared.item.Item.TheVariants.{Show, Find, Codes}
 use Rattle.mb_fleet.specs.declared.row.Row.{Row}
-use Rattle.mb_fleet.specs.Rows.{entry_hash, IsRowOf, AreOrdered}
+use Rattle.mb_fleet.specs.Rows.{IsRowOf, AreOrdered}
 use Rattle.mb_fleet.specs.Serving.{FleetRun}
 use Rattle.mb_fleet.specs.Showing.{Answer, newly_added, same, extended, chain_refused, older, forked, full}
 use Rattle.mb_fleet.specs.Showing.{DifferAt, Meets, IsShown, IsChainAnswered}

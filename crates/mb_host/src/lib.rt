@@ -1,7 +1,7 @@
 //! The world outside: a trait for files and printing, and a host in memory.
 //!
-//! This crate owns what may be relied on of the outside, failing or not. It stands on the definitions of
-//! `mb_model_commands` (`Outside`). The host over the files of the system stands above it, in a crate of its own.
+//! This crate owns what may be relied on of the outside, failing or not. The host over the files of the system stands
+//! above it, in a crate of its own.
 #![tactic(auto)]
 
 mod count;

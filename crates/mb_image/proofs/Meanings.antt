@@ -7,10 +7,11 @@ use Rattle.mb_model.specs.declared.entry.Entry.{Entry}
 use Rattle.mb_model.specs.declared.entry.SignedEntry.{SignedEntry}
 use Rattle.mb_model.specs.declared.state.State.{State}
 use Rattle.mb_model.specs.declared.stored.Outgoing.{Outgoing}
+use Rattle.mb_model.specs.declared.stored.Signer.{Signer}
 use Rattle.mb_model.specs.records.EntryFormat.{entry_format}
 use Rattle.mb_model.specs.owners.Log.{entries_of, layers_of}
 use Rattle.mb_model.specs.machine.OrderEffects.{entry_signed_by}
-use Rattle.mb_model.specs.memories.StoredLog.{HasIndex, entries_signed_for, outgoing_of, log_completed_by}
+use Rattle.mb_model.specs.memories.StoredLog.{HasIndex, signer_by, entries_signed_for, outgoing_of, log_completed_by}
 use Rattle.mb_model.specs.memories.Memory.{IsImage}
 use Rattle.mb_model.specs.memories.Meaning.{Contents, FlashForm, HoldsContentsBy, state_of_contents, is_live}
 use Rattle.mb_model.specs.memories.Meaning.{IsWellFormedBy}
@@ -36,10 +37,12 @@ all_by_spelled key index (entry ∷ more) are =
     All-cons IsSpelled (entry_signed_by key index entry) (map (entry_signed_by key index) more) (signed_by_spelled key index entry (All-head entry_format.Allowed entry more are)) (all_by_spelled key index more (All-tail entry_format.Allowed entry more are))
 
 signed_for_spelled : (device : KeySeed) (uses : ℕ) (outgoing : Option Outgoing) (unsigned : List Entry) → All entry_format.Allowed unsigned → All IsSpelled (entries_signed_for device uses outgoing unsigned)
-signed_for_spelled device uses None unsigned are = all_by_spelled device _ unsigned are
-signed_for_spelled device uses (Some outgoing) [] are = All-nil IsSpelled
-signed_for_spelled device uses (Some outgoing) (first ∷ rest) are =
-    All-cons IsSpelled (entry_signed_by outgoing.seed _ first) (map (entry_signed_by device 0) rest) (signed_by_spelled outgoing.seed _ first (All-head entry_format.Allowed first rest are)) (all_by_spelled device 0 rest (All-tail entry_format.Allowed first rest are))
+signed_for_spelled device uses outgoing [] are = All-nil IsSpelled
+signed_for_spelled device uses outgoing (first ∷ rest) are =
+    let one : Signer = signer_by device uses outgoing 0 in
+    let other : Signer = signer_by device uses outgoing 1 in
+    All-cons IsSpelled (entry_signed_by one.key one.index first) (map (entry_signed_by other.key other.index) rest)
+    (signed_by_spelled one.key one.index first (All-head entry_format.Allowed first rest are)) (all_by_spelled other.key other.index rest (All-tail entry_format.Allowed first rest are))
 
 -- each entry of the completed log has a spelling
 pub meant_spelled : (contents : Contents) (state : State) → CanBeCompleted contents → state ≡ state_of_contents contents → All IsSpelled state.log

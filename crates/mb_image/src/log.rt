@@ -7,6 +7,7 @@ ghost use Rattle.mb_model.specs.memories.Valid.{Follows, EachFollows};
 ghost use Rattle.mb_image.specs.Verified.{IsVerified};
 
 use mb_cert::{certifies, leaf_number};
+use mb_layout::entry_bytes;
 use mb_log::{add_entry, follows_figures, no_figures};
 use mb_model::{Figures, Follow, NoMemory, SignedEntry};
 use std::alloc::Global;
@@ -50,5 +51,6 @@ fn verifies(alloc: Global, figures: &Figures, signed: &SignedEntry) -> Result<bo
     let Some(key) = &figures.device else {
         return Ok(false);
     };
-    certifies(alloc, key, signed)
+    let spelling = entry_bytes(alloc, &signed.entry)?;
+    Ok(certifies(key, signed, spelling.as_slice()))
 }

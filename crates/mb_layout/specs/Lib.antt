@@ -1,5 +1,4 @@
 pub mod Bounds
-pub mod Ends
 pub mod Found
 pub mod Parts
 pub mod Uncopied

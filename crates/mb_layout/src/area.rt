@@ -7,10 +7,9 @@ ghost use Rattle.mb_model.specs.memories.Memory.{IsBlank, HoldsInArea, HoldsReco
 ghost use Rattle.mb_model.specs.memories.Meaning.{HoldsRegion};
 ghost use Rattle.mb_layout.specs.Found.{FindsBy};
 
-use crate::end::LayoutEnd;
 use crate::region::region_of_bytes;
 use crate::root::root_of_bytes;
-use mb_bytes::put_at;
+use mb_bytes::{ReadEnd, put_at};
 use mb_model::{Items, NoMemory, RECORD_LIMIT, Region, Root};
 use std::alloc::Global;
 
@@ -76,7 +75,7 @@ pub fn region_in(alloc: Global, area: &[u8]) -> Result<Option<Region>, NoMemory>
     }
     match region_of_bytes(alloc, bytes) {
         Ok(region) => Ok(Some(region)),
-        Err(LayoutEnd::Bad(_)) => Ok(None),
-        Err(LayoutEnd::NoMemory) => Err(NoMemory),
+        Err(ReadEnd::Bad { .. }) => Ok(None),
+        Err(ReadEnd::NoMemory) => Err(NoMemory),
     }
 }

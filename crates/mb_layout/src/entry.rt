@@ -1,6 +1,6 @@
 //! Entries of the log as bytes.
 
-ghost use Rattle.std.specs.Prelude.{◌≡◌};
+ghost use Rattle.std.specs.Prelude.{◌≡◌, IfOk};
 ghost use Rattle.std.specs.Int.{w8};
 ghost use Rattle.mb_format.specs.Combinators.{table};
 ghost use Rattle.mb_model.specs.records.EntryFormat.{change_rows, change_byte, birth_tag, change_tag, entry_byte, pair_byte, pair_format, birth_format, change_format, new_key_format, succession_format, entry_format};
@@ -13,7 +13,8 @@ use mb_bytes::{
     Cursor, Field, WriteField, key_kind_at, optional_at, public_key_at, put_key_kind, put_optional,
     put_public_key, put_slice, put_u8, put_u32, read_field, u8_between, write_field,
 };
-use mb_model::{BadRecord, ChangeKind, Entry, KeyKind, Layers, NoMemory, Pair, PublicKey};
+use mb_model::{BadRecord, Bytes, ChangeKind, Entry, KeyKind, Layers, NoMemory, Pair, PublicKey};
+use std::alloc::Global;
 
 fn change_kind_at(cursor: &mut Cursor<'_>) -> Result<ChangeKind, BadRecord>
     ensures { Reads bad_at (table w8 change_rows change_byte) cursor.old result cursor.new }
@@ -330,4 +331,14 @@ pub fn write_entry(entry: &Entry, out: &mut Vec<u8>) -> Result<(), NoMemory>
     ensures { Writes (entry_format.spelling entry.now) out.old result out.new }
 {
     write_field::<EntryField>(entry, out)
+}
+
+/// The spelling of the entry, as bytes of its own.
+pub fn entry_bytes(alloc: Global, entry: &Entry) -> Result<Bytes, NoMemory>
+    requires { entry_format.Allowed entry.now }
+    ensures { IfOk result (λ spelling. spelling ≡ entry_format.spelling entry.now) }
+{
+    let mut spelling = Vec::new(alloc);
+    write_entry(entry, &mut spelling)?;
+    Ok(Bytes::from_vec(spelling))
 }

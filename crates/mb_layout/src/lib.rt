@@ -1,12 +1,10 @@
 //! The records that a device stores, read from bytes and written to bytes.
 //!
 //! This crate owns how layers, entries, root and region records are read and written, and how a record is found in an
-//! area of the battery-backed memory. It also owns the buffers in which a device works. It stands on the formats of
-//! `mb_model` (`LayerFormat`, `EntryFormat`, `RootFormat`, `RegionFormat`, `Memory`) and the fields of `mb_bytes`.
+//! area of the battery-backed memory. It also owns the buffers in which a device works.
 #![tactic(auto)]
 
 mod area;
-mod end;
 mod entry;
 mod layer;
 mod region;
@@ -14,9 +12,9 @@ mod room;
 mod root;
 
 pub use area::{fill_area, is_blank, record_in, region_in, root_in};
-pub use end::LayoutEnd;
-pub use entry::{EntryField, read_entry, write_entry};
+pub use entry::{EntryField, entry_bytes, read_entry, write_entry};
 pub use layer::{read_layer, write_layer};
+pub use mb_bytes::ReadEnd;
 pub use mb_model::{BadRecord, Fate, Outgoing, Pending, Root};
 pub use region::{
     StoredSecret, most_secrets, put_keys, read_region, region_of_bytes, region_version_at,

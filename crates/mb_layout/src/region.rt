@@ -8,16 +8,15 @@ ghost use Rattle.mb_model.specs.declared.limits.TheConstants.{FILE_LIMIT, NAME_L
 ghost use Rattle.mb_model.specs.records.RegionFormat.{is_name, secret_format, most_secrets, secrets_format, least_keys, keys_format, region_by, region_format};
 ghost use Rattle.mb_bytes.specs.Reads.{bad_at, Reads, ReadsAs};
 ghost use Rattle.mb_bytes.specs.Puts.{Puts, Writes};
-ghost use Rattle.mb_layout.specs.Ends.{layout_at};
+ghost use Rattle.mb_bytes.specs.Ends.{end_at};
 ghost use Rattle.mb_layout.specs.Bounds.{SecretFits, RegionFits};
 ghost use Rattle.mb_layout.specs.RegionReads.{ReadsRegion, ReadsWholeRegion};
 ghost use Rattle.mb_layout.specs.Uncopied.{secret_in};
 
-use crate::end::LayoutEnd;
 use crate::root::RegionKeyField;
 use mb_bytes::{
-    Cursor, Field, WriteField, bytes_after_u8, is_name, items_at, put_after_u8, put_items, put_u8,
-    put_u32, read_field, read_whole, u8_between,
+    Cursor, Field, ReadEnd, WriteField, bytes_after_u8, is_name, items_at, put_after_u8, put_items,
+    put_u8, put_u32, read_field, read_whole, u8_between,
 };
 use mb_model::{
     BadRecord, Bytes, KEY_LIMIT, NAME_LIMIT, NoMemory, REGION_VERSION, Region, RegionKey,
@@ -75,11 +74,11 @@ impl Field for SecretField {
 
     type Needs = Global;
 
-    type End = LayoutEnd;
+    type End = ReadEnd;
 
     ghost format = { secret_format };
 
-    fn read_at(alloc: Global, cursor: &mut Cursor<'_>) -> Result<Secret, LayoutEnd> {
+    fn read_at(alloc: Global, cursor: &mut Cursor<'_>) -> Result<Secret, ReadEnd> {
         let stored = stored_secret_at(cursor)?;
         Ok(Secret {
             name: Bytes::copy(alloc, stored.name)?,
@@ -124,19 +123,19 @@ pub fn most_secrets(version: u8) -> u8
 }
 
 #[tactic(auto, unfolding(mb_model::specs::records::RegionFormat::secrets_format))]
-fn secrets_at(alloc: Global, cursor: &mut Cursor<'_>, most: u8) -> Result<Secrets, LayoutEnd>
-    ensures { Reads layout_at (secrets_format most) cursor.old result cursor.new }
+fn secrets_at(alloc: Global, cursor: &mut Cursor<'_>, most: u8) -> Result<Secrets, ReadEnd>
+    ensures { Reads end_at (secrets_format most) cursor.old result cursor.new }
 {
     let count = u8_between(cursor, 0, most)?;
-    items_at::<SecretField, LayoutEnd>(alloc, alloc, cursor, count as u32)
+    items_at::<SecretField>(alloc, alloc, cursor, count as u32)
 }
 
 #[tactic(auto, unfolding(mb_model::specs::records::RegionFormat::keys_format))]
-fn keys_at(alloc: Global, cursor: &mut Cursor<'_>, least: u8) -> Result<RegionKeys, LayoutEnd>
-    ensures { Reads layout_at (keys_format least) cursor.old result cursor.new }
+fn keys_at(alloc: Global, cursor: &mut Cursor<'_>, least: u8) -> Result<RegionKeys, ReadEnd>
+    ensures { Reads end_at (keys_format least) cursor.old result cursor.new }
 {
     let count = u8_between(cursor, least, KEY_LIMIT)?;
-    items_at::<RegionKeyField, LayoutEnd>(alloc, (), cursor, count as u32)
+    items_at::<RegionKeyField>(alloc, (), cursor, count as u32)
 }
 
 /// The least number of keys beside these secrets: a region without secrets and keys has no record.
@@ -148,8 +147,8 @@ fn least_keys(secrets: &Secrets) -> u8
 
 /// Reads what stands after the version of a region's record.
 #[tactic(auto, unfolding(mb_model::specs::records::RegionFormat::region_by))]
-fn region_after(alloc: Global, cursor: &mut Cursor<'_>, version: u8) -> Result<Region, LayoutEnd>
-    ensures { Reads layout_at (region_by version) cursor.old result cursor.new }
+fn region_after(alloc: Global, cursor: &mut Cursor<'_>, version: u8) -> Result<Region, ReadEnd>
+    ensures { Reads end_at (region_by version) cursor.old result cursor.new }
 {
     let secrets = secrets_at(alloc, cursor, most_secrets(version))?;
     let least = least_keys(&secrets);
@@ -159,8 +158,8 @@ fn region_after(alloc: Global, cursor: &mut Cursor<'_>, version: u8) -> Result<R
 
 /// Reads the version of a region's record, and the region.
 #[tactic(auto, unfolding(mb_model::specs::records::RegionFormat::region_format))]
-fn region_at(alloc: Global, cursor: &mut Cursor<'_>) -> Result<(u8, Region), LayoutEnd>
-    ensures { Reads layout_at region_format cursor.old result cursor.new }
+fn region_at(alloc: Global, cursor: &mut Cursor<'_>) -> Result<(u8, Region), ReadEnd>
+    ensures { Reads end_at region_format cursor.old result cursor.new }
 {
     let version = region_version_at(cursor)?;
     let region = region_after(alloc, cursor, version)?;
@@ -210,11 +209,11 @@ impl Field for RegionField {
 
     type Needs = Global;
 
-    type End = LayoutEnd;
+    type End = ReadEnd;
 
     ghost format = { region_format };
 
-    fn read_at(alloc: Global, cursor: &mut Cursor<'_>) -> Result<(u8, Region), LayoutEnd> {
+    fn read_at(alloc: Global, cursor: &mut Cursor<'_>) -> Result<(u8, Region), ReadEnd> {
         region_at(alloc, cursor)
     }
 
@@ -234,7 +233,7 @@ impl WriteField for RegionField {
 /// The region whose record, of version 1 or 2, is spelled at the cursor's offset; the cursor then stands after it.
 /// After an error the cursor is unchanged: `Bad` with the offset of the first field that lacks bytes or is not allowed,
 /// or `NoMemory`.
-pub fn read_region(alloc: Global, c: &mut Cursor<'_>) -> Result<Region, LayoutEnd>
+pub fn read_region(alloc: Global, c: &mut Cursor<'_>) -> Result<Region, ReadEnd>
     ensures { ReadsRegion c.old result c.new }
 {
     let (_version, region) = read_field::<RegionField>(alloc, c)?;
@@ -243,7 +242,7 @@ pub fn read_region(alloc: Global, c: &mut Cursor<'_>) -> Result<Region, LayoutEn
 
 /// The region whose record, of version 1 or 2, these bytes spell, at most 4,194,304 of them. Else `Bad` with the offset
 /// of the first field that lacks bytes or is not allowed, or of the first byte after the last field; or `NoMemory`.
-pub fn region_of_bytes(alloc: Global, bytes: &[u8]) -> Result<Region, LayoutEnd>
+pub fn region_of_bytes(alloc: Global, bytes: &[u8]) -> Result<Region, ReadEnd>
     requires { length bytes.now ≤ FILE_LIMIT }
     ensures { ReadsWholeRegion bytes.now result }
 {

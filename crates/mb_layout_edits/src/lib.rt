@@ -2,10 +2,8 @@
 //!
 //! This crate owns how the record of a region is changed while the work of an order is done: by the fate that an order
 //! gave the region, and by the use of a key. Only keys are decoded; the secrets are copied as the bytes that they are.
-//! It stands on the format of `mb_model` (`RegionFormat`), on `mb_layout`, which reads and writes the parts of such a
-//! record, and on the fields of `mb_bytes`. Only crates that store or use regions need it. The readers of a region's
-//! secret, key and version, and the writer of its keys, are public calls of `mb_layout`: a second set of readers would
-//! have to agree with those.
+//! Only crates that store or use regions need it. The readers of a region's secret, key and version, and the writer of
+//! its keys, are public calls of `mb_layout`: a second set of readers would have to agree with those.
 #![tactic(auto)]
 
 mod fate;

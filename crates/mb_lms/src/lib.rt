@@ -21,7 +21,7 @@ mod tree;
 pub use checker::{Checker, verify};
 pub use hash_count::{HashCount, LEAF_HASHES, SIGNING_HASHES, TREE_HASHES, hash};
 pub use key::{key_bytes, key_hash, parse_key};
-pub use one_time::{chain_prefix, digit, digits_of};
+pub use one_time::{chain_prefix, coef, digits_of};
 
 #[cfg(test)]
 mod tests;

@@ -16,7 +16,7 @@ use sha2::{Digest, Sha256};
 
 /// Digit `i` (RFC 8554, section 3.1.3).
 #[tactic(auto, using(crate::proofs::Digits::digit_rules), unfolding(mb_model::specs::signatures::Winternitz::coef))]
-pub fn digit(chains: Chains, bytes: &[u8], i: u16) -> u8
+pub fn coef(chains: Chains, bytes: &[u8], i: u16) -> u8
     requires { i * digit_bits chains / 8 < length bytes.now }
     ensures value { result ≡ coef bytes.now i (digit_bits chains) }
     ensures bound { result ≤ 2 ^ digit_bits chains - 1 }
@@ -39,7 +39,7 @@ fn shortfall(chains: Chains, hash: &[u8; 32]) -> u16
     let greatest = greatest_digit(chains);
     let mut sum: u16 = 0;
     for i in 0..hash_digits(chains) {
-        sum += u16::from(greatest - digit(chains, hash, i));
+        sum += u16::from(greatest - coef(chains, hash, i));
     }
     sum
 }
@@ -116,7 +116,7 @@ pub(crate) fn one_time_key(key: &PublicKey, q: u32, digits: &[u8; 34], values: &
     for i in 0..chain_count(key.chains) {
         let prefix = chain_prefix(&key.identifier, q, i);
         let value = value_at(values, usize::from(i));
-        hasher.update(chain_end(&prefix, digit(key.chains, digits, i), last, value));
+        hasher.update(chain_end(&prefix, coef(key.chains, digits, i), last, value));
     }
     hasher.finalize()
 }

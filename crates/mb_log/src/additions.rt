@@ -6,7 +6,7 @@ ghost use Rattle.mb_model.specs.owners.Log.{keys_in, keys_made_by};
 ghost use Rattle.mb_model.specs.signatures.Signing.{public_of};
 ghost use Rattle.mb_model.specs.machine.OrderEffects.{names_next, next_key, next_device_key, entry_of, device_after, uses_after};
 ghost use Rattle.mb_model.specs.machine.Work.{ready_by, first_by, key_by, outgoing_by, bodies_by};
-ghost use Rattle.mb_model.specs.machine.OrderChecks.{needed_with};
+ghost use Rattle.mb_model.specs.machine.OrderChecks.{needed_with, HasRoomWith};
 ghost use Rattle.mb_log.specs.Additions.{HasRoomFor, IsInRange};
 ghost use Rattle.mb_signer.specs.Benches.{HasTree, IsBare, HasRoom};
 ghost use Rattle.mb_lms.specs.declared.hash_count.TheConstants.{TREE_HASHES};
@@ -28,7 +28,7 @@ const MOST: usize = 2;
 /// The number of entries that an order appends after `uses` uses of the device key. It is two if only the last index is
 /// left and the order's own entry does not name the next key: a succession comes first, since the last index signs only
 /// an entry that names the next key. Else it is one.
-pub fn needed(uses: u32, names_next: bool) -> u32
+pub fn needed_with(uses: u32, names_next: bool) -> u32
     ensures { result ≡ needed_with uses names_next }
 {
     if uses == LAST_INDEX as u32 && !names_next {
@@ -110,7 +110,7 @@ fn make_ready<L: Ledger>(
 ) -> View
     requires empty { vec_len entries.old ≡ 0 }
     requires capacity { MOST ≤ vec_capacity entries.old }
-    requires length { view.now.length + needed_with view.now.uses names_next ≤ ENTRY_LIMIT }
+    requires room { HasRoomWith view.now names_next }
     requires keys_made { view.now.keys_made ≤ ENTRY_LIMIT }
     ensures ready { result ≡ ready_by view.now names_next draw.now }
     ensures entries { entries.new.items ≡ entries.old.items ++ first_by view.now names_next draw.now }
@@ -122,7 +122,7 @@ fn make_ready<L: Ledger>(
     ensures keys { hashes.new
         ≤ hashes.old + keys_made_by (first_by view.now names_next draw.now) * TREE_HASHES }
 {
-    if needed(view.uses, names_next) == 1 {
+    if needed_with(view.uses, names_next) == 1 {
         return *view;
     }
     let next = next_device_key(view, draw, bench, hashes);
@@ -315,7 +315,7 @@ fn outgoing(view: &View, names_next: bool) -> Option<Outgoing>
     requires { view.now.uses ≤ LAST_INDEX }
     ensures { result ≡ outgoing_by view.now names_next }
 {
-    if names_next || needed(view.uses, names_next) == 2 {
+    if names_next || needed_with(view.uses, names_next) == 2 {
         Some(Outgoing {
             seed: view.device,
             uses: view.uses + 1,

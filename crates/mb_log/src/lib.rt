@@ -13,7 +13,7 @@ mod life;
 mod rules;
 mod serial;
 
-pub use additions::{bodies, needed};
+pub use additions::{bodies, needed_with};
 pub use figures::{add_entry, figures_of, layers_of, no_figures};
 pub use keys::{born, derive_key};
 pub use life::{BornKey, Life, ends, lives};

@@ -9,7 +9,7 @@ ghost use Rattle.mb_model.specs.owners.Log.{figures_of, entries_of, StandsAt, Ar
 ghost use Rattle.mb_log.specs.Following.{FollowSays};
 
 use crate::figures::figures_of;
-use mb_authority::{after, condition, kept_regions, layer_of, may_cosign, renews};
+use mb_authority::{after, kept_regions, layer_of, may_cosign, renews, stands_for_order};
 use mb_model::{
     ChangeKind, Entry, Figures, Follow, LAST_INDEX, Layer, Layers, Pair, PublicKey, SignedEntry,
 };
@@ -116,7 +116,7 @@ fn makes(figures: &Figures, number: u32, key_number: u32, layer: u8) -> bool
     number == figures.number
         && key_number == figures.keys_made
         && figures.uses != LAST_INDEX as u32
-        && condition(&figures.layers, None, layer)
+        && stands_for_order(&figures.layers, None, layer)
 }
 
 /// Whether the entry has this position; a birth has none.
@@ -161,7 +161,7 @@ fn changes(
 ) -> bool
     ensures { IsTrue result ↔ ChangesRightly old.now kind layer cosigned new.now kept }
 {
-    condition(old, Some(kind), layer)
+    stands_for_order(old, Some(kind), layer)
         && can_place(kind, &layer_of(old, layer), &layer_of(new, layer))
         && leaves(old, kind, layer, cosigned, new)
         && kept == kept_regions(old, kind, layer, cosigned)

@@ -6,7 +6,7 @@ ghost use Rattle.mb_model.specs.memories.OldFlash.{BeginsArea, BeginsWithRecord}
 ghost use Rattle.mb_layout.specs.Found.{FindsBy};
 
 use crate::public::public_of_bytes;
-use mb_layout::LayoutEnd;
+use mb_bytes::ReadEnd;
 use mb_model::{NoMemory, Public};
 use std::alloc::Global;
 
@@ -37,7 +37,7 @@ pub fn public_at_start(alloc: Global, flash_area: &[u8]) -> Result<Option<Public
     };
     match public_of_bytes(alloc, bytes) {
         Ok(public) => Ok(Some(public)),
-        Err(LayoutEnd::Bad(_)) => Ok(None),
-        Err(LayoutEnd::NoMemory) => Err(NoMemory),
+        Err(ReadEnd::Bad { .. }) => Ok(None),
+        Err(ReadEnd::NoMemory) => Err(NoMemory),
     }
 }

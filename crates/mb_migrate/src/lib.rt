@@ -3,9 +3,7 @@
 //! pending.
 //!
 //! This crate owns the public record of the earlier form, both ways, the meaning of an image of that form, and which of
-//! the two forms a migration tries first. It stands on the definitions of `mb_model` (`OldFlash`, `PublicRecord`,
-//! `Migration`), the fields of `mb_bytes`, the entries of `mb_layout`, and on `mb_image`, which reads an image by any
-//! form of the flash and writes one.
+//! the two forms a migration tries first.
 #![tactic(auto)]
 
 mod area;

@@ -6,15 +6,15 @@ ghost use Rattle.mb_model.specs.declared.limits.TheConstants.{FILE_LIMIT};
 ghost use Rattle.mb_model.specs.memories.PublicRecord.{codes_format, public_format};
 ghost use Rattle.mb_bytes.specs.Reads.{bad_at, Reads, ReadsExactly, ReadsWhole};
 ghost use Rattle.mb_bytes.specs.Puts.{Puts, Writes};
-ghost use Rattle.mb_layout.specs.Ends.{layout_at};
+ghost use Rattle.mb_bytes.specs.Ends.{end_at};
 ghost use Rattle.mb_migrate.specs.Bounds.{CodesFit};
 ghost use Rattle.mb_migrate.specs.Parts.{entries_format};
 
 use mb_bytes::{
-    Cursor, Field, WriteField, bytes_after_u32, items_at, optional_at, put_after_u32, put_items,
-    put_optional, put_slice, put_u16, read_field, read_whole, u16_between, write_field,
+    Cursor, Field, ReadEnd, WriteField, bytes_after_u32, items_at, optional_at, put_after_u32,
+    put_items, put_optional, put_slice, put_u16, read_field, read_whole, u16_between, write_field,
 };
-use mb_layout::{EntryField, LayoutEnd};
+use mb_layout::EntryField;
 use mb_model::{
     BadRecord, Bytes, CODE_LIMIT, Codes, ENTRY_LIMIT, NoMemory, Public, PublicEntries, PublicEntry,
     SIGNATURE_LENGTH,
@@ -26,17 +26,17 @@ const VERSION: [u8; 1] = [1];
 
 /// The public record spelled at the cursor's offset; the cursor then stands after it. After an error the cursor is
 /// unchanged: `Bad` with the offset of the first field that lacks bytes or is not allowed, or `NoMemory`.
-pub fn read_public(alloc: Global, c: &mut Cursor<'_>) -> Result<Public, LayoutEnd>
-    ensures { ReadsExactly layout_at public_format c.old result c.new }
+pub fn read_public(alloc: Global, c: &mut Cursor<'_>) -> Result<Public, ReadEnd>
+    ensures { ReadsExactly end_at public_format c.old result c.new }
 {
     read_field::<PublicField>(alloc, c)
 }
 
 /// The public record that these bytes spell, at most 4,194,304 of them. Else `Bad` with the offset of the first field
 /// that lacks bytes or is not allowed, or of the first byte after the last field; or `NoMemory`.
-pub fn public_of_bytes(alloc: Global, bytes: &[u8]) -> Result<Public, LayoutEnd>
+pub fn public_of_bytes(alloc: Global, bytes: &[u8]) -> Result<Public, ReadEnd>
     requires { length bytes.now ≤ FILE_LIMIT }
-    ensures { ReadsWhole layout_at public_format bytes.now result }
+    ensures { ReadsWhole end_at public_format bytes.now result }
 {
     read_whole::<PublicField>(alloc, bytes)
 }
@@ -62,11 +62,11 @@ impl Field for PublicField {
 
     type Needs = Global;
 
-    type End = LayoutEnd;
+    type End = ReadEnd;
 
     ghost format = { public_format };
 
-    fn read_at(alloc: Global, cursor: &mut Cursor<'_>) -> Result<Public, LayoutEnd> {
+    fn read_at(alloc: Global, cursor: &mut Cursor<'_>) -> Result<Public, ReadEnd> {
         version_at(cursor)?;
         let codes = codes_at(alloc, cursor)?;
         let entries = entries_at(alloc, cursor)?;
@@ -103,8 +103,8 @@ fn version_at(cursor: &mut Cursor<'_>) -> Result<(), BadRecord>
 
 /// Reads the codes of the layers.
 #[tactic(auto, unfolding(mb_model::specs::memories::PublicRecord::code_format, mb_model::specs::memories::PublicRecord::codes_format))]
-fn codes_at(alloc: Global, cursor: &mut Cursor<'_>) -> Result<Codes, LayoutEnd>
-    ensures { Reads layout_at codes_format cursor.old result cursor.new }
+fn codes_at(alloc: Global, cursor: &mut Cursor<'_>) -> Result<Codes, ReadEnd>
+    ensures { Reads end_at codes_format cursor.old result cursor.new }
 {
     let one = optional_at::<CodeField>(alloc, cursor)?;
     let two = optional_at::<CodeField>(alloc, cursor)?;
@@ -127,11 +127,11 @@ impl Field for CodeField {
 
     type Needs = Global;
 
-    type End = LayoutEnd;
+    type End = ReadEnd;
 
     ghost format = { sized (between w32 0 CODE_LIMIT) };
 
-    fn read_at(alloc: Global, cursor: &mut Cursor<'_>) -> Result<Bytes, LayoutEnd> {
+    fn read_at(alloc: Global, cursor: &mut Cursor<'_>) -> Result<Bytes, ReadEnd> {
         Ok(Bytes::copy(alloc, bytes_after_u32(cursor, 0, CODE_LIMIT)?)?)
     }
 
@@ -150,11 +150,11 @@ impl WriteField for CodeField {
 
 /// Reads the entries after their number.
 #[tactic(auto, unfolding(crate::specs::Parts::entries_format))]
-fn entries_at(alloc: Global, cursor: &mut Cursor<'_>) -> Result<PublicEntries, LayoutEnd>
-    ensures { Reads layout_at entries_format cursor.old result cursor.new }
+fn entries_at(alloc: Global, cursor: &mut Cursor<'_>) -> Result<PublicEntries, ReadEnd>
+    ensures { Reads end_at entries_format cursor.old result cursor.new }
 {
     let count = u16_between(cursor, 1, ENTRY_LIMIT)?;
-    items_at::<PublicEntryField, LayoutEnd>(alloc, (), cursor, count as u32)
+    items_at::<PublicEntryField>(alloc, (), cursor, count as u32)
 }
 
 /// An entry, and its signature if it is signed.

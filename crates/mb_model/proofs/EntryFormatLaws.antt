@@ -1,4 +1,7 @@
--- Entries, statements and chains are read exactly.
+-- Entries, statements and chains are read exactly: what is read at an offset is what is spelled there, and reading
+-- fails where the format says. Each format has a law `NAME_exact`, from the laws of its fields: `search` composes them
+-- by the ruleset `exactly`. A table, a choice by a tag, and a value that is one case of a type need a lemma of their
+-- own beside it.
 use Rattle.std.proofs.Common.{◌≡◌, ℕ, Bool, true, false, List, Option, Some, refl, arith, rules}
 use Rattle.std.specs.Int.{w8}
 use Rattle.mb_format.specs.Reading.{IsExact}
@@ -14,14 +17,29 @@ use Rattle.mb_model.specs.declared.order.KeyKind.{KeyKind}
 use Rattle.mb_model.specs.declared.order.KeyKind.TheVariants as kinds
 use Rattle.mb_model.specs.declared.entry.Entry.{Entry}
 use Rattle.mb_model.specs.declared.entry.Entry.TheVariants.{Birth, Change, NewKey, Succession}
-use Rattle.mb_model.specs.records.EntryFormat.{change_byte, change_rows, key_kind_byte, key_kind_rows, key_kind_format, pair_byte, pair_rows, pair_format, EntryTag, birth_tag, change_tag, new_key_tag, succession_tag, entry_byte, entry_rows, entry_tag, birth_in, birth_format, change_in, change_format, new_key_in, new_key_format, succession_in, succession_format, entry_by, entry_format, signed_entry_format}
+use Rattle.mb_model.specs.records.EntryFormat.{change_byte, change_rows, key_kind_byte, key_kind_rows, key_kind_format}
+use Rattle.mb_model.specs.records.EntryFormat.{pair_byte, pair_rows, pair_format}
+use Rattle.mb_model.specs.records.EntryFormat.{EntryTag, birth_tag, change_tag, new_key_tag, succession_tag}
+use Rattle.mb_model.specs.records.EntryFormat.{birth_in, birth_format, change_in, change_format}
+use Rattle.mb_model.specs.records.EntryFormat.{new_key_in, new_key_format, succession_in, succession_format}
+use Rattle.mb_model.specs.records.EntryFormat.{entry_byte, entry_rows, entry_tag, entry_by, entry_format}
+use Rattle.mb_model.specs.records.EntryFormat.{signed_entry_format}
 use Rattle.mb_model.specs.records.ChainFormat.{statement_format, chain_format}
 use Rattle.mb_model.proofs.KeyFormatLaws.{public_key_exact, layers_exact}
 
 -- ---- single fields
 
+-- Each value has a row in its table, and the rows are those of the format.
 pub change_table : IsTable w8 change_rows change_byte
-change_table = record { rows_are = search rules; back = elim [ changes.Establish ↦ refl | changes.Surrender ↦ refl | changes.Load ↦ refl | changes.Emergency ↦ refl ] }
+change_table = record {
+  rows_are = search rules;
+  back = elim [
+    | changes.Establish ↦ refl
+    | changes.Surrender ↦ refl
+    | changes.Load ↦ refl
+    | changes.Emergency ↦ refl
+  ];
+}
 
 pub key_kind_table : IsTable w8 key_kind_rows key_kind_byte
 key_kind_table = record { rows_are = search rules; back = elim [ kinds.Epoch ↦ refl | kinds.Configuration ↦ refl ] }
@@ -30,7 +48,10 @@ pub key_kind_exact : IsExact key_kind_format
 unfolding key_kind_format
 key_kind_exact = search (exactly, key_kind_table) depth 20
 
-pair_back : (two three : Bool) → row_of pair_rows (pair_byte (record { two = two; three = three })) ≡ Some (record { two = two; three = three })
+abbrev pair_of : Bool → Bool → Pair
+pair_of two three = record { two = two; three = three }
+
+pair_back : (two three : Bool) → row_of pair_rows (pair_byte (pair_of two three)) ≡ Some (pair_of two three)
 pair_back false false = refl
 pair_back true false = refl
 pair_back false true = refl
@@ -43,40 +64,70 @@ pub pair_format_exact : IsExact pair_format
 unfolding pair_format
 pair_format_exact = search (exactly, pair_table) depth 20
 
+-- The tags of entries are a list and no table: a tag of a version that is never spelled has no row.
 pub entry_list : IsList w8 entry_rows entry_byte
 entry_list = record { rows_are = search rules }
 
 -- ---- entries
 
-birth_only : (entry : Entry) (p : ℕ × (List ℕ × (PublicKey × Layers))) → birth_in entry ≡ Some p → Birth p.0 p.1.0 p.1.1.0 p.1.1.1 ≡ entry
-birth_only entry p e = grind arith
+-- What an entry of each kind is made of, in the order in which its format reads it. What is taken out of an entry
+-- (`birth_in`) makes the entry again (`birth_from`): so bytes that are read spell what was made of them.
+
+abbrev BirthParts : Type 0
+BirthParts = ℕ × (List ℕ × (PublicKey × Layers))
+
+abbrev birth_from : BirthParts → Entry
+birth_from (version, (serial, (key, layers))) = Birth version serial key layers
+
+birth_only : (entry : Entry) (parts : BirthParts) → birth_in entry ≡ Some parts → birth_from parts ≡ entry
+birth_only entry parts taken = grind arith
 
 pub birth_exact : (version : ℕ) → IsExact (birth_format version)
 unfolding birth_format
 birth_exact version = search (exactly, public_key_exact, layers_exact, birth_only) depth 20
 
-change_only : (entry : Entry) (p : ℕ × (ℕ × (ℕ × (ChangeKind × (ℕ × (Pair × (Pair × (Layers × Option PublicKey))))))))
-    → change_in entry ≡ Some p → Change p.0 p.1.0 p.1.1.0 p.1.1.1.0 p.1.1.1.1.0 p.1.1.1.1.1.0 p.1.1.1.1.1.1.1.0 p.1.1.1.1.1.1.0 p.1.1.1.1.1.1.1.1 ≡ entry
-change_only entry p e = grind arith
+abbrev ChangeParts : Type 0
+ChangeParts = ℕ × (ℕ × (ℕ × (ChangeKind × (ℕ × (Pair × (Pair × (Layers × Option PublicKey)))))))
+
+abbrev change_from : ChangeParts → Entry
+change_from (version, (position, (number, (kind, (layer, (cosigned, (kept, (layers, next)))))))) =
+    Change version position number kind layer cosigned layers kept next
+
+change_only : (entry : Entry) (parts : ChangeParts) → change_in entry ≡ Some parts → change_from parts ≡ entry
+change_only entry parts taken = grind arith
 
 pub change_exact : (version : ℕ) → IsExact (change_format version)
 unfolding change_format
-change_exact version = search (exactly, change_table, pair_format_exact, public_key_exact, layers_exact, change_only) depth 20
+change_exact version =
+    search (exactly, change_table, pair_format_exact, public_key_exact, layers_exact, change_only) depth 20
 
-new_key_only : (entry : Entry) (p : ℕ × (ℕ × (ℕ × (ℕ × (KeyKind × PublicKey))))) → new_key_in entry ≡ Some p
-    → NewKey p.0 p.1.0 p.1.1.0 p.1.1.1.0 p.1.1.1.1.0 p.1.1.1.1.1 ≡ entry
-new_key_only entry p e = grind arith
+abbrev NewKeyParts : Type 0
+NewKeyParts = ℕ × (ℕ × (ℕ × (ℕ × (KeyKind × PublicKey))))
+
+abbrev new_key_from : NewKeyParts → Entry
+new_key_from (position, (number, (key_number, (layer, (kind, key))))) =
+    NewKey position number key_number layer kind key
+
+new_key_only : (entry : Entry) (parts : NewKeyParts) → new_key_in entry ≡ Some parts → new_key_from parts ≡ entry
+new_key_only entry parts taken = grind arith
 
 pub new_key_exact : IsExact new_key_format
 unfolding new_key_format
 new_key_exact = search (exactly, key_kind_exact, public_key_exact, new_key_only) depth 20
 
-succession_only : (entry : Entry) (p : ℕ × PublicKey) → succession_in entry ≡ Some p → Succession p.0 p.1 ≡ entry
-succession_only entry p e = grind arith
+abbrev succession_from : ℕ × PublicKey → Entry
+succession_from (position, key) = Succession position key
+
+succession_only : (entry : Entry) (parts : ℕ × PublicKey) → succession_in entry ≡ Some parts
+    → succession_from parts ≡ entry
+succession_only entry parts taken = grind arith
 
 pub succession_exact : IsExact succession_format
 unfolding succession_format
 succession_exact = search (exactly, public_key_exact, succession_only) depth 20
+
+-- The tag says which of them follows it, and an entry that follows a tag has that tag: so an entry is spelled after no
+-- other tag than its own.
 
 pub entry_by-exact : (tag : EntryTag) → IsExact (entry_by tag)
 entry_by-exact (birth_tag version) = birth_exact version
@@ -84,13 +135,12 @@ entry_by-exact (change_tag version) = change_exact version
 entry_by-exact new_key_tag = new_key_exact
 entry_by-exact succession_tag = succession_exact
 
--- the tag of an entry is the one that was read
 pub entry_keyed : (tag : EntryTag) (entry : Entry) → (entry_by tag).Allowed entry → entry_tag entry ≡ tag
 unfolding birth_format change_format new_key_format succession_format
-entry_keyed (birth_tag version) entry h = grind arith
-entry_keyed (change_tag version) entry h = grind arith
-entry_keyed new_key_tag entry h = grind arith
-entry_keyed succession_tag entry h = grind arith
+entry_keyed (birth_tag version) entry allowed = grind arith
+entry_keyed (change_tag version) entry allowed = grind arith
+entry_keyed new_key_tag entry allowed = grind arith
+entry_keyed succession_tag entry allowed = grind arith
 
 pub entry_exact : IsExact entry_format
 unfolding entry_format

@@ -8,3 +8,5 @@ pub mod HeaderFormatLaws
 pub mod FormatBounds
 pub mod RegionWriting
 pub mod OrderReach
+pub mod AllowedFields
+pub mod Passed

@@ -1,7 +1,7 @@
 //! What a device answers.
 
 ghost use Rattle.std.specs.Prelude.{◌≡◌};
-ghost use Rattle.mb_model.specs.machine.Refusals.{refusal_number, refusal_reply};
+ghost use Rattle.mb_model.specs.machine.Refusals.{order_refusal_number, refusal_number, refusal_reply};
 
 use crate::bytes::Bytes;
 
@@ -67,7 +67,24 @@ pub enum Reply {
     NoMemory,
 }
 
-/// Why an event is refused. It carries the target or the layer that fails; a reply has its number alone.
+/// Why an order is refused: a check that it fails. If it fails several, the first in this list is meant.
+#[derive(Clone, Copy, PartialEq, Eq)]
+pub enum OrderRefusal {
+    /// The target of the order at this index, from 0, does not hold.
+    WrongTarget(u8),
+    /// The order may not be given as the layers stand.
+    WrongState,
+    /// The order is not signed by the owner in charge, or there is none.
+    WrongSignature,
+    /// The order is not countersigned by the owner of this layer, 2 or 3, or there is none.
+    WrongCountersignature(u8),
+    /// The log has no room for the order's entries.
+    LogFull,
+    /// The region holds as many keys as it can.
+    KeysFull,
+}
+
+/// Why an event is refused.
 #[derive(Clone, Copy, PartialEq, Eq)]
 pub enum Refusal {
     /// Power is off.
@@ -86,18 +103,24 @@ pub enum Refusal {
     KeySpent,
     /// The bytes spell no order.
     BadText,
-    /// The target of the order at this index, from 0, does not hold.
-    WrongTarget(u8),
-    /// The order may not be given as the layers stand.
-    WrongState,
-    /// The order is not signed by the owner in charge.
-    WrongSignature,
-    /// The order is not countersigned by the owner of this layer, 2 or 3.
-    WrongCountersignature(u8),
-    /// The log has no room for the order's entries.
-    LogFull,
-    /// The region holds as many keys as it can.
-    KeysFull,
+    /// The order fails a check.
+    Order(OrderRefusal),
+}
+
+impl OrderRefusal {
+    /// The number that a reply gives for this reason.
+    pub fn number(self) -> u8
+        ensures { result ≡ order_refusal_number self }
+    {
+        match self {
+            OrderRefusal::WrongTarget(_) => 11,
+            OrderRefusal::WrongState => 12,
+            OrderRefusal::WrongSignature => 13,
+            OrderRefusal::WrongCountersignature(_) => 14,
+            OrderRefusal::LogFull => 15,
+            OrderRefusal::KeysFull => 16,
+        }
+    }
 }
 
 impl Refusal {
@@ -114,12 +137,7 @@ impl Refusal {
             Refusal::NoSuchKey => 6,
             Refusal::KeySpent => 7,
             Refusal::BadText => 10,
-            Refusal::WrongTarget(_) => 11,
-            Refusal::WrongState => 12,
-            Refusal::WrongSignature => 13,
-            Refusal::WrongCountersignature(_) => 14,
-            Refusal::LogFull => 15,
-            Refusal::KeysFull => 16,
+            Refusal::Order(refusal) => refusal.number(),
         }
     }
 

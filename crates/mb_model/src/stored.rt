@@ -17,6 +17,13 @@ pub struct Outgoing {
     pub uses: u32,
 }
 
+/// Who signs an entry: a key, and the index at which it signs.
+#[derive(Drop)]
+pub struct Signer {
+    pub key: KeySeed,
+    pub index: u32,
+}
+
 /// What is still to be done to a region.
 #[derive(Clone, Copy, PartialEq, Eq)]
 pub enum Fate {

@@ -1,5 +1,5 @@
 -- The examples of orders, computed.
-use Rattle.std.proofs.Common.{◌≡◌, ℕ, List, [], ◌∷◌, ◌++◌, length, get_or, replicate, true, Err, refl, sym, ap, ◌∙◌, arith, lit≤, lit<}
+use Rattle.std.proofs.Common.{◌≡◌, ℕ, List, [], ◌∷◌, ◌++◌, length, get_or, replicate, true, Err, inl, inr, refl, sym, ap, ◌∙◌, arith, lit≤, lit<}
 use Rattle.std.specs.Prelude.{codes}
 use Rattle.std.proofs.lemmas.Bool.{false≢true}
 use Rattle.std.proofs.lemmas.List.Elements.{All-nil, All-cons}
@@ -21,13 +21,15 @@ use Rattle.mb_model.specs.owners.Log.{entries_of, number_of, uses_of_device_key,
 use Rattle.mb_model.specs.owners.Rules.{after}
 use Rattle.mb_model.specs.signatures.Merkle.{Verifies}
 use Rattle.mb_model.specs.records.OrderFormat.{target_format, body_format, sized_signature_format, countersignatures_format, order_format}
-use Rattle.mb_model.specs.declared.reply.Refusal.{Refusal}
-use Rattle.mb_model.specs.declared.reply.Refusal.TheVariants.{WrongTarget, WrongState, WrongSignature}
-use Rattle.mb_model.specs.machine.Refusals.{refusal_number}
-use Rattle.mb_model.specs.machine.OrderChecks.{TargetHoldsIn, MayBeGiven, IsCountersigned, LogHasRoom, RegionHasRoom, Fails, view_of}
+use Rattle.mb_model.specs.declared.reply.OrderRefusal.{OrderRefusal}
+use Rattle.mb_model.specs.declared.reply.OrderRefusal.TheVariants.{WrongTarget, WrongState, WrongSignature}
+use Rattle.mb_model.specs.machine.Refusals.{order_refusal_number}
+use Rattle.mb_model.specs.machine.OrderChecks.{TargetHoldsIn, MayBeGiven, IsSigned, IsCountersigned}
+use Rattle.mb_model.specs.machine.OrderChecks.{LogHasRoom, RegionHasRoom, Passes, Fails, view_of}
 use Rattle.mb_model.specs.machine.OrderEffects.{entry_signed_by, state_after_succession, state_after_change, state_after_new_key, state_after_order}
 use Rattle.mb_model.specs.machine.OrderStep.{spells_none, fails_check, is_obeyed}
 use Rattle.mb_model.proofs.OrderFormatLaws.{order_exact}
+use Rattle.mb_model.proofs.Passed.{passes_by}
 use Rattle.mb_model_examples.specs.RuleExamples.{officer, seven}
 use Rattle.mb_model_examples.specs.Device.{alive}
 use Rattle.mb_model_examples.specs.OrderExamples.{plain, surrender_two, establish_two, elsewhere, load_of, key_for_three, empty_by, RefusesOrder, RefusedOrders, with_eight_keys, LaterRefusals, ObeysOrder, ObeyedOrders, LeavingExamples, key_nearly_used, nearly_full, grown, SuccessionExamples}
@@ -42,7 +44,7 @@ spells_no_order state text offset small e draw = spells_none (record {
   stays = refl;
 })
 
-refuses : (state : State) (text : List ℕ) (order : Order) (refusal : Refusal) → Spells order_format text order → Fails (view_of state) order refusal → RefusesOrder state text (refusal_number refusal)
+refuses : (state : State) (text : List ℕ) (order : Order) (refusal : OrderRefusal) → Spells order_format text order → Fails (view_of state) order refusal → RefusesOrder state text (order_refusal_number refusal)
 refuses state text order refusal spelled failing draw =
     fails_check (record { order = order; spelled = spelled; refusal = refusal; fails = failing; answered = refl; stays = refl })
 
@@ -53,8 +55,10 @@ nobodys n text h =
     omega arith
 
 second_target_fails : (signature : List ℕ) (order : Order) → Fails (view_of (alive signature)) (elsewhere order) (WrongTarget 1)
-second_target_fails signature order = (
+second_target_fails signature order = inl (
+  1,
   target.Serial (replicate 16 8),
+  refl,
   record {
     before = target.Length 6 ∷ [];
     rest = [];
@@ -85,80 +89,100 @@ refusals signature = record {
   state_before_signature =
       refuses (alive signature) _ establish_two WrongState
       (spells order_exact (order_format.spelling establish_two) establish_two refl refl)
-      (All-nil (TargetHoldsIn (view_of (alive signature))), false≢true);
+      (inr (All-nil (TargetHoldsIn (view_of (alive signature))), inl (refl, false≢true)));
   not_signed = λ h. nobodys 1 _ h;
   signature_wrong =
       refuses (alive signature) _ surrender_two WrongSignature
       (spells order_exact (order_format.spelling surrender_two) surrender_two refl refl)
-      (All-nil (TargetHoldsIn (view_of (alive signature))), refl, λ h. nobodys 2 _ h);
+      (inr (All-nil (TargetHoldsIn (view_of (alive signature))), inr (refl, inl (refl, λ h. nobodys 2 _ h))));
 }
 
 pub later : (signature by_owner : List ℕ) → LaterRefusals signature by_owner
 unfolding number_of uses_of_device_key
 later signature by_owner = record {
-  countersignature = λ signed. (
+  countersignature = λ signed. inr (
     All-nil (TargetHoldsIn (view_of (alive signature))),
-    refl,
-    signed,
-    (
-      0,
-      empty_by 2,
+    inr (
       refl,
-      record {
-        before = [];
-        rest = empty_by 3 ∷ [];
-        split = refl;
-        index = refl;
-        hold = All-nil (IsCountersigned (view_of (alive signature)) (load_of 1 by_owner));
-        fails = λ h. nobodys 2 _ h;
-      },
+      inr (
+        signed,
+        inl (
+          0,
+          empty_by 2,
+          refl,
+          record {
+            before = [];
+            rest = empty_by 3 ∷ [];
+            split = refl;
+            index = refl;
+            hold = All-nil (IsCountersigned (view_of (alive signature)) (load_of 1 by_owner));
+            fails = λ h. nobodys 2 _ h;
+          },
+        ),
+      ),
     ),
   );
-  second_countersignature = λ by layer signed given. (
+  second_countersignature = λ by layer signed given. inr (
     All-nil (TargetHoldsIn (view_of (alive signature))),
-    refl,
-    signed,
-    (
-      1,
-      empty_by 3,
+    inr (
       refl,
-      record {
-        before = by ∷ [];
-        rest = [];
-        split = refl;
-        index = refl;
-        hold = All-cons (IsCountersigned (view_of (alive signature)) (load_of 1 by_owner)) by [] given (All-nil (IsCountersigned (view_of (alive signature)) (load_of 1 by_owner)));
-        fails = λ h. nobodys 3 _ h;
-      },
+      inr (
+        signed,
+        inl (
+          1,
+          empty_by 3,
+          refl,
+          record {
+            before = by ∷ [];
+            rest = [];
+            split = refl;
+            index = refl;
+            hold = All-cons (IsCountersigned (view_of (alive signature)) (load_of 1 by_owner)) by [] given (All-nil (IsCountersigned (view_of (alive signature)) (load_of 1 by_owner)));
+            fails = λ h. nobodys 3 _ h;
+          },
+        ),
+      ),
     ),
   );
-  keys = λ signed. (
+  keys = λ signed. inr (
     All-nil (TargetHoldsIn (view_of (with_eight_keys signature))),
-    refl,
-    signed,
-    All-nil (IsCountersigned (view_of (with_eight_keys signature)) (key_for_three by_owner)),
-    lit≤ tt,
-    λ h. omega (arith, h),
+    inr (
+      refl,
+      inr (
+        signed,
+        inr (
+          All-nil (IsCountersigned (view_of (with_eight_keys signature)) (key_for_three by_owner)),
+          inr (lit≤ tt, inl (refl, λ h. omega (arith, h))),
+        ),
+      ),
+    ),
   );
 }
 
 -- ---- orders that pass
 
--- without targets and countersignatures, an order passes where these four hold, and this is what it comes to
+-- without targets and countersignatures, an order passes where these four hold
+pub plain_passes : (state : State) (layer : ℕ) (does : Act) (by_owner : List ℕ)
+    → MayBeGiven (view_of state) (plain layer does by_owner) → LogHasRoom (view_of state) (plain layer does by_owner)
+    → RegionHasRoom (view_of state) layer does → IsSigned (view_of state) (plain layer does by_owner)
+    → Passes (view_of state) (plain layer does by_owner)
+plain_passes state layer does by_owner may log keys signed = passes_by (record {
+  targets = All-nil (TargetHoldsIn (view_of state));
+  condition = may;
+  signature = signed;
+  countersignatures = All-nil (IsCountersigned (view_of state) (plain layer does by_owner));
+  log = log;
+  keys = keys;
+})
+
+-- and this is what it comes to
 obeys_plain : (state : State) (layer : ℕ) (does : Act) (by_owner : List ℕ) (number size : ℕ)
     → MayBeGiven (view_of state) (plain layer does by_owner) → LogHasRoom (view_of state) (plain layer does by_owner) → RegionHasRoom (view_of state) layer does
     → ((draw : List ℕ) → number_of (entries_of (state_after_order state (plain layer does by_owner) draw).log) ≡ number)
     → ((draw : List ℕ) → length (state_after_order state (plain layer does by_owner) draw).log ≡ size)
     → ObeysOrder state (plain layer does by_owner) number size
 obeys_plain state layer does by_owner number size may log keys numbered sized = record {
-  passes = λ signed. record {
-    targets = All-nil (TargetHoldsIn (view_of state));
-    condition = may;
-    signature = signed;
-    countersignatures = All-nil (IsCountersigned (view_of state) (plain layer does by_owner));
-    log = log;
-    keys = keys;
-  };
+  passes = plain_passes state layer does by_owner may log keys;
   done = λ text draw spelled passes. is_obeyed (record {
     order = plain layer does by_owner;
     spelled = spelled;
@@ -201,12 +225,18 @@ successions signature by_owner = record {
   done_two = obeys_plain (grown key_nearly_used signature) 2 (act.Load (seven Always (codes "abc"))) by_owner 32 34 refl (lit≤ tt) tt (λ draw. refl) (λ draw. refl);
   done_one = obeys_plain (grown key_nearly_used signature) 1 (act.Load (seven Always (codes "abc"))) by_owner 32 33 refl (lit≤ tt) tt (λ draw. refl) (λ draw. refl);
   size = refl;
-  no_room = λ signed. (
+  no_room = λ signed. inr (
     All-nil (TargetHoldsIn (view_of (grown nearly_full signature))),
-    refl,
-    signed,
-    All-nil (IsCountersigned (view_of (grown nearly_full signature)) (load_of 2 by_owner)),
-    λ h. omega (arith, h),
+    inr (
+      refl,
+      inr (
+        signed,
+        inr (
+          All-nil (IsCountersigned (view_of (grown nearly_full signature)) (load_of 2 by_owner)),
+          inl (refl, λ h. omega (arith, h)),
+        ),
+      ),
+    ),
   );
   room = obeys_plain (grown nearly_full signature) 1 (act.Load (seven Always (codes "abc"))) by_owner 127 128 refl (lit≤ tt) tt (λ draw. refl) (λ draw. refl);
 }

@@ -20,7 +20,9 @@ use Rattle.mb_model.specs.declared.event.Event.TheVariants as event
 use Rattle.mb_model.specs.declared.reply.Reply.{Reply}
 use Rattle.mb_model.specs.declared.reply.Reply.TheVariants as reply
 use Rattle.mb_model.specs.declared.state.State.{State}
+use Rattle.mb_model.specs.declared.reply.OrderRefusal.TheVariants.{WrongTarget, WrongCountersignature}
 use Rattle.mb_model.specs.declared.reply.Refusal.{Refusal}
+use Rattle.mb_model.specs.declared.state.View.{View}
 use Rattle.mb_model.specs.signatures.Signing.{public_of}
 use Rattle.mb_model.specs.records.LayerFormat.{trust_format}
 use Rattle.mb_model.specs.records.OrderFormat.{target_format, payload_format, body_format, sized_signature_format, countersignatures_format, order_format}
@@ -28,7 +30,7 @@ use Rattle.mb_model.specs.owners.Log.{device_in, last_of, layers_of}
 use Rattle.mb_model.specs.owners.Lives.{MadeKey, splits, alive_keys, ends_keys, Alive}
 use Rattle.mb_model.specs.owners.Regions.{AdmittedSince}
 use Rattle.mb_model.specs.owners.Rules.{IsFirstFailing}
-use Rattle.mb_model.specs.machine.OrderChecks.{view_of, TargetHoldsIn, IsCountersigned}
+use Rattle.mb_model.specs.machine.OrderChecks.{view_of, TargetHoldsIn, IsCountersigned, Fails}
 use Rattle.mb_model.specs.machine.OrderStep.{spells_none, fails_check, is_obeyed}
 use Rattle.mb_model.specs.machine.Machine.{Phase, World, Told, off, dead, ratchet, boot_event, running_state_in, status_of, status_event, Step, machine_step, lacks_memory, loses_power}
 use Rattle.mb_model.specs.memories.Acknowledged.{LeavesMemory, LeavesCleanMemory, AreWiping}
@@ -83,11 +85,53 @@ none_fails_first : {A : Type 0} (P : A → Type 0) (items : List A) (i : ℕ) (i
 none_fails_first P items i item none first =
     omega (arith, ap length (sym none ∙ first.split), length-append first.before (item ∷ first.rest))
 
+-- a refusal for a target is that of no other check
+no_target_fails : (view : View) (order : Order) (i : ℕ) → order.targets ≡ [] → Fails view order (WrongTarget i) → ⊥
+no_target_fails view order i none first = elim first as (λ f. ⊥) [
+  | inl x ↦ none_fails_first (TargetHoldsIn view) order.targets x.0 x.1 none x.3
+  | inr a ↦ elim a.1 as (λ f. ⊥) [
+    | inl x ↦ absurd (grind (arith, x.0))
+    | inr b ↦ elim b.1 as (λ f. ⊥) [
+      | inl x ↦ absurd (grind (arith, x.0))
+      | inr c ↦ elim c.1 as (λ f. ⊥) [
+        | inl x ↦ absurd (grind (arith, x.2))
+        | inr d ↦ elim d.1 as (λ f. ⊥) [
+          | inl x ↦ absurd (grind (arith, x.0))
+          | inr e ↦ elim e.1 as (λ f. ⊥) [
+            | inl x ↦ absurd (grind (arith, x.0))
+            | inr f ↦ absurd f.1
+          ]
+        ]
+      ]
+    ]
+  ]
+]
+
+no_countersignature_fails : (view : View) (order : Order) → order.countersignatures ≡ [] → Fails view order (WrongCountersignature 3) → ⊥
+no_countersignature_fails view order none first = elim first as (λ f. ⊥) [
+  | inl x ↦ absurd (grind (arith, x.2))
+  | inr a ↦ elim a.1 as (λ f. ⊥) [
+    | inl x ↦ absurd (grind (arith, x.0))
+    | inr b ↦ elim b.1 as (λ f. ⊥) [
+      | inl x ↦ absurd (grind (arith, x.0))
+      | inr c ↦ elim c.1 as (λ f. ⊥) [
+        | inl x ↦ none_fails_first (IsCountersigned view order) order.countersignatures x.0 x.1 none x.3
+        | inr d ↦ elim d.1 as (λ f. ⊥) [
+          | inl x ↦ absurd (grind (arith, x.0))
+          | inr e ↦ elim e.1 as (λ f. ⊥) [
+            | inl x ↦ absurd (grind (arith, x.0))
+            | inr f ↦ absurd f.1
+          ]
+        ]
+      ]
+    ]
+  ]
+]
+
 pub refusals : (state : State) (order : Order) → RefusalCounterExamples state order
 refusals state order = record {
-  no_target = λ i none fails. none_fails_first (TargetHoldsIn (view_of state)) order.targets i fails.0 none fails.1;
-  no_countersignature = λ none fails.
-      none_fails_first (IsCountersigned (view_of state) order) order.countersignatures fails.3.0 fails.3.1 none fails.3.3;
+  no_target = λ i none fails. no_target_fails (view_of state) order i none fails;
+  no_countersignature = λ none fails. no_countersignature_fails (view_of state) order none fails;
   passing = λ refusal passes fails. passes_fail_nothing (view_of state) order refusal passes fails;
 }
 

@@ -1,6 +1,6 @@
 -- The signed order, verified by computing. A declaration may take so many steps and no more, so the chains of the one-time
 -- key are computed in rows of a few.
-use Rattle.std.proofs.Common.{◌≡◌, ℕ, zero, suc, ◌+◌, ◌^◌, ◌≤◌, List, [], ◌∷◌, ◌++◌, length, take, drop, get_or, refl, sym, ap, ◌∙◌, arith, append_assoc, append-nil, lit<, lit≤, add-suc}
+use Rattle.std.proofs.Common.{◌≡◌, ℕ, zero, suc, ◌+◌, ◌^◌, ◌≤◌, List, [], ◌∷◌, ◌++◌, length, take, drop, get_or, inl, inr, refl, sym, ap, ◌∙◌, arith, append_assoc, append-nil, lit<, lit≤, add-suc}
 use Rattle.std.specs.Prelude.{codes}
 use Rattle.std.specs.Int.{w32, to_be_bytes, from_be_bytes}
 use Rattle.std.proofs.lemmas.List.{take-append-le, drop-append-le, length-drop}
@@ -18,8 +18,8 @@ use Rattle.mb_model.specs.records.OrderFormat.{target_format, payload_format, bo
 use Rattle.mb_model.specs.machine.SignedTexts.{order_text}
 use Rattle.mb_model.specs.signatures.Winternitz.{coef, shortfall, checksum, digits_of, message_hash, one_time_key_mark, chain_step, value_after_count, value_after_steps, value_at, chain_ends, one_time_key}
 use Rattle.mb_model.specs.signatures.Merkle.{leaf_node, inner_node, parent_node, climb, leaf_number, randomizer, chain_values, path_in, root_from, hash_of, HasForm, Verifies}
-use Rattle.mb_model.specs.declared.reply.Refusal.TheVariants.{WrongSignature}
-use Rattle.mb_model.specs.machine.OrderChecks.{TargetHoldsIn, IsCountersigned, view_of}
+use Rattle.mb_model.specs.declared.reply.OrderRefusal.TheVariants.{WrongSignature}
+use Rattle.mb_model.specs.machine.OrderChecks.{TargetHoldsIn, view_of}
 use Rattle.mb_model.specs.machine.OrderEffects.{entry_signed_by, state_after_succession, state_after_change}
 use Rattle.mb_model.specs.machine.OrderEffects.{state_after_order}
 use Rattle.mb_model.specs.machine.OrderStep.{fails_check, is_obeyed}
@@ -27,6 +27,7 @@ use Rattle.mb_model.proofs.OrderFormatLaws.{order_exact}
 use Rattle.mb_model_examples.specs.RecordValues.{bytes_of}
 use Rattle.mb_model_examples.specs.SignedOrder.{owner_one, unended_signature, good_signature, flipped_signature, establish_order, order_bytes, newborn, VerifiedOrders}
 use Rattle.mb_model_examples.proofs.RecordProofs.{spells}
+use Rattle.mb_model_examples.proofs.OrderProofs.{plain_passes}
 
 -- ---- chains in rows
 
@@ -250,14 +251,7 @@ verified signature draw = record {
   obeyed_order = is_obeyed (record {
     order = establish_order good_signature;
     spelled = spells order_exact (order_bytes good_signature) (establish_order good_signature) refl refl;
-    passes = record {
-      targets = All-nil (TargetHoldsIn (view_of (newborn signature)));
-      condition = refl;
-      signature = good;
-      countersignatures = All-nil (IsCountersigned (view_of (newborn signature)) (establish_order good_signature));
-      log = lit≤ tt;
-      keys = tt;
-    };
+    passes = plain_passes (newborn signature) 2 (establish_order good_signature).act good_signature refl (lit≤ tt) tt good;
     follows = refl;
     answered = refl;
   });
@@ -265,7 +259,7 @@ verified signature draw = record {
     order = establish_order flipped_signature;
     spelled = spells order_exact (order_bytes flipped_signature) (establish_order flipped_signature) refl refl;
     refusal = WrongSignature;
-    fails = (All-nil (TargetHoldsIn (view_of (newborn signature))), refl, flipped);
+    fails = inr (All-nil (TargetHoldsIn (view_of (newborn signature))), inr (refl, inl (refl, flipped)));
     answered = refl;
     stays = refl;
   });

@@ -1,6 +1,6 @@
 -- The counterexamples of texts, draws and new devices, refuted.
-use Rattle.std.proofs.Common.{◌≡◌, ℕ, List, [], ◌∷◌, ◌++◌, length, Option, Some, ◌≤◌, inl, refl, sym, ap, subst, ◌∙◌, arith, lit<, lit≤}
-use Rattle.std.specs.Prelude.{codes, slice_index, ◌%◌, IfSome}
+use Rattle.std.proofs.Common.{◌≡◌, ℕ, List, [], ◌∷◌, ◌++◌, length, inl, refl, sym, ap, subst, ◌∙◌, arith, lit<, lit≤}
+use Rattle.std.specs.Prelude.{codes, slice_index, ◌%◌}
 use Rattle.std.proofs.lemmas.Bool.{false≢true}
 use Rattle.std.proofs.lemmas.List.Elements.{All-tail, All-same}
 use Rattle.mb_format.specs.Format.{Spells}
@@ -10,7 +10,6 @@ use Rattle.mb_model.specs.declared.event.Event.TheVariants as event
 use Rattle.mb_model.specs.declared.order.Order.{Order}
 use Rattle.mb_model.specs.declared.state.State.{State}
 use Rattle.mb_model.specs.memories.Memory.{IsImage, IsBlank, life_byte, selector_of}
-use Rattle.mb_model.specs.outside.Pieces.{part}
 use Rattle.mb_model.specs.memories.WrittenFlash.{written_flash}
 use Rattle.mb_model.specs.memories.WrittenImage.{written_bbram, written_image, IsWrittenFor}
 use Rattle.mb_model.specs.records.ChainFormat.{statement_format}

@@ -20,7 +20,8 @@ use Rattle.mb_model.specs.declared.entry.Entry.TheVariants.{Birth, Change}
 use Rattle.mb_model.specs.declared.reply.Reply.TheVariants as reply
 use Rattle.mb_model.specs.declared.state.State.{State}
 use Rattle.mb_model.specs.owners.Layers.{equal_trusts, layer_without_owner}
-use Rattle.mb_model.specs.declared.reply.Refusal.TheVariants.{WrongTarget, WrongCountersignature, LogFull, KeysFull}
+use Rattle.mb_model.specs.declared.reply.OrderRefusal.TheVariants.{WrongTarget, WrongCountersignature}
+use Rattle.mb_model.specs.declared.reply.OrderRefusal.TheVariants.{LogFull, KeysFull}
 use Rattle.mb_model.specs.owners.Regions.{empty_region}
 use Rattle.mb_model.specs.records.OrderFormat.{order_format}
 use Rattle.mb_model.specs.machine.OrderChecks.{view_of, IsSigned, IsCountersigned, Fails, Passes}

@@ -1,6 +1,6 @@
 -- Steps, runs and logs for which the definitions do not hold; the checker refutes each line. Is any definition true of
 -- everything that a device might do?
-use Rattle.std.specs.Prelude.{◌≡◌, ◌≢◌, ℕ, ◌<◌, List, [], ◌∷◌, ◌++◌, length, take, get_or, Option, None, Some, true}
+use Rattle.std.specs.Prelude.{◌≡◌, ◌≢◌, ℕ, ◌<◌, List, [], ◌∷◌, ◌++◌, length, take, get_or, None, Some, true}
 use Rattle.std.specs.Prelude.{false}
 use Rattle.mb_model.specs.declared.key.PublicKey.{PublicKey}
 use Rattle.mb_model.specs.declared.order.ChangeKind.TheVariants.{Load}
@@ -16,8 +16,8 @@ use Rattle.mb_model.specs.declared.event.Event.TheVariants as event
 use Rattle.mb_model.specs.declared.reply.Reply.{Reply}
 use Rattle.mb_model.specs.declared.reply.Reply.TheVariants as reply
 use Rattle.mb_model.specs.declared.state.State.{State}
-use Rattle.mb_model.specs.declared.reply.Refusal.{Refusal}
-use Rattle.mb_model.specs.declared.reply.Refusal.TheVariants.{WrongTarget, WrongCountersignature}
+use Rattle.mb_model.specs.declared.reply.OrderRefusal.{OrderRefusal}
+use Rattle.mb_model.specs.declared.reply.OrderRefusal.TheVariants.{WrongTarget, WrongCountersignature}
 use Rattle.mb_model.specs.owners.Log.{device_in}
 use Rattle.mb_model.specs.owners.Lives.{Alive}
 use Rattle.mb_model.specs.owners.Regions.{empty_region, KeyAdmitted, RegionKeptRightly}
@@ -57,7 +57,7 @@ pub record RefusalCounterExamples (state : State) (order : Order) : Type 0 where
   -- a countersignature of layer 3, if the order has none
   pub no_countersignature : order.countersignatures ≡ [] → Fails (view_of state) order (WrongCountersignature 3) → ⊥
   -- any check, if the order passes all
-  pub passing : (refusal : Refusal) → Passes (view_of state) order → Fails (view_of state) order refusal → ⊥
+  pub passing : (refusal : OrderRefusal) → Passes (view_of state) order → Fails (view_of state) order refusal → ⊥
 
 -- answers that no event has, and worlds to which no event leads
 pub record StepCounterExamples (world next : World) : Type 0 where

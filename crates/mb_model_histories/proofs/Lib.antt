@@ -22,5 +22,6 @@ pub mod UseLemmas
 pub mod KeyLemmas
 pub mod RegionEventLemmas
 pub mod KeyFileLemmas
+pub mod NoiseStates
 pub mod NoiseLemmas
 pub mod OldKeyLemmas

@@ -25,6 +25,7 @@ use Rattle.mb_model.specs.owners.Regions.{empty_region, region_of}
 use Rattle.mb_model.specs.owners.Rules.{kind_of, change_of, Condition, layer_from_order, signing_layer}
 use Rattle.mb_model.specs.machine.SignedTexts.{order_text, IsSignedBy}
 use Rattle.mb_model.specs.memories.Valid.{IsValidState, Valid}
+use Rattle.mb_model.proofs.Passed.{passed}
 use Rattle.mb_model_lemmas.proofs.RegionLemmas.{at_upper}
 use Rattle.mb_model_lemmas.proofs.RuleLemmas.{ruled_are_layers}
 use Rattle.mb_model_lemmas.proofs.ValidStates.{valid_is_ruled, region_is_valid}
@@ -62,7 +63,7 @@ pub orders_change_their_layer : (here next : World) (this : Event) (order : Orde
     → Becomes obeyed.before order layer (layer_of after.layers layer)
 orders_change_their_layer here next this order after layer obeyed now =
     let same : state_after_order obeyed.before order obeyed.draw ≡ after = same_Some (state_after_order obeyed.before order obeyed.draw) after (sym obeyed.is ∙ now) in
-    subst (λ (s : State). Becomes obeyed.before order layer (layer_of s.layers layer)) same (ordered_becomes obeyed.before order obeyed.draw layer obeyed.passes.signature)
+    subst (λ (s : State). Becomes obeyed.before order layer (layer_of s.layers layer)) same (ordered_becomes obeyed.before order obeyed.draw layer (passed obeyed.passes).signature)
 
 -- ---- owners
 
@@ -156,7 +157,7 @@ stay_over_run first last (this ∷ rest) a b layer owner run is_a is_b owned =
           let by : ObeysAt first this.event run.0 ordered.0 = ordered.1 in
           let same : a ≡ by.before = same_Some a by.before (sym is_a ∙ by.was) in
           let own : (layer_of by.before.layers layer).owner ≡ Some owner = ap (λ (s : State). (layer_of s.layers layer).owner) (sym same) ∙ owned in
-          elim (owner_after by.before ordered.0 layer (layer_of mid.layers layer) owner (orders_change_their_layer first run.0 this.event ordered.0 mid layer by between.1) own by.passes.condition by.passes.signature) [
+          elim (owner_after by.before ordered.0 layer (layer_of mid.layers layer) owner (orders_change_their_layer first run.0 this.event ordered.0 mid layer by between.1) own (passed by.passes).condition (passed by.passes).signature) [
             | inl still ↦ go_on still
             | inr gives ↦ inr (upper_is_two layer gives.2, gave_first first run.0 last this rest layer owner ordered.0 by run.2 gives)
           ]

@@ -5,6 +5,7 @@ use Rattle.std.proofs.lemmas.List.Elements.{All-nil, All-cons}
 use Rattle.std.proofs.lemmas.Option.{same_Some}
 use Rattle.mb_format.specs.Combinators.{items}
 use Rattle.mb_format.specs.Format.{Spells}
+use Rattle.mb_model.proofs.Passed.{passed, passes_by}
 use Rattle.mb_model.proofs.OrderFormatLaws.{form_listed, given_allowed}
 use Rattle.mb_model.specs.declared.event.Answered.{Answered}
 use Rattle.mb_model.specs.declared.event.Event.TheVariants as event
@@ -156,12 +157,14 @@ module _ (here : World) (state : State) (keyfile : Keyfile) (layer : ℕ) (a : A
       let spelled : Spells order_format (order_format.spelling given) given = record { allowed = plain_allowed keyfile layer a allowed; whole = refl } in
       let on : World = record here { phase = ratchet 1 } in
       let last : World = record on { state = Some (state_after_order state given draw) } in
-      let rest : PassesTheRest state given = record {
+      let rest : PassesTheRest state given = λ signature countersignatures. passes_by (record {
         targets = All-nil (TargetHoldsIn (view_of state));
         condition = may;
+        signature = signature;
+        countersignatures = countersignatures;
         log = room;
         keys = region_room;
-      } in
+      }) in
       let signed : IsRightlySigned state given = record { key = keyfile.seed; index = keyfile.next; charge = has.owns; left = has.left; signature = refl } in
       record {
         spelled = spelled;
@@ -202,14 +205,14 @@ one_load_passes : (state : State) (keyfile : Keyfile) (targets : List Target) (p
     → All (TargetHoldsIn (view_of state)) targets → Passes (view_of state) (one_load keyfile targets payload)
 one_load_passes state keyfile targets payload valid has room hold =
     let order : Order = one_load keyfile targets payload in
-    record {
+    passes_by (record {
       targets = hold;
       condition = one_may_be_loaded state keyfile valid has;
       signature = right_signature state order (record { key = keyfile.seed; index = keyfile.next; charge = has.owns; left = has.left; signature = refl });
       countersignatures = All-nil (IsCountersigned (view_of state) order);
       log = omega (arith, one_entry state keyfile targets payload, room);
       keys = tt;
-    }
+    })
 
 pub plain_loads_are_free : PlainLoadsAreFree
 plain_loads_are_free state keyfile payload valid has room = record {
@@ -264,7 +267,7 @@ one_entry_is_not_enough state order last plain full passes =
     let needs : needs_succession (view_of state) order ≡ true =
     ap (λ (n : ℕ). n == LAST_INDEX && not (renews (change_by order) order.layer)) last ∙ ap (λ (b : Bool). not b) plain in
     let two : entries_needed (view_of state) order ≡ 2 = ap (λ (b : Bool). if b then 2 else 1) needs in
-    omega (arith, passes.log, two, full)
+    omega (arith, (passed passes).log, two, full)
 
 -- ---- what nobody else can do
 
@@ -351,7 +354,7 @@ recovered_over_run first last (this ∷ rest) a b layer run is_a is_b was now =
               let same : a ≡ obeyed.before = same_Some a obeyed.before (sym is_a ∙ obeyed.was) in
               let own : (layer_of obeyed.before.layers layer).reliable ≡ false = ap (λ (s : State). (layer_of s.layers layer).reliable) (sym same) ∙ was in
               let repair = repair_after obeyed.before ordered.0 layer (layer_of mid.layers layer) (orders_change_their_layer first run.0 this.event ordered.0 mid layer obeyed is_mid)
-              own turned obeyed.passes.condition obeyed.passes.signature in
+              own turned (passed obeyed.passes).condition (passed obeyed.passes).signature in
               recovered_first first run.0 last this rest layer ordered.0 obeyed run.2 repair
         ]
 

@@ -10,6 +10,7 @@ use Rattle.mb_model.specs.declared.region.Secret.{Secret}
 use Rattle.mb_model.specs.declared.reply.Reply.{Reply}
 use Rattle.mb_model.specs.declared.reply.Reply.TheVariants as reply
 use Rattle.mb_model.specs.declared.reply.Refusal.{Refusal}
+use Rattle.mb_model.specs.declared.reply.Refusal.TheVariants as refused
 use Rattle.mb_model.specs.declared.reply.Refusal.TheVariants.{WrongPhase, WrongLayer, BadText}
 use Rattle.mb_model.specs.declared.state.State.{State}
 use Rattle.mb_model.specs.owners.Layers.{is_runnable}
@@ -136,7 +137,7 @@ order_left here text draw on answer after next refusal was same stays told =
 order_comes : (here : World) (text draw : List ℕ) (on : ℕ × State) (answer : Reply) (after : State) (next : World) → running_state_in here ≡ Ok on → on.0 ≡ 1
     → next ≡ record here { state = Some after } → OrderStep on.1 text draw answer after → ComesTo here (event.Order text draw) answer next
 order_comes here text draw on answer after next is first same (spells_none p) = order_left here text draw on answer after next BadText (awake_state here.phase here.state on is) same p.stays p.answered
-order_comes here text draw on answer after next is first same (fails_check p) = order_left here text draw on answer after next p.refusal (awake_state here.phase here.state on is) same p.stays p.answered
+order_comes here text draw on answer after next is first same (fails_check p) = order_left here text draw on answer after next (refused.Order p.refusal) (awake_state here.phase here.state on is) same p.stays p.answered
 order_comes here text draw on answer after next is first same (is_obeyed p) = obeys p.order (record {
   text = text;
   draw = draw;

@@ -33,6 +33,7 @@ use Rattle.mb_model.specs.machine.OrderStep.{OrderStep, is_obeyed}
 use Rattle.mb_model.specs.owners.Rules.{kind_of, change_of, is_load, layer_from_order, loaded_layer, signing_layer}
 use Rattle.mb_model.specs.owners.Rules.{Condition}
 use Rattle.mb_model.specs.machine.SignedTexts.{order_text, countersigned_text, IsSignedBy}
+use Rattle.mb_model.proofs.Passed.{passed, passes_by}
 use Rattle.mb_model_memory.proofs.CommitLemmas.{obeyed_serial}
 use Rattle.mb_model_runs.proofs.GrowthLemmas.{logs_grow}
 use Rattle.mb_model_runs.proofs.KeptByRuns.{IsKept, run_kept}
@@ -56,7 +57,7 @@ run_long first last answered a b run is_a is_b =
     omega (arith, whole, start)
 
 target_holds : (here next : World) (this : Event) (order : Order) (target : Target) → (by : ObeysAt here this next order) → Contains order.targets target → TargetHoldsIn (view_of by.before) target
-target_holds here next this order target by within = All-contains (TargetHoldsIn (view_of by.before)) order.targets target by.passes.targets within
+target_holds here next this order target by within = All-contains (TargetHoldsIn (view_of by.before)) order.targets target (passed by.passes).targets within
 
 pub length_targets_count_once : (here after there beyond : World) (this that : Event) (one other : Order) (n : ℕ)
     → ObeysAt here this after one → Contains one.targets (Length n) → ComesAfter there after → ObeysAt there that beyond other → Contains other.targets (Length n) → ⊥
@@ -72,8 +73,8 @@ length_targets_count_once here after there beyond this that one other n first of
 pub bound_orders_pass_once : (state : State) (order : Order) (draw : List ℕ) (n : ℕ) → Passes (view_of state) order → Contains order.targets (Length n)
     → Passes (view_of (state_after_order state order draw)) order → ⊥
 bound_orders_pass_once state order draw n passes within again =
-    let now : n ≡ length state.log = All-contains (TargetHoldsIn (view_of state)) order.targets (Length n) passes.targets within in
-    let later : n ≡ length (state_after_order state order draw).log = All-contains (TargetHoldsIn (view_of (state_after_order state order draw))) order.targets (Length n) again.targets within in
+    let now : n ≡ length state.log = All-contains (TargetHoldsIn (view_of state)) order.targets (Length n) (passed passes).targets within in
+    let later : n ≡ length (state_after_order state order draw).log = All-contains (TargetHoldsIn (view_of (state_after_order state order draw))) order.targets (Length n) (passed again).targets within in
     let longer : length state.log < length (state_after_order state order draw).log = ordered_longer state order draw in
     omega (arith, now, later, longer)
 
@@ -147,7 +148,7 @@ obeyed_room : (here next : World) (this : Event) (order : Order) → ObeysAt her
 unfolding room
 obeyed_room here next this order by =
     let longer : length by.before.log < length (state_after_order by.before order by.draw).log = ordered_longer by.before order by.draw in
-    let fits : length by.before.log < 128 = finds_room by.before order by.passes.log in
+    let fits : length by.before.log < 128 = finds_room by.before order (passed by.passes).log in
     let now : room next.state ≡ 128 - length (state_after_order by.before order by.draw).log = ap room by.is in
     let was : room here.state ≡ 128 - length by.before.log = ap room by.was in
     omega (arith, longer, fits, now, was)
@@ -206,7 +207,7 @@ pub full_logs_obey_nothing : (first here next : World) (this : Event) (order : O
 full_logs_obey_nothing first here next this order state is full comes by =
     let leads = runs_lead first here by.before comes by.was in
     let long : length state.log ≤ length by.before.log = run_long first here leads.0 state by.before leads.1 is by.was in
-    let fits : length by.before.log < 128 = finds_room by.before order by.passes.log in
+    let fits : length by.before.log < 128 = finds_room by.before order (passed by.passes).log in
     omega (arith, full, long, fits)
 
 -- ---- loads that come again
@@ -231,7 +232,7 @@ module _ (state : State) (order : Order) (draw : List ℕ) (passes : Passes (vie
   -- each layer has the same owner as before
   same_owner : (m : ℕ) → (layer_of next.layers m).owner ≡ (layer_of state.layers m).owner
   unfolding next
-  same_owner m = owner_becomes state order m (layer_of next.layers m) load (ordered_becomes state order draw m passes.signature)
+  same_owner m = owner_becomes state order m (layer_of next.layers m) load (ordered_becomes state order draw m (passed passes).signature)
 
   given_again : (a : Act) → order.act ≡ a → Condition state.layers (change_of (kind_of a)) order.layer → IsTrue (is_load (change_of (kind_of a))) → Condition next.layers (change_of (kind_of a)) order.layer
   unfolding next
@@ -259,16 +260,16 @@ module _ (state : State) (order : Order) (draw : List ℕ) (passes : Passes (vie
 
   passes_again : order.targets ≡ [] → LogHasRoom (view_of next) order → Passes (view_of next) order
   unfolding next
-  passes_again no_targets has_room = record {
+  passes_again no_targets has_room = passes_by (record {
     targets = subst (All (TargetHoldsIn (view_of next))) (sym no_targets) (All-nil (TargetHoldsIn (view_of next)));
-    condition = given_again order.act refl passes.condition load;
-    signature = subst (λ (owner : Option PublicKey). IsSignedBy owner (order_text (order_body order)) order.signature) (sym (same_owner (signing_layer (change_by order) order.layer))) passes.signature;
+    condition = given_again order.act refl (passed passes).condition load;
+    signature = subst (λ (owner : Option PublicKey). IsSignedBy owner (order_text (order_body order)) order.signature) (sym (same_owner (signing_layer (change_by order) order.layer))) (passed passes).signature;
     countersignatures = All-weaker (IsCountersigned (view_of state) order) (IsCountersigned (view_of next) order)
         (λ by signed. subst (λ (owner : Option PublicKey). IsSignedBy owner (countersigned_text by.layer (order_body order)) by.signature) (sym (same_owner by.layer)) signed)
-        order.countersignatures passes.countersignatures;
+        order.countersignatures (passed passes).countersignatures;
     log = has_room;
     keys = no_key_is_made order.act load;
-  }
+  })
 
 pub free_loads_pass_again : FreeLoadsPassAgain
 unfolding next
@@ -343,7 +344,7 @@ module _ (order : Order) (text draw : List ℕ) (spelled : Spells order_format t
   }
 
   fills : (left : ℕ) (here : World) (state : State) → here.phase ≡ ratchet 1 → here.state ≡ Some state → IsFreeLoad state order → 128 ≤ length state.log + left → IsFilling here order text draw
-  fills zero here state at was free close = absurd (omega (arith, close, finds_room state order free.passes.log))
+  fills zero here state at was free close = absurd (omega (arith, close, finds_room state order (passed free.passes).log))
   fills (suc left) here state at was free close =
       let after : State = state_after_order state order draw in
       let there : World = record here { state = Some after } in

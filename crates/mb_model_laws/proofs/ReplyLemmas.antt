@@ -14,12 +14,8 @@ use Rattle.mb_model.specs.declared.reply.Standing.TheVariants as stands
 use Rattle.mb_model.specs.outside.Texts.{IsHex}
 use Rattle.mb_model.specs.chains.Lines.{hex_word}
 use Rattle.mb_model.specs.declared.reply.Refusal.{Refusal}
-use Rattle.mb_model.specs.declared.reply.Refusal.TheVariants.{PoweredOff, WrongPhase, Zeroised, WrongLayer}
-use Rattle.mb_model.specs.declared.reply.Refusal.TheVariants.{RegionFull, NoSuchKey, KeySpent, BadText, WrongTarget}
-use Rattle.mb_model.specs.declared.reply.Refusal.TheVariants.{WrongState, WrongSignature, WrongCountersignature}
-use Rattle.mb_model.specs.declared.reply.Refusal.TheVariants.{LogFull, KeysFull}
-use Rattle.mb_model.specs.machine.Refusals.{refusal_reply}
-use Rattle.mb_model.specs.chains.Replies.{HasLine, standing_word, refusal_words, reply_line}
+use Rattle.mb_model.specs.machine.Refusals.{refusal_words, refusal_reply}
+use Rattle.mb_model.specs.chains.Replies.{HasLine, standing_word, reply_line}
 use Rattle.mb_model_laws.specs.TextLaws.{IsReplyInRange}
 use Rattle.mb_model_lemmas.proofs.LineLemmas.{Without, isnt, first_same}
 use Rattle.mb_model_lemmas.proofs.WordLemmas.{number_front, limited_fits, IsHex-same, hex_word-read}
@@ -124,17 +120,4 @@ reply_line-same a b ra rb e = two_replies a b (λ same. omega (arith, same)) e
 -- ---- refusals
 
 pub has_words : (refusal : Refusal) → HasLine (refusal_reply refusal)
-has_words PoweredOff = refl
-has_words WrongPhase = refl
-has_words Zeroised = refl
-has_words WrongLayer = refl
-has_words RegionFull = refl
-has_words NoSuchKey = refl
-has_words KeySpent = refl
-has_words BadText = refl
-has_words (WrongTarget place) = refl
-has_words WrongState = refl
-has_words WrongSignature = refl
-has_words (WrongCountersignature m) = refl
-has_words LogFull = refl
-has_words KeysFull = refl
+has_words refusal = grind arith

@@ -15,6 +15,7 @@ use Rattle.mb_model.specs.outside.Pieces.{part}
 use Rattle.mb_model.specs.records.HeaderFormat.{slot_format, unsigned_limit, unsigned_format, header_format, log_format}
 use Rattle.mb_model.specs.memories.Sectors.{code_sector, log_sector, BeginsAs}
 use Rattle.mb_model.specs.memories.Flash.{sector, code_slot, HoldsHeader, HoldsCode, HoldsEntry, HoldsLog, AreBytesOf, HoldsPublic}
+use Rattle.mb_model.proofs.AllowedFields.{header_fields}
 use Rattle.mb_model_lemmas.specs.FormLaws.{HoldsFittingParts}
 use Rattle.mb_model_lemmas.specs.SegmentLaws.{IsSmallHeader, HeldSegmentsFit, SpellsLog}
 use Rattle.mb_model_lemmas.proofs.LogLemmas.{split_push}
@@ -23,14 +24,16 @@ use Rattle.mb_model_lemmas.proofs.Splits.{All-from_splits}
 -- ---- what stands can be spelled
 
 pub small_header : (header : Header) → header_format.Allowed header → IsSmallHeader header
-unfolding header_format slot_format
-small_header header is = record {
-  one = is.1.0.0.1;
-  two = is.1.1.0.0.1;
-  three = is.1.1.1.0.0.1;
-  least = is.1.1.1.1.0.0;
-  most = is.1.1.1.1.0.1;
-}
+unfolding slot_format
+small_header header is =
+    let its = header_fields header is in
+    record {
+      one = its.one.0.1;
+      two = its.two.0.1;
+      three = its.three.0.1;
+      least = its.some_signed;
+      most = its.few_signed;
+    }
 
 pub small_held : (flash : List ℕ) (area : ℕ) (header : Header) → HoldsHeader flash area header → IsSmallHeader header
 small_held flash area header holds = small_header header holds.spelled.allowed
@@ -86,9 +89,9 @@ texts_few signed (Some first) (Some second) (u ∷ []) is are = absurd are
 texts_few signed (Some first) (Some second) (u ∷ v ∷ []) is are = is.0.1
 texts_few signed (Some first) (Some second) (u ∷ v ∷ w ∷ us) is are = absurd are
 
-pub header_texts : (header : Header) → header_format.Allowed header → (unsigned_format header.signed).Allowed (header.first, header.second)
-unfolding header_format
-header_texts header is = is.1.1.1.1.1
+pub header_texts : (header : Header) → header_format.Allowed header
+    → (unsigned_format header.signed).Allowed (header.first, header.second)
+header_texts header is = (header_fields header is).texts
 
 pub segments_fit : HeldSegmentsFit
 segments_fit flash root codes signed unsigned holds =

@@ -1,5 +1,6 @@
 -- What a flash of the form before holds: one list of codes and one log, which a device has room for.
-use Rattle.std.proofs.Common.{◌≡◌, ◌≤◌, ℕ, List, [], ◌∷◌, ◌++◌, length, map, Option, None, Some, refl, ap, sym, ◌∙◌, arith, length-append}
+use Rattle.std.proofs.Common.{◌≡◌, ◌≤◌, ◌+◌, ℕ, List, [], ◌∷◌, ◌++◌, length, map}
+use Rattle.std.proofs.Common.{Option, None, Some, refl, ap, sym, ◌∙◌, subst, arith, length-append}
 use Rattle.std.specs.Prelude.{IfSome, unwrap_or}
 use Rattle.std.proofs.lemmas.List.{length-map}
 use Rattle.mb_model.specs.declared.entry.Entry.{Entry}
@@ -11,9 +12,10 @@ use Rattle.mb_model.specs.memories.PublicRecord.{code_format, codes_format, publ
 use Rattle.mb_model.specs.memories.OldFlash.{flash_area, with_signature, without_signature, public_of_parts, HeldPublic}
 use Rattle.mb_model.specs.memories.WrittenFlash.{CodesFitSlots}
 use Rattle.mb_model.proofs.RecordFormatLaws.{public_exact}
+use Rattle.mb_model.proofs.AllowedFields.{codes_fields, public_fields}
 use Rattle.mb_model_lemmas.specs.FormLaws.{HoldsOnePublic, HoldsFittingParts}
 use Rattle.mb_model_lemmas.proofs.MeaningLemmas.{one_begun, IsBytes-flash_area}
-use Rattle.mb_model_lemmas.proofs.PublicLemmas.{public_few, public_entries, signed_front, unsigned_rest}
+use Rattle.mb_model_lemmas.proofs.PublicLemmas.{public_entries, signed_front, unsigned_rest}
 
 -- ---- stored entries are signed ones and unsigned ones in one way
 
@@ -68,23 +70,26 @@ old_holds_one flash root cs ds ss ts us vs are one other =
 code_short : (code : Option (List ℕ)) → code_format.Allowed code → IfSome code (λ bytes. length bytes ≤ 32768)
 unfolding code_format
 code_short None is = tt
-code_short (Some code) is = is.1.0.1
+code_short (Some code) (_, (size, _)) = size.1
 
 pub codes_short : (codes : Codes) → codes_format.Allowed codes → CodesFitSlots codes
-unfolding codes_format
-codes_short codes is = record { one = code_short codes.one is.0; two = code_short codes.two is.1.0; three = code_short codes.three is.1.1 }
-
-public_codes : (public : Public) → public_format.Allowed public → codes_format.Allowed public.codes
-unfolding public_format
-public_codes public is = is.1.0
+codes_short codes is =
+    let its = codes_fields codes is in
+    record { one = code_short codes.one its.one; two = code_short codes.two its.two; three = code_short codes.three its.three }
 
 pub old_parts_fit : HoldsFittingParts HeldPublic
 old_parts_fit flash root codes signed unsigned held =
     let public : Public = public_of_parts codes signed unsigned in
     let allowed : public_format.Allowed public = held.begins.spelled.allowed in
+    let its = public_fields public allowed in
+    let count : length public.entries ≡ length signed + length unsigned =
+    length-append (map with_signature signed) (map without_signature unsigned)
+    ∙ ap (λ (n : ℕ). n + length (map without_signature unsigned)) (length-map signed with_signature)
+    ∙ ap (λ (n : ℕ). length signed + n) (length-map unsigned without_signature)
+    in
     record {
-      codes_fit = codes_short codes (public_codes public allowed);
+      codes_fit = codes_short codes its.codes;
       signed_allowed = signed_front signed (map without_signature unsigned) (public_entries public allowed);
       unsigned_allowed = unsigned_rest signed unsigned (public_entries public allowed);
-      together = omega (arith, public_few public allowed, length-append (map with_signature signed) (map without_signature unsigned), length-map signed with_signature, length-map unsigned without_signature);
+      together = subst (λ (n : ℕ). n ≤ 128) count its.few;
     }

@@ -36,6 +36,7 @@ use Rattle.mb_model.specs.machine.OrderStep.{OrderStep, spells_none, fails_check
 use Rattle.mb_model.specs.machine.LayerEvents.{Outcome, put_event, get_event, drop_event, sign_event}
 use Rattle.mb_model.specs.machine.Machine.{Phase, off, dead, ratchet, World, Told, boot_event, running_state, running_state_in, status_event, go_event, region_event, CommandStep, Machine, Step, machine_step, lacks_memory, loses_power, Run}
 use Rattle.mb_model.specs.memories.Valid.{IsValidState, Valid}
+use Rattle.mb_model.proofs.Passed.{passed}
 use Rattle.mb_model_lemmas.proofs.LogLemmas.{used-push}
 use Rattle.mb_model_lemmas.specs.RegionLaws.{KeepsStatesValid}
 use Rattle.mb_model_lemmas.proofs.ValidStates.{put_keeps, get_keeps, drop_keeps, sign_keeps}
@@ -144,13 +145,13 @@ obeyed_valid state order draw valid allowed passes =
       | true ↦ λ e.
           let last : uses_of_device_key (entries_of state.log) ≡ 31 = needed_last (uses_of_device_key (entries_of state.log)) (renews (change_of (kind_of order.act)) order.layer) e in
           carried_by (state_after_succession state draw) order draw order.act refl (succeeded_valid state draw valid last)
-          (over_succession_condition state draw (change_of (kind_of order.act)) order.layer passes.condition) above
-          (over_succession_signed state draw order passes.countersignatures)
+          (over_succession_condition state draw (change_of (kind_of order.act)) order.layer (passed passes).condition) above
+          (over_succession_signed state draw order (passed passes).countersignatures)
           (λ f. absurd (never (uses_of_device_key (entries_of (state_after_succession state draw).log)) f (used_anew state draw)))
-          (over_succession_room state draw order.layer order.act passes.keys)
+          (over_succession_room state draw order.layer order.act (passed passes).keys)
       | false ↦ λ e.
-          carried_by state order draw order.act refl valid passes.condition above passes.countersignatures
-          (not_needed (uses_of_device_key (entries_of state.log)) (renews (change_of (kind_of order.act)) order.layer) e) passes.keys
+          carried_by state order draw order.act refl valid (passed passes).condition above (passed passes).countersignatures
+          (not_needed (uses_of_device_key (entries_of state.log)) (renews (change_of (kind_of order.act)) order.layer) e) (passed passes).keys
     ]) refl
 
 pub order_step_valid : (state : State) (text draw : List ℕ) (answer : Reply) (next : State) → IsValidState state → OrderStep state text draw answer next → IsValidState next

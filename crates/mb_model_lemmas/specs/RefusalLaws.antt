@@ -8,7 +8,7 @@ use Rattle.mb_model.specs.declared.reply.Reply.{Reply}
 use Rattle.mb_model.specs.declared.reply.Reply.TheVariants as reply
 use Rattle.mb_model.specs.declared.state.State.{State}
 use Rattle.mb_model.specs.declared.state.View.{View}
-use Rattle.mb_model.specs.declared.reply.Refusal.{Refusal}
+use Rattle.mb_model.specs.declared.reply.OrderRefusal.{OrderRefusal}
 use Rattle.mb_model.specs.machine.OrderChecks.{Fails, Passes}
 use Rattle.mb_model.specs.machine.OrderStep.{OrderStep}
 use Rattle.mb_model.specs.machine.Machine.{Phase, off, dead, ratchet, World, Machine, Step}
@@ -43,17 +43,18 @@ MachineIsWhole =
 
 -- an order fails one check at most
 abbrev pub OneFailure : Type 0
-OneFailure = (view : View) (order : Order) (a b : Refusal) → Fails view order a → Fails view order b → a ≡ b
+OneFailure = (view : View) (order : Order) (a b : OrderRefusal) → Fails view order a → Fails view order b → a ≡ b
 
 -- an order that passes fails no check
 abbrev pub PassesFailNothing : Type 0
 PassesFailNothing =
-    (view : View) (order : Order) (refusal : Refusal) → Passes view order → Fails view order refusal → ⊥
+    (view : View) (order : Order) (refusal : OrderRefusal) → Passes view order → Fails view order refusal → ⊥
 
 -- no order neither passes nor fails a check
 abbrev pub PassesOrFails : Type 0
 PassesOrFails =
-    (view : View) (order : Order) → (Passes view order → ⊥) → ((refusal : Refusal) → Fails view order refusal → ⊥) → ⊥
+    (view : View) (order : Order) → (Passes view order → ⊥)
+    → ((refusal : OrderRefusal) → Fails view order refusal → ⊥) → ⊥
 
 -- bytes that are given as an order have one answer, and lead to one state
 abbrev pub OneOrderStep : Type 0

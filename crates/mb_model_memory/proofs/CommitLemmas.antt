@@ -38,6 +38,7 @@ use Rattle.mb_model_lemmas.proofs.OwnEntries.{appends_own}
 use Rattle.mb_model_lemmas.proofs.ValidStates.{valid_is_ruled}
 use Rattle.mb_model_lemmas.proofs.ValidOrders.{succeeded_valid}
 use Rattle.mb_model_lemmas.proofs.ValidSteps.{obeyed_valid}
+use Rattle.mb_model.proofs.Passed.{passed}
 use Rattle.mb_model_memory.specs.Commits.{root_for, committed, two_done, three_done, both_done, IsUnderWay, not_begun, only_two, only_three, has_both}
 
 -- ---- contents that mean a state
@@ -272,7 +273,7 @@ ready_fates : (state : State) (order : Order) (draw : List ℕ) → IsValidState
 unfolding state_after_order
 ready_fates state order draw valid passes =
     let same = kept_ready (λ (s : State). s.layers) state order draw (succeeded_layers state draw) in
-    subst (λ (a : Fate). AreFated (ready_for state order draw) (state_after_order state order draw) a (fate_for state order draw 3)) (sym (fate_is state order draw 2)) (subst (λ (b : Fate). AreFated (ready_for state order draw) (state_after_order state order draw) (own_fate (ready_for state order draw) order order.act draw 2) b) (sym (fate_is state order draw 3)) (fates_are (ready_for state order draw) order draw order.act (ready_valid state order draw valid) (subst (λ (l : Layers). Condition l (change_by order) order.layer) (sym same) passes.condition)))
+    subst (λ (a : Fate). AreFated (ready_for state order draw) (state_after_order state order draw) a (fate_for state order draw 3)) (sym (fate_is state order draw 2)) (subst (λ (b : Fate). AreFated (ready_for state order draw) (state_after_order state order draw) (own_fate (ready_for state order draw) order order.act draw 2) b) (sym (fate_is state order draw 3)) (fates_are (ready_for state order draw) order draw order.act (ready_valid state order draw valid) (subst (λ (l : Layers). Condition l (change_by order) order.layer) (sym same) (passed passes).condition)))
 
 pub obeyed_is_fated : (state : State) (order : Order) (draw : List ℕ) → IsValidState state → Passes (view_of state) order
     → AreFated state (state_after_order state order draw) (fate_for state order draw 2) (fate_for state order draw 3)

@@ -8,7 +8,7 @@ use Rattle.mb_model.specs.declared.order.Act.{Act}
 use Rattle.mb_model.specs.declared.order.Act.TheVariants as act
 use Rattle.mb_model.specs.declared.stored.Slot.{Slot}
 use Rattle.mb_model.specs.records.EntryFormat.{entry_format}
-use Rattle.mb_model.specs.records.HeaderFormat.{code_length_format, slot_format, entry_bytes_format, unsigned_limit, unsigned_format, header_format}
+use Rattle.mb_model.specs.records.HeaderFormat.{code_length_format, slot_format, entry_bytes_format, unsigned_limit, unsigned_format}
 use Rattle.mb_model.specs.records.OrderFormat.{differs_in, act_by}
 use Rattle.mb_model.specs.owners.Rules.{kind_of}
 use Rattle.mb_model.specs.owners.Layers.{are_equal}
@@ -16,6 +16,7 @@ use Rattle.mb_model.proofs.FormatBounds.{entry_short}
 use Rattle.mb_model_lemmas.proofs.WrittenLemmas.{entry_some, none_unsigned}
 use Rattle.mb_model_memory.specs.NextHeaders.{code_brought, slot_after}
 use Rattle.mb_model_memory.specs.FlashLaws.{EntriesHaveTexts, OrdersBringShortCode, OrderHeadersAreAllowed, SettledHeadersAreAllowed}
+use Rattle.mb_model.proofs.AllowedFields.{header_fields, header_allowed_by}
 use Rattle.mb_model_memory.proofs.StorableFormats.{code_short}
 use Rattle.mb_model_memory.proofs.StorableOrders.{order_act}
 
@@ -79,22 +80,26 @@ slot_by true new old is was = is
 slot_by false new old is was = was
 
 pub header_after_allowed : OrderHeadersAreAllowed
-unfolding header_format
-header_after_allowed old layer does first second was short texts = (
-  tt,
-  (
-    slot_by (layer == 1) (slot_after old.one does) old.one (slot_after_allowed old.one does was.1.0 short) was.1.0,
-    (
-      slot_by (layer == 2) (slot_after old.two does) old.two (slot_after_allowed old.two does was.1.1.0 short) was.1.1.0,
-      (
-        slot_by (layer == 3) (slot_after old.three does) old.three (slot_after_allowed old.three does was.1.1.1.0 short) was.1.1.1.0,
-        (was.1.1.1.1.0, texts),
-      ),
-    ),
-  ),
-)
+header_after_allowed old layer does first second was short texts =
+    let its = header_fields old was in
+    header_allowed_by _ (record {
+      one = slot_by (layer == 1) (slot_after old.one does) old.one (slot_after_allowed old.one does its.one short) its.one;
+      two = slot_by (layer == 2) (slot_after old.two does) old.two (slot_after_allowed old.two does its.two short) its.two;
+      three =
+          slot_by (layer == 3) (slot_after old.three does) old.three (slot_after_allowed old.three does its.three short) its.three;
+      some_signed = its.some_signed;
+      few_signed = its.few_signed;
+      texts = texts;
+    })
 
 pub header_settled_allowed : SettledHeadersAreAllowed
-unfolding header_format
 header_settled_allowed old more was room =
-    (tt, (was.1.0, (was.1.1.0, (was.1.1.1.0, ((omega (arith, was.1.1.1.1.0.0), room), none_unsigned (old.signed + more))))))
+    let its = header_fields old was in
+    header_allowed_by _ (record {
+      one = its.one;
+      two = its.two;
+      three = its.three;
+      some_signed = omega (arith, its.some_signed);
+      few_signed = room;
+      texts = none_unsigned (old.signed + more);
+    })

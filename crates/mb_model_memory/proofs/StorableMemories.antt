@@ -19,19 +19,20 @@ use Rattle.mb_model.specs.declared.state.State.{State}
 use Rattle.mb_model.specs.declared.stored.Fate.{Fate}
 use Rattle.mb_model.specs.declared.stored.Fate.TheVariants.{Keep, Empty, DropConfiguration, AddKey}
 use Rattle.mb_model.specs.declared.stored.Outgoing.{Outgoing}
+use Rattle.mb_model.specs.declared.stored.Signer.{Signer}
 use Rattle.mb_model.specs.declared.stored.Pending.{Pending}
 use Rattle.mb_model.specs.declared.stored.Root.{Root}
 use Rattle.mb_model.specs.owners.Layers.{unowned_layers}
 use Rattle.mb_model.specs.owners.Log.{entries_of, layers_in, last_of, layers_of}
 use Rattle.mb_model.specs.owners.Regions.{is_epoch}
 use Rattle.mb_model.specs.machine.LayerEvents.{has_number}
-use Rattle.mb_model.specs.records.KeyFormat.{public_key_format, key_seed_format}
+use Rattle.mb_model.specs.records.KeyFormat.{public_key_format}
 use Rattle.mb_model.specs.records.LayerFormat.{layers_format}
-use Rattle.mb_model.specs.records.EntryFormat.{birth_format, change_format, entry_format, signed_entry_format}
-use Rattle.mb_model.specs.records.RootFormat.{region_key_format, fate_format, pending_format, root_format}
+use Rattle.mb_model.specs.records.EntryFormat.{birth_format, entry_format, signed_entry_format}
+use Rattle.mb_model.specs.records.RootFormat.{region_key_format, fate_format, pending_format}
 use Rattle.mb_model.specs.records.RegionFormat.{secret_format, secrets_format, keys_format, region_by, region_format, SpellsRegion}
 use Rattle.mb_model.specs.machine.OrderEffects.{entry_signed_by}
-use Rattle.mb_model.specs.memories.StoredLog.{entries_signed_for, outgoing_of, log_completed_by}
+use Rattle.mb_model.specs.memories.StoredLog.{signer_by, entries_signed_for, outgoing_of, log_completed_by}
 use Rattle.mb_model.specs.memories.Flash.{HoldsPublic}
 use Rattle.mb_model.specs.memories.OldFlash.{HeldPublic}
 use Rattle.mb_model.specs.memories.Meaning.{Contents, FlashForm, HoldsContentsBy, region_after_fate, fate_of_two, fate_of_three, state_of_contents, StandsForBy, IsWellFormedBy, IsWellFormed}
@@ -39,8 +40,9 @@ use Rattle.mb_model.specs.memories.Valid.{IsValidState}
 use Rattle.mb_model.specs.memories.Factory.{layers_at_birth, serial_from, birth_entry, state_at_birth}
 use Rattle.mb_model.proofs.Places.{length-part}
 use Rattle.mb_model.proofs.RecordFormatLaws.{few_secrets}
+use Rattle.mb_model.proofs.AllowedFields.{root_fields, pending_fields, change_fields, layers_allowed_by}
 use Rattle.mb_model.specs.memories.WrittenImage.{written_image, FitsImage}
-use Rattle.mb_model_lemmas.proofs.PublicLemmas.{root_pending, entry_from_signed, length-signed_for}
+use Rattle.mb_model_lemmas.proofs.PublicLemmas.{entry_from_signed, length-signed_for}
 use Rattle.mb_model_lemmas.specs.FormLaws.{PublicPartsFit, HoldsFittingParts}
 use Rattle.mb_model_lemmas.proofs.HeldSegments.{segments_parts_fit}
 use Rattle.mb_model_lemmas.proofs.OldFlashLemmas.{old_parts_fit}
@@ -48,29 +50,19 @@ use Rattle.mb_model_lemmas.proofs.WrittenImages.{written_is_well_formed}
 use Rattle.mb_model_memory.specs.Storable.{IsStorableRegion, IsStorableState}
 use Rattle.mb_model_memory.specs.StorableLaws.{StoredStatesAreStorable, OldStatesAreStorable}
 use Rattle.mb_model_memory.proofs.CommitLemmas.{live_contents_by}
-use Rattle.mb_model_memory.proofs.StorableFormats.{fitting_codes, keep_allowed, small_number, born_seed_allowed, born_public_allowed, unowned_allowed, layers_allowed, layers_of_version_two, first_layer_allowed, first_codes_allowed, birth_allowed, signed_allowed}
+use Rattle.mb_model_memory.proofs.StorableFormats.{fitting_codes, keep_allowed, small_number, born_seed_allowed, born_public_allowed, unowned_allowed, layers_of_version_two, first_layer_allowed, first_codes_allowed, birth_allowed, signed_allowed}
 use Rattle.mb_model_memory.proofs.StorableOrders.{empty_storable}
 use Rattle.mb_model_memory.proofs.StorableRecords.{image_fits}
 
 -- ---- the root
 
-root_serial : (root : Root) → root_format.Allowed root → length root.serial ≡ 16
-unfolding root_format
-root_serial root is = is.1.1.0
-
-root_device : (root : Root) → root_format.Allowed root → key_seed_format.Allowed root.device
-unfolding root_format
-root_device root is = is.1.1.1.0
-
 fate_two : (pending : Option Pending) → (optional pending_format).Allowed pending → fate_format.Allowed (fate_of_two pending)
-unfolding pending_format
 fate_two None is = keep_allowed
-fate_two (Some pending) is = is.1.1.1.0
+fate_two (Some pending) (_, is) = (pending_fields pending is).two
 
 fate_three : (pending : Option Pending) → (optional pending_format).Allowed pending → fate_format.Allowed (fate_of_three pending)
-unfolding pending_format
 fate_three None is = keep_allowed
-fate_three (Some pending) is = is.1.1.1.1
+fate_three (Some pending) (_, is) = (pending_fields pending is).three
 
 -- ---- regions
 
@@ -121,10 +113,11 @@ mapped_signed key index (entry ∷ more) are =
     All-cons signed_entry_format.Allowed (entry_signed_by key index entry) (map (entry_signed_by key index) more) (signed_allowed key index entry are.0) (mapped_signed key index more are.1)
 
 all_signed : (device : KeySeed) (uses : ℕ) (outgoing : Option Outgoing) (unsigned : List Entry) → AllByRecursion entry_format.Allowed unsigned → All signed_entry_format.Allowed (entries_signed_for device uses outgoing unsigned)
-all_signed device uses None unsigned are = mapped_signed device _ unsigned are
-all_signed device uses (Some outgoing) [] are = All-nil signed_entry_format.Allowed
-all_signed device uses (Some outgoing) (first ∷ rest) are =
-    All-cons signed_entry_format.Allowed _ (map (entry_signed_by device 0) rest) (signed_allowed outgoing.seed _ first are.0) (mapped_signed device 0 rest are.1)
+all_signed device uses outgoing [] are = All-nil signed_entry_format.Allowed
+all_signed device uses outgoing (first ∷ rest) are =
+    let one : Signer = signer_by device uses outgoing 0 in
+    let other : Signer = signer_by device uses outgoing 1 in
+    All-cons signed_entry_format.Allowed (entry_signed_by one.key one.index first) (map (entry_signed_by other.key other.index) rest) (signed_allowed one.key one.index first are.0) (mapped_signed other.key other.index rest are.1)
 
 -- the layers that entries name can be stored
 abbrev NamesAllowed : Option Layers → Type 0
@@ -132,9 +125,10 @@ NamesAllowed None = Unit {0}
 NamesAllowed (Some layers) = (layers_format 2).Allowed layers
 
 entry_names : (entry : Entry) → entry_format.Allowed entry → NamesAllowed (layers_in entry)
-unfolding entry_format birth_format change_format
-entry_names (Birth version serial key layers) is = layers_of_version_two version layers is.1.1.1.1
-entry_names (Change version position number kind layer cosigned layers kept next) is = layers_of_version_two version layers is.1.1.1.1.1.1.1.1.0
+unfolding entry_format birth_format
+entry_names (Birth version serial key layers) (_, (_, (_, (_, are)))) = layers_of_version_two version layers are
+entry_names (Change version position number kind layer cosigned layers kept next) is =
+    layers_of_version_two version layers (change_fields kind cosigned kept is).layers_allowed
 entry_names (NewKey position number key_number layer kind key) is = tt
 entry_names (Succession position key) is = tt
 
@@ -148,7 +142,8 @@ last_names [] are = tt
 last_names (signed ∷ rest) are = either_names (last_of layers_in (entries_of rest)) (layers_in signed.entry) (last_names rest are.1) (entry_names signed.entry (entry_from_signed signed are.0))
 
 named_or_none : (named : Option Layers) → NamesAllowed named → (layers_format 2).Allowed (unwrap_or named unowned_layers)
-named_or_none None is = layers_allowed unowned_layers unowned_allowed unowned_allowed unowned_allowed
+named_or_none None is =
+    layers_allowed_by 2 unowned_layers (record { one = unowned_allowed; two = unowned_allowed; three = unowned_allowed })
 named_or_none (Some layers) is = is
 
 pub layers_of-allowed : (log : List SignedEntry) → All signed_entry_format.Allowed log → (layers_format 2).Allowed (layers_of (entries_of log))
@@ -175,19 +170,18 @@ module _ (Form : FlashForm) (fits : HoldsFittingParts Form) (flash bbram : List 
       → IsStorableState (state_of_contents contents)
   unfolding state_of_contents
   meant_storable c holds few_two few_three =
-      let root : root_format.Allowed c.root = holds.root.holds.spelled.allowed in
+      let root = root_fields c.root holds.root.holds.spelled.allowed in
       let public : PublicPartsFit c.codes c.signed c.unsigned = fits flash c.root c.codes c.signed c.unsigned holds.public in
-      let pending : (optional pending_format).Allowed c.root.pending = root_pending c.root root in
       let log : All signed_entry_format.Allowed (log_completed_by c.root c.signed c.unsigned) = completed_allowed c.root c.codes c.signed c.unsigned public in
       record {
-        serial = root_serial c.root root;
-        device = root_device c.root root;
+        serial = root.serial;
+        device = root.device;
         layers = layers_of-allowed (log_completed_by c.root c.signed c.unsigned) log;
         codes = fitting_codes c.codes public.codes_fit;
         log = log;
         few = completed_few c.root c.codes c.signed c.unsigned public;
-        two = fated_storable (fate_of_two c.root.pending) c.two (fate_two c.root.pending pending) (spelled_storable holds.two.bytes c.two holds.two.spelled) few_two;
-        three = fated_storable (fate_of_three c.root.pending) c.three (fate_three c.root.pending pending) (spelled_storable holds.three.bytes c.three holds.three.spelled) few_three;
+        two = fated_storable (fate_of_two c.root.pending) c.two (fate_two c.root.pending root.pending) (spelled_storable holds.two.bytes c.two holds.two.spelled) few_two;
+        three = fated_storable (fate_of_three c.root.pending) c.three (fate_three c.root.pending root.pending) (spelled_storable holds.three.bytes c.three holds.three.spelled) few_three;
       }
 
   pub stands_storable_by : (state : State) → StandsForBy Form flash bbram (Some state) → IsValidState state → IsStorableState state
@@ -210,7 +204,11 @@ unfolding state_at_birth
 birth_storable maker index owner code noise is short long =
     let serial : length (serial_from noise) ≡ 16 = length-part 32 16 noise (omega (arith, long)) in
     let layers : (layers_format 2).Allowed (layers_at_birth owner code) =
-    layers_allowed (layers_at_birth owner code) (first_layer_allowed owner code 1 _ is (small_number 1 (omega arith))) unowned_allowed unowned_allowed
+    layers_allowed_by 2 (layers_at_birth owner code) (record {
+      one = first_layer_allowed owner code 1 _ is (small_number 1 (omega arith));
+      two = unowned_allowed;
+      three = unowned_allowed;
+    })
     in
     let entry : entry_format.Allowed (birth_entry owner code noise) = birth_allowed (serial_from noise) _ (layers_at_birth owner code) serial (born_public_allowed (take 32 noise) (serial_from noise) 0) layers in
     record {

@@ -33,10 +33,12 @@ use Rattle.mb_model.specs.owners.Regions.{region_of, with_region}
 use Rattle.mb_model.specs.machine.OrderChecks.{change_by, needs_succession, RegionHasRoom, Passes, view_of}
 use Rattle.mb_model.specs.machine.OrderEffects.{entry_signed_by, log_with, state_after_succession, device_after, cosigners_of, next_device_key, state_after_change, key_made, state_after_new_key, ready_for, state_after_act, state_after_order, succession_entry, entry_of, change_fact}
 use Rattle.mb_model.specs.declared.state.Fact.TheVariants as fact
+use Rattle.mb_model.proofs.Passed.{passed}
+use Rattle.mb_model.proofs.AllowedFields.{region_key_allowed_by, change_allowed_by, new_key_allowed_by}
 use Rattle.mb_model_lemmas.proofs.LogLemmas.{number_of-le-length, made-le-length, length-entries_of}
 use Rattle.mb_model_memory.specs.Storable.{IsStorableRegion, IsStorableState}
 use Rattle.mb_model_memory.proofs.CommitLemmas.{kept_ready, succeeded_layers}
-use Rattle.mb_model_memory.proofs.StorableFormats.{small_number, some_allowed, none_allowed, born_seed_allowed, born_public_allowed, region_key_allowed, layer_of-allowed, after_allowed, placed_allowed, codes_after_allowed, change_allowed, new_key_allowed, succession_allowed, signed_allowed}
+use Rattle.mb_model_memory.proofs.StorableFormats.{small_number, some_allowed, none_allowed, born_seed_allowed, born_public_allowed, layer_of-allowed, after_allowed, placed_allowed, codes_after_allowed, succession_allowed, signed_allowed}
 
 -- ---- regions
 
@@ -161,8 +163,14 @@ changed_storable state kind order draw is can =
     let layers : (layers_format 2).Allowed now = after_allowed state.layers kind k by (layer_from_order (layer_of state.layers k) order.act) is.layers can.placed in
     let entry : Entry = entry_of (view_of state) (change_fact state.layers kind order) draw in
     let own : entry_format.Allowed entry =
-    change_allowed (length state.log) (number_of (entries_of state.log) + 1) kind k by now (kept_regions state.layers kind k by) (next_device_key (renews (Some kind) k) (view_of state) draw)
-    (small_length state is) (next_number_small state can.room) can.least can.most layers (named_next_allowed (renews (Some kind) k) state draw)
+    change_allowed_by kind by (kept_regions state.layers kind k by) (record {
+      small_position = small_length state is;
+      small_number = next_number_small state can.room;
+      least_layer = can.least;
+      most_layer = can.most;
+      layers_allowed = layers;
+      next_allowed = named_next_allowed (renews (Some kind) k) state draw;
+    })
     in
     record {
       serial = is.serial;
@@ -179,15 +187,25 @@ changed_storable state kind order draw is can =
 
 pub key_made_allowed : (state : State) (kind : KeyKind) (draw : List ℕ) → IsStorableState state → region_key_format.Allowed (key_made (view_of state) kind draw)
 key_made_allowed state kind draw is =
-    region_key_allowed (key_made (view_of state) kind draw) (made_small state is) (born_seed_allowed draw state.serial (keys_made_by (entries_of state.log))) (omega arith)
+    region_key_allowed_by (key_made (view_of state) kind draw) (record {
+      number = made_small state is;
+      seed = born_seed_allowed draw state.serial (keys_made_by (entries_of state.log));
+      uses = omega arith;
+    })
 
 with_log : (state : State) (L : ℕ) (kind : KeyKind) (draw : List ℕ) → IsStorableState state → 2 ≤ L → L ≤ 3 → length state.log + 1 ≤ 128 → (uses : ℕ)
     → IsStorableState (record state { log = log_with state (entry_of (view_of state) (fact.NewKey L kind) draw); uses = uses })
 with_log state L kind draw is least most room uses =
     let entry : Entry = entry_of (view_of state) (fact.NewKey L kind) draw in
     let own : entry_format.Allowed entry =
-    new_key_allowed (length state.log) (number_of (entries_of state.log)) (keys_made_by (entries_of state.log)) L kind _
-    (small_length state is) (number_small state is) (made_small state is) least most (born_public_allowed draw state.serial (keys_made_by (entries_of state.log)))
+    new_key_allowed_by kind (record {
+      small_position = small_length state is;
+      small_number = number_small state is;
+      small_key_number = made_small state is;
+      least_layer = least;
+      most_layer = most;
+      key_allowed = born_public_allowed draw state.serial (keys_made_by (entries_of state.log));
+    })
     in
     record {
       serial = is.serial;
@@ -285,9 +303,9 @@ unfolding state_after_order
 obeyed_storable state order draw allowed passes is =
     let ready : State = ready_for state order draw in
     let needed : Bool = needs_succession (view_of state) order in
-    let ready_is : IsStorableState ready = ready_by_storable state draw needed is passes.log in
+    let ready_is : IsStorableState ready = ready_by_storable state draw needed is (passed passes).log in
     let condition : Condition ready.layers (change_by order) order.layer =
-    subst (λ (l : Layers). Condition l (change_by order) order.layer) (sym (kept_ready (λ (s : State). s.layers) state order draw (succeeded_layers state draw))) passes.condition
+    subst (λ (l : Layers). Condition l (change_by order) order.layer) (sym (kept_ready (λ (s : State). s.layers) state order draw (succeeded_layers state draw))) (passed passes).condition
     in
-    carried_storable ready order order.act draw ready_is (can_bring ready order ready_is allowed condition (ready_room state draw needed passes.log)) (may_be_for order allowed).0
-    (ready_keys state order draw order.layer order.act passes.keys)
+    carried_storable ready order order.act draw ready_is (can_bring ready order ready_is allowed condition (ready_room state draw needed (passed passes).log)) (may_be_for order allowed).0
+    (ready_keys state order draw order.layer order.act (passed passes).keys)

@@ -28,7 +28,6 @@ use Rattle.mb_model.specs.declared.stored.Root.{Root}
 use Rattle.mb_model.specs.owners.Rules.{admits}
 use Rattle.mb_model.specs.owners.Log.{entries_of, uses_of_device_key, keys_made_by}
 use Rattle.mb_model.specs.signatures.Signing.{public_of}
-use Rattle.mb_model.specs.records.KeyFormat.{key_seed_format}
 use Rattle.mb_model.specs.records.EntryFormat.{entry_format, signed_entry_format}
 use Rattle.mb_model.specs.records.RootFormat.{region_key_format, outgoing_format, fate_format, pending_format}
 use Rattle.mb_model.specs.records.RootFormat.{root_format}
@@ -45,7 +44,9 @@ use Rattle.mb_model_memory.proofs.Additions.{own_fate, gives_way, outgoing_with,
 use Rattle.mb_model.specs.machine.Fates.{change_fate}
 use Rattle.mb_model.specs.memories.Clean.{root_of}
 use Rattle.mb_model.specs.memories.Valid.{IsValidState}
+use Rattle.mb_model.proofs.Passed.{passed}
 use Rattle.mb_model.proofs.FormatBounds.{root_short, public_short}
+use Rattle.mb_model.proofs.AllowedFields.{root_allowed_by}
 use Rattle.mb_model_lemmas.proofs.LogLemmas.{used-bound}
 use Rattle.mb_model_lemmas.proofs.Splits.{All-split}
 use Rattle.mb_model_lemmas.proofs.OwnEntries.{appends_own}
@@ -62,10 +63,6 @@ use Rattle.mb_model_memory.proofs.FlashWrites.{one_or_two}
 
 -- ---- the root
 
-root_allowed : (root : Root) → root.area ≤ 1 → length root.serial ≡ 16 → key_seed_format.Allowed root.device → root.uses ≤ 32 → (optional pending_format).Allowed root.pending → root_format.Allowed root
-unfolding root_format
-root_allowed root area serial device uses pending = (tt, ((omega arith, area), (serial, (device, ((omega arith, uses), pending)))))
-
 used_few : (state : State) → IsValidState state → uses_of_device_key (entries_of state.log) ≤ 31
 used_few state valid = used-bound (entries_of state.log) (valid_is_ruled state valid)
 
@@ -73,7 +70,13 @@ uses_few : (state : State) → IsValidState state → state.uses ≤ 32
 uses_few state valid = omega (arith, valid.uses, used_few state valid)
 
 pub resting_root : (state : State) (area : ℕ) → area ≤ 1 → IsValidState state → IsStorableState state → root_format.Allowed (root_of state area)
-resting_root state area small valid is = root_allowed (root_of state area) small is.serial is.device (uses_few state valid) (none_allowed pending_format)
+resting_root state area small valid is = root_allowed_by (root_of state area) (record {
+  area = small;
+  serial = is.serial;
+  device = is.device;
+  uses = uses_few state valid;
+  pending = none_allowed pending_format;
+})
 
 -- ---- the pending work
 
@@ -111,7 +114,7 @@ outgoing_allowed true state valid is = (tt, (is.device, (omega arith, omega (ari
 outgoing_allowed false state valid is = (tt, refl)
 
 ready_storable : (state : State) (order : Order) (draw : List ℕ) → IsStorableState state → Passes (view_of state) order → IsStorableState (ready_for state order draw)
-ready_storable state order draw is passes = ready_by_storable state draw (needs_succession (view_of state) order) is passes.log
+ready_storable state order draw is passes = ready_by_storable state draw (needs_succession (view_of state) order) is (passed passes).log
 
 pending_allowed : (state : State) (order : Order) (draw : List ℕ) → IsValidState state → IsStorableState state → Passes (view_of state) order → pending_format.Allowed (pending_for state order draw)
 unfolding pending_format pending_for
@@ -129,8 +132,13 @@ pub committed_root : (state : State) (order : Order) (draw : List ℕ) (area : �
 unfolding root_for
 committed_root state order draw area small valid is allowed passes =
     let after : IsStorableState (state_after_order state order draw) = obeyed_storable state order draw allowed passes is in
-    let pending = some_allowed pending_format (pending_for state order draw) (pending_allowed state order draw valid is passes) in
-    root_allowed (root_for state order draw area) small is.serial after.device (uses_few (state_after_order state order draw) (obeyed_valid state order draw valid allowed passes)) pending
+    root_allowed_by (root_for state order draw area) (record {
+      area = small;
+      serial = is.serial;
+      device = after.device;
+      uses = uses_few (state_after_order state order draw) (obeyed_valid state order draw valid allowed passes);
+      pending = some_allowed pending_format (pending_for state order draw) (pending_allowed state order draw valid is passes);
+    })
 
 pub root_room : (root : Root) → root_format.Allowed root → length (root_format.spelling root) ≤ 4094
 root_room root is = omega (arith, root_short.short root is)
@@ -202,7 +210,7 @@ committed_public state order draw is allowed passes =
     let own : Entry = entry_of (view_of (ready_for state order draw)) (fact_of (ready_for state order draw).layers order order.act) draw in
     let first_is : entry_format.Allowed first = succession_allowed (length state.log) _ (small_length state is) (born_public_allowed draw state.serial (keys_made_by (entries_of state.log))) in
     let are : All entry_format.Allowed (if needed then first ∷ own ∷ [] else own ∷ []) = new_allowed needed first own first_is (own_allowed state order draw allowed passes is) in
-    let few = new_few state.log needed first own passes.log in
+    let few = new_few state.log needed first own (passed passes).log in
     subst (λ (es : List Entry). public_format.Allowed (public_of_parts (state_after_order state order draw).codes state.log es)) (sym (new_entries_are state order draw))
     (public_allowed (state_after_order state order draw).codes state.log (if needed then first ∷ own ∷ [] else own ∷ []) (obeyed_storable state order draw allowed passes is).codes is.log are few.0 few.1)
 

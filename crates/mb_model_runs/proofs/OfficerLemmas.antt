@@ -55,14 +55,9 @@ order_obeyed state text draw order spelled stands signed countersigned =
     is_obeyed (record {
       order = order;
       spelled = spelled;
-      passes = record {
-        targets = stands.targets;
-        condition = stands.condition;
-        signature = right_signature state order signed;
-        countersignatures = All-weaker (IsRightlyCountersigned state order) (IsCountersigned (view_of state) order) (right_countersignature state order) order.countersignatures countersigned;
-        log = stands.log;
-        keys = stands.keys;
-      };
+      passes =
+          stands (right_signature state order signed)
+          (All-weaker (IsRightlyCountersigned state order) (IsCountersigned (view_of state) order) (right_countersignature state order) order.countersignatures countersigned);
       follows = refl;
       answered = refl;
     })

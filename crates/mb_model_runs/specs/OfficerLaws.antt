@@ -13,8 +13,7 @@ use Rattle.mb_model.specs.owners.Layers.{layer_of}
 use Rattle.mb_model.specs.owners.Rules.{authority}
 use Rattle.mb_model.specs.owners.Log.{entries_of, number_of}
 use Rattle.mb_model.specs.records.OrderFormat.{order_format, order_body}
-use Rattle.mb_model.specs.machine.OrderChecks.{view_of, change_by, TargetsHold, MayBeGiven, IsSigned, IsCountersigned}
-use Rattle.mb_model.specs.machine.OrderChecks.{LogHasRoom, RegionHasRoom}
+use Rattle.mb_model.specs.machine.OrderChecks.{view_of, change_by, IsSigned, IsCountersigned, Passes}
 use Rattle.mb_model.specs.machine.OrderEffects.{state_after_order}
 use Rattle.mb_model.specs.machine.Machine.{ratchet, World, Machine}
 use Rattle.mb_model.specs.machine.SignedTexts.{order_text, countersigned_text}
@@ -55,12 +54,11 @@ RightCountersignaturesPass =
     (state : State) (order : Order) (by : Countersignature) → IsRightlyCountersigned state order by
     → IsCountersigned (view_of state) order by
 
--- an order that passes every check but those of signatures
-pub record PassesTheRest (state : State) (order : Order) : Type 0 where
-  pub targets : TargetsHold (view_of state) order
-  pub condition : MayBeGiven (view_of state) order
-  pub log : LogHasRoom (view_of state) order
-  pub keys : RegionHasRoom (view_of state) order.layer order.act
+-- the order passes every check, if it passes those of its signatures
+abbrev pub PassesTheRest : State → Order → Type 0
+PassesTheRest state order =
+    IsSigned (view_of state) order → All (IsCountersigned (view_of state) order) order.countersignatures
+    → Passes (view_of state) order
 
 -- While layer 1 runs, an order that passes the rest is obeyed, if the right officers signed and countersigned it.
 abbrev pub RightOrdersAreObeyed : Type 0

@@ -14,28 +14,17 @@ use Rattle.mb_model.specs.declared.order.Target.{Target}
 use Rattle.mb_model.specs.declared.order.Order.{Order}
 use Rattle.mb_model.specs.signatures.Key.{key_bytes, IsSized}
 use Rattle.mb_model.specs.owners.Rules.{MayBeFor}
-use Rattle.mb_model.specs.chains.Lines.{spaced_words, number_limit, ReadsLines, TextFailsAtLine}
+use Rattle.mb_model.specs.chains.Lines.{spaced_words, number_limit}
 use Rattle.mb_model.specs.chains.Script.{EndsInHex}
 use Rattle.mb_model.specs.chains.Drafts.{kind_word, trust_word, SaysTarget, SaysTrusts, SayAct, IsDraft}
 use Rattle.mb_words.specs.declared.said.NotSaid.{NotSaid}
 use Rattle.mb_words.specs.declared.said.NotSaid.TheVariants as why
-use Rattle.mb_officer.specs.declared.draft.DraftEnd.{DraftEnd}
-use Rattle.mb_officer.specs.declared.draft.DraftEnd.TheVariants as end
 use Rattle.mb_officer.specs.declared.draft.Loading.{Loading}
 use Rattle.mb_officer.specs.declared.draft.Loading.TheVariants as loading
 use Rattle.mb_officer.specs.declared.draft.Kind.{Kind}
 use Rattle.mb_officer.specs.declared.draft.Kind.TheVariants as kind
 use Rattle.mb_officer.specs.declared.draft.Said.{Said}
 use Rattle.mb_officer.specs.declared.draft.Said.TheVariants as said
-
--- ---- a draft
-
--- The text is the draft of this order, or this line of it is the first that is wrong. Nothing is said of a failed
--- allocation.
-abbrev pub ReadsDraft : List ℕ → Result Order DraftEnd → Type 0
-ReadsDraft text (Ok order) = ReadsLines IsDraft text order
-ReadsDraft text (Err (end.BadLine line)) = TextFailsAtLine IsDraft text line
-ReadsDraft text (Err end.NoMemory) = Unit {0}
 
 -- ---- the first line
 

@@ -5,10 +5,10 @@ ghost use Rattle.std.specs.Fmt.{decimal};
 ghost use Rattle.mb_model.specs.declared.limits.TheConstants.{FILE_LIMIT};
 ghost use Rattle.mb_model.specs.declared.order.OrderKind.TheVariants.{Surrender};
 ghost use Rattle.mb_model.specs.owners.Rules.{MayBeFor};
-ghost use Rattle.mb_model.specs.chains.Drafts.{kind_word};
+ghost use Rattle.mb_model.specs.chains.Drafts.{kind_word, IsDraft};
 ghost use Rattle.mb_model.specs.records.OrderFormat.{order_format};
-ghost use Rattle.mb_words.specs.Words.{FindsSome};
-ghost use Rattle.mb_officer.specs.Drafting.{IsHeading, load_act, drafted, IsSoundDraft, SaysRest, TellsNext, AddsTarget, IsFirst, ReadsDraft};
+ghost use Rattle.mb_words.specs.Words.{FindsSome, ReadsTextOf};
+ghost use Rattle.mb_officer.specs.Drafting.{IsHeading, load_act, drafted, IsSoundDraft, SaysRest, TellsNext, AddsTarget, IsFirst};
 
 use crate::words::{
     read_code, read_layer, read_owner, read_target, read_trusts, read_version, split_layer,
@@ -17,20 +17,11 @@ use mb_model::{
     Act, Bytes, Countersignatures, KeyKind, NoMemory, Order, Payload, PublicKey, TARGET_LIMIT,
     Target, Targets, Trusts,
 };
-use mb_words::{NotSaid, after_word, split_line};
+use mb_words::{NotSaid, TextEnd, after_word, split_line};
 use std::alloc::Global;
 
-/// Why a draft was not read.
-#[derive(Clone, Copy, Debug, PartialEq, Eq)]
-pub enum DraftEnd {
-    /// A line is not in the grammar, or the text ends too early.
-    BadLine {
-        /// The number of the first such line, from 1, or of the line after the last.
-        line: u32,
-    },
-    /// An allocation failed.
-    NoMemory,
-}
+/// Why a draft was not read: a line is not in the grammar, or the text ends too early; or an allocation failed.
+pub type DraftEnd = TextEnd;
 
 /// One of the two kinds of loads.
 #[derive(Clone, Copy, Debug, PartialEq, Eq)]
@@ -89,7 +80,7 @@ pub(crate) enum Said {
 /// too early, and `NoMemory`.
 pub fn read_draft(alloc: Global, text: &[u8]) -> Result<Order, DraftEnd>
     requires { length text.now ≤ FILE_LIMIT }
-    ensures read { ReadsDraft text.now result }
+    ensures read { ReadsTextOf IsDraft text.now result }
     ensures spelled { IfOk result (λ order. order_format.Allowed order) }
 {
     let mut said = Said::Nothing;

@@ -5,32 +5,23 @@ ghost use Rattle.mb_format.specs.Format.{Spells};
 ghost use Rattle.mb_model.specs.outside.Texts.{line_with_lf};
 ghost use Rattle.mb_model.specs.records.OrderFormat.{order_format};
 ghost use Rattle.mb_model.specs.chains.OrderLines.{IsOrderLine, order_line};
-ghost use Rattle.mb_words.specs.Words.{Finds};
-ghost use Rattle.mb_officer.specs.OrderReading.{ReadsOrderLine};
+ghost use Rattle.mb_words.specs.Words.{Finds, ReadsTextOf};
 
 use mb_command::{OrderEnd, read_order, write_order};
 use mb_model::{NoMemory, Order};
-use mb_words::{NotSaid, after_word, read_hex, split_line};
+use mb_words::{NotSaid, TextEnd, after_word, read_hex, split_line};
 use std::alloc::Global;
 
-/// Why the line of an order was not read.
-#[derive(Clone, Copy, Debug, PartialEq, Eq)]
-pub enum OrderLineEnd {
-    /// The first line is not that of an order, or a second line follows it.
-    BadLine {
-        /// The number of the first such line: 1, also if the text has no line, or 2.
-        line: u32,
-    },
-    /// An allocation failed.
-    NoMemory,
-}
+/// Why the line of an order was not read: line 1 is not that of an order, or is not there, or line 2 follows it; or an
+/// allocation failed.
+pub type OrderLineEnd = TextEnd;
 
 /// Reads the order of a text whose one line is `command HEX`. The line may lack its LF.
 ///
 /// Errors: `BadLine` with 1 if there is no line or the first is not that of an order, and with 2 if another line, even
 /// an empty one, follows; and `NoMemory`.
 pub fn read_order_line(alloc: Global, text: &[u8]) -> Result<Order, OrderLineEnd>
-    ensures read { ReadsOrderLine text.now result }
+    ensures read { ReadsTextOf IsOrderLine text.now result }
     ensures spelled { IfOk result (λ order. order_format.Allowed order) }
 {
     if text.is_empty() {
@@ -67,7 +58,7 @@ fn order_of(alloc: Global, bytes: &[u8]) -> Result<Order, NotSaid>
 {
     match read_order(alloc, bytes) {
         Ok(order) => Ok(order),
-        Err(OrderEnd::BadText { .. }) => Err(NotSaid::Form),
+        Err(OrderEnd::Bad { .. }) => Err(NotSaid::Form),
         Err(OrderEnd::NoMemory) => Err(NotSaid::NoMemory),
     }
 }

@@ -9,7 +9,7 @@ ghost use Rattle.mb_model.specs.machine.SignedOrders.{keyfile_after_use, signed_
 ghost use Rattle.mb_model.specs.owners.Rules.{kind_of, change_of, is_load};
 ghost use Rattle.mb_lms.specs.declared.hash_count.TheConstants.{SIGNING_HASHES};
 
-use mb_command::signed_part;
+use mb_command::order_body;
 use mb_lms::HashCount;
 use mb_model::separators::{COUNTERSIGNED_TEXT, ORDER_TEXT};
 use mb_model::{
@@ -63,7 +63,7 @@ pub fn sign_order<L: Ledger>(
     let Some(index) = next.take() else {
         return Err(SignEnd::Spent);
     };
-    let body = signed_part(alloc, order)?;
+    let body = order_body(alloc, order)?;
     let room = signature_room(alloc)?;
     let text = [ORDER_TEXT];
     order.signature = signature_at(&k.seed, index, &text, body.as_slice(), room, hashes);
@@ -99,7 +99,7 @@ pub fn countersign<L: Ledger>(
     let Some(index) = next.take() else {
         return Err(SignEnd::Spent);
     };
-    let body = signed_part(alloc, order)?;
+    let body = order_body(alloc, order)?;
     let empty = Bytes::from_vec(Vec::new(alloc));
     let own_room = signature_room(alloc)?;
     order.countersignatures.push(Countersignature {

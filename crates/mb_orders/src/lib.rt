@@ -5,12 +5,9 @@
 #![tactic(auto)]
 
 mod checks;
-mod end;
-mod judging;
 mod plan;
 mod room;
 mod signatures;
 
-pub use end::JudgeEnd;
-pub use judging::judge;
-pub use plan::Plan;
+pub use checks::check;
+pub use plan::{Plan, make_plan};

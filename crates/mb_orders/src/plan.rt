@@ -3,7 +3,7 @@
 ghost use Rattle.std.specs.Prelude.{◌≡◌, ◌+◌, ◌≤◌, ◌==◌, IfOk, IsSome, OnErr, ◌*◌};
 ghost use Rattle.std.specs.List.{list_any};
 ghost use Rattle.mb_model.specs.owners.Log.{keys_made_by};
-ghost use Rattle.mb_model.specs.machine.OrderChecks.{LogHasRoom};
+ghost use Rattle.mb_model.specs.machine.OrderChecks.{Passes};
 ghost use Rattle.mb_model.specs.machine.OrderEffects.{cosigners_of, change_fact, fact_of, layers_after};
 ghost use Rattle.mb_model.specs.machine.Fates.{change_fate};
 ghost use Rattle.mb_model.specs.machine.Work.{region_fate};
@@ -12,7 +12,7 @@ ghost use Rattle.mb_orders.specs.Judging.{plan_by};
 ghost use Rattle.mb_signer.specs.Benches.{HasTree, IsBare, HasRoom};
 ghost use Rattle.mb_lms.specs.declared.hash_count.TheConstants.{TREE_HASHES};
 
-use mb_authority::{admits, after, kept_regions, layer_of, placed};
+use mb_authority::{admits, after, kept_regions, layer_from_order, layer_of};
 use mb_lms::HashCount;
 use mb_log::bodies;
 use mb_model::{
@@ -58,7 +58,7 @@ fn change_fact(layers: &Layers, kind: ChangeKind, order: &Order) -> Fact
     ensures { result ≡ change_fact layers.now kind order.now }
 {
     let cosigned = cosigned_by(order);
-    let new = placed(&layer_of(layers, order.layer), &order.act);
+    let new = layer_from_order(&layer_of(layers, order.layer), &order.act);
     Fact::Change {
         kind,
         layer: order.layer,
@@ -126,7 +126,9 @@ fn fate_of(layers: &Layers, fact: &Fact, key: Option<RegionKey>, region: u8) -> 
     }
 }
 
-/// Plans an order that passes every check. New keys are derived from `draw`, in 34,399 hashes for each.
+/// Plans an order that passes every check, by the figures of a device. New keys are derived from `draw`, in 34,399
+/// hashes for each key that the order's entries name, of which there are at most two. The tree of a new device key is
+/// on the bench afterwards. A bench that was bare has room for another tree.
 pub fn make_plan<L: Ledger>(
     alloc: Global,
     view: &View,
@@ -136,7 +138,7 @@ pub fn make_plan<L: Ledger>(
     hashes: &mut HashCount<L>,
 ) -> Result<Plan, NoMemory>
     requires range { IsInRange view.now }
-    requires room { LogHasRoom view.now order.now }
+    requires passes { Passes view.now order.now }
     ensures planned { IfOk result (λ plan. plan ≡ plan_by view.now order.now draw.now) }
     ensures at_hand { IfOk result (λ plan. IsSome plan.bodies.outgoing
         → HasTree bench.new plan.bodies.device) }

@@ -4,7 +4,7 @@ ghost use Rattle.std.specs.Prelude.{◌≡◌, ◌↔◌, IsTrue};
 ghost use Rattle.mb_model.specs.machine.OrderChecks.{region_keys, LogHasRoom, RegionHasRoom};
 
 use mb_authority::{change_by, renews};
-use mb_log::needed;
+use mb_log::needed_with;
 use mb_model::{Act, ENTRY_LIMIT, KEY_LIMIT, Order, View};
 
 /// Whether the log has room for the order's entries.
@@ -12,7 +12,7 @@ pub fn log_has_room(view: &View, order: &Order) -> bool
     ensures { IsTrue result ↔ LogHasRoom view.now order.now }
 {
     let renews = renews(change_by(order), order.layer);
-    view.length <= ENTRY_LIMIT as u32 - needed(view.uses, renews)
+    view.length <= ENTRY_LIMIT as u32 - needed_with(view.uses, renews)
 }
 
 /// How many keys the layer's region has; only layers 2 and 3 have one.

@@ -1,11 +1,14 @@
 -- What is stored once a key of a region was used.
-use Rattle.std.proofs.Common.{◌≡◌, ℕ, ◌≤◌, ◌<◌, inr, List, length, Result, Ok, Err, OnOk, OnErr, sym, subst}
+use Rattle.std.proofs.Common.{◌≡◌, ℕ, ◌+◌, ◌≤◌, ◌<◌, inr, List, length, Result, Ok, Err, OnOk, OnErr, ap, sym, subst, ◌∙◌, arith}
 use Rattle.std.specs.Prelude.{AllPairs, ◌⊎◌}
 use Rattle.mb_format.specs.Format.{IsBytes}
 use Rattle.mb_model.specs.declared.region.Region.{Region}
 use Rattle.mb_model.specs.declared.region.RegionKey.{RegionKey}
 use Rattle.mb_model.specs.declared.state.State.{State}
-use Rattle.mb_model.specs.outside.Board.{Memory, IsLoaded}
+use Rattle.mb_model.specs.outside.Board.{Memory, Meter, IsLoaded}
+use Rattle.mb_board.specs.Calls.{Seen, IsMetered, level_of}
+use Rattle.mb_slot.specs.Slots.{IsSameBut, RanInOther, RanInSlot}
+use Rattle.mb_slot.proofs.Slotted.{but_other}
 use Rattle.mb_model.specs.memories.Memory.{area_of_slot}
 use Rattle.mb_model.specs.records.RegionFormat.{SpellsRegion, CanBeWritten}
 use Rattle.mb_model.specs.memories.Meaning.{HoldsRegion}
@@ -67,6 +70,34 @@ replaced_on (Err error) slot region before between after first second = tt
 
 pub either_then : (slot : ℕ) (region : Region) (before between after : Memory) → ReplacesRegion slot region before between → KeepsContents between after → KeepsOrReplaces slot region before after
 either_then slot region before between after first second = inr (replaces_then slot region before between after first second)
+
+-- two writes to a slot, and then one to its inactive area
+both_counted : {A B E F : Type 0} (handed : A) (result : Result B F) (before between after : Meter) → IsMetered 2 {A = A} {E = E} (Ok handed) before between → IsMetered 1 result between after → IsMetered 3 result before after
+both_counted handed (Ok value) before between after first second = record { armed = second.armed ∙ first.armed; stops = second.stops ∙ first.stops; writes = omega (arith, first.writes, second.writes); cut = tt }
+both_counted handed (Err stop) before between after first second =
+    record { armed = second.armed; stops = second.stops ∙ ap (λ n. n + 1) first.stops; writes = omega (arith, first.writes, second.writes); cut = sym first.armed ∙ second.cut }
+
+level_then : {B F : Type 0} (result : Result B F) (before between after : ℕ) → between ≡ before → after ≡ level_of result between → after ≡ level_of result before
+level_then (Ok value) before between after first second = second ∙ first
+level_then (Err stop) before between after first second = second
+
+pub ran_on : {A B E F : Type 0} (slot : ℕ) (handed : A) (result : Result B F) (before between after : Seen) → RanInSlot 2 slot {A = A} {E = E} (Ok handed) before between → RanInOther 1 slot result between after → RanInSlot 3 slot result before after
+ran_on {A} {B} {E} {F} slot handed result before between after first second =
+    let rest : IsSameBut slot between.memory.bbram after.memory.bbram = but_other slot between.memory.bbram after.memory.bbram second.rest in
+    record {
+      ran = record {
+        power = second.ran.power;
+        level = level_then result before.level between.level after.level first.ran.level second.ran.level;
+        sized = second.ran.sized;
+        ledger = second.ran.ledger ∙ first.ran.ledger;
+        meter = both_counted {E = E} handed result before.meter between.meter after.meter first.ran.meter second.ran.meter;
+      };
+      flash = second.flash ∙ first.flash;
+      rest = record {
+        sized = rest.sized ∙ first.rest.sized;
+        bytes = λ offset apart one two. rest.bytes offset apart one two ∙ first.rest.bytes offset apart one two;
+      };
+    }
 
 -- ---- what is bound
 

@@ -1,6 +1,6 @@
 -- Whose tree is kept, over what changes a region and leaves the seeds of its keys.
 use Rattle.std.proofs.Common.{◌≡◌, ℕ, ◌+◌, ◌==◌, Bool, true, false, Option, None, Some, List, [], ◌∷◌, refl, sym, ap, subst, ◌∙◌, arith, eqb-true}
-use Rattle.std.specs.Prelude.{find, IsTrue, if◌then◌else◌}
+use Rattle.std.specs.Prelude.{find, if◌then◌else◌}
 use Rattle.std.proofs.lemmas.Option.{same_Some}
 use Rattle.mb_model.specs.declared.key.KeySeed.{KeySeed}
 use Rattle.mb_model.specs.declared.region.Region.{Region}
@@ -11,7 +11,7 @@ use Rattle.mb_model.specs.owners.Regions.{region_of, with_region, empty_region}
 use Rattle.mb_signer.specs.Tree.{IsTreeOf}
 use Rattle.mb_outbound.specs.declared.kept.RegionTree.{RegionTree}
 use Rattle.mb_outbound.specs.Binding.{IsBound}
-use Rattle.mb_outbound.specs.KeptTrees.{IsKeptFor, IfKeptFor, IsKeysTree, IsKeptIn}
+use Rattle.mb_outbound.specs.KeptTrees.{IfKeptFor, IsKeysTree, IsKeptIn}
 
 -- ---- the seed of a key
 

@@ -1,19 +1,16 @@
 //! Binding a key of a region.
 
-ghost use Rattle.std.specs.Prelude.{◌≡◌, ◌≤◌, ◌<◌, ◌⊎◌, length, OnOk};
+ghost use Rattle.std.specs.Prelude.{◌≡◌, ◌≤◌, ◌<◌, length, OnOk};
 ghost use Rattle.mb_layout.specs.Plans.{SamePlans};
 ghost use Rattle.mb_model.specs.declared.limits.TheConstants.{RECORD_LIMIT, KEY_USES};
 ghost use Rattle.mb_model.specs.declared.region.Region.{Region};
-ghost use Rattle.mb_model.specs.declared.state.State.{State};
-ghost use Rattle.mb_model.specs.memories.Memory.{IsBlank, area_of_slot, inactive_area_of_slot};
+ghost use Rattle.mb_model.specs.memories.Memory.{area_of_slot};
 ghost use Rattle.mb_model.specs.memories.Meaning.{HoldsRegion};
 ghost use Rattle.mb_model.specs.records.RegionFormat.{SpellsRegion};
 ghost use Rattle.mb_board.specs.Calls.{IsUp};
-ghost use Rattle.mb_model_memory.specs.Holding.{Means};
-ghost use Rattle.mb_model_memory.specs.InForce.{AgreeBesides};
-ghost use Rattle.mb_slot.specs.Slots.{CanUse, RanInSlot};
-ghost use Rattle.mb_region.specs.Regions.{HasNoFate, ReplacesRegion, KeepsOrReplaces};
-ghost use Rattle.mb_outbound.specs.Binding.{HoldsOrdered, BindOf, power_in, StaysUnbound, StoresUse, KeepsOrStoresUse, state_used};
+ghost use Rattle.mb_slot.specs.Slots.{CanUse};
+ghost use Rattle.mb_outbound.specs.Binding.{HoldsOrdered};
+ghost use Rattle.mb_outbound.specs.Calls.{PutsInSlot, Binds};
 ghost use Rattle.mb_outbound.specs.Using.{FindsUse};
 
 use mb_board::Board;
@@ -55,14 +52,8 @@ fn next_use<B: Board>(b: &B, slot: u16, key: u32, room: &mut Room) -> Result<Reg
 fn store<S: Reaches<L>, L: Named, B: Board>(s: S, b: &mut B, room: &mut Room) -> Result<S, Off>
     requires up { IsUp S.stage (B.seen b.old) }
     requires short { length room.old.other.items ≤ RECORD_LIMIT }
-    ensures done { (region : Region) → SpellsRegion room.old.other.items region
-        → OnOk result (ReplacesRegion L.place region (B.seen b.old).memory (B.seen b.new).memory) }
-    ensures either { (region : Region) → SpellsRegion room.old.other.items region
-        → KeepsOrReplaces L.place region (B.seen b.old).memory (B.seen b.new).memory }
-    ensures blank { OnOk result (IsBlank (inactive_area_of_slot (B.seen b.new).memory.bbram L.place)) }
-    ensures besides { AgreeBesides L.place (B.seen b.old).memory.bbram (B.seen b.new).memory.bbram }
-    ensures ran { RanInSlot 3 L.place result (B.seen b.old) (B.seen b.new) }
-    ensures plans { SamePlans room.old room.new }
+    ensures { PutsInSlot L.place (SpellsRegion room.old.other.items) room.old room.new result
+        (B.seen b.old) (B.seen b.new) }
 {
     let s = commit_record::<S, L, B>(s, b, &room.other, &mut room.area)?;
     wipe_region::<S, L, B>(s, b)
@@ -92,24 +83,7 @@ pub fn bind<S: Reaches<L>, L: Named, B: Board>(
 ) -> Result<(S, OneUse, KeySeed), BindEnd<S>>
     requires up { IsUp S.stage (B.seen b.old) }
     requires held { HoldsOrdered (area_of_slot (B.seen b.old).memory.bbram L.place) }
-    ensures bound { (region : Region)
-        → HoldsRegion (area_of_slot (B.seen b.old).memory.bbram L.place) region
-        → BindOf region key result }
-    ensures done { OnOk result (StoresUse L.place key (B.seen b.old).memory (B.seen b.new).memory) }
-    ensures either { KeepsOrStoresUse L.place key (B.seen b.old).memory (B.seen b.new).memory }
-    ensures means { HasNoFate L.place (B.seen b.old).memory → (state : State)
-        → Means (B.seen b.old).memory state
-        → OnOk result (Means (B.seen b.new).memory (state_used L.place key state)) }
-    ensures means_either { HasNoFate L.place (B.seen b.old).memory → (state : State)
-        → Means (B.seen b.old).memory state
-        → Means (B.seen b.new).memory state
-        ⊎ Means (B.seen b.new).memory (state_used L.place key state) }
-    ensures blank { OnOk result (IsBlank (inactive_area_of_slot (B.seen b.new).memory.bbram L.place)) }
-    ensures unwritten { StaysUnbound result (B.seen b.old).memory (B.seen b.new).memory
-        (B.seen b.old).meter (B.seen b.new).meter }
-    ensures besides { AgreeBesides L.place (B.seen b.old).memory.bbram (B.seen b.new).memory.bbram }
-    ensures ran { RanInSlot 3 L.place (power_in result) (B.seen b.old) (B.seen b.new) }
-    ensures plans { SamePlans room.old room.new }
+    ensures { Binds L.place key result room.old room.new (B.seen b.old) (B.seen b.new) }
 {
     let found = match next_use(b, L::number(), key, room) {
         Ok(found) => found,

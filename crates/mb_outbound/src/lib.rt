@@ -2,8 +2,7 @@
 //!
 //! This crate owns how a key of a region is bound: its raised count of uses is stored, and the region's old area is
 //! wiped, before the right to sign at the index is returned. No index serves two statements, wherever power fails. The
-//! crate also owns what such a right signs, and the tree of the key that signed last. It stands on `mb_region` and
-//! `mb_signer`. No call takes memory.
+//! crate also owns what such a right signs, and the tree of the key that signed last. No call takes memory.
 #![tactic(auto)]
 
 mod binding;
@@ -12,4 +11,4 @@ mod stating;
 
 pub use binding::{BindEnd, bind};
 pub use kept::{RegionTree, region_tree};
-pub use stating::state_text;
+pub use stating::{Subject, state_text};

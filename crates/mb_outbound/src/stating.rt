@@ -15,38 +15,49 @@ use mb_model::{KeySeed, SIGNATURE_LENGTH};
 use mb_signer::{KeptTree, OneUse, sign_kept};
 use std::sync::ledger::Ledger;
 
+/// What a statement is of, besides its message: the device, the key that signs, and the configuration.
+#[derive(Drop)]
+pub struct Subject {
+    /// The device's serial.
+    pub serial: [u8; 16],
+    /// The number of the key.
+    pub key: u32,
+    /// The configuration number.
+    pub number: u32,
+}
+
 /// The text of a statement before the message: the domain separator, the device's serial, the number of the key, and
 /// the configuration number.
-fn statement_head(serial: &[u8; 16], key: u32, number: u32) -> [u8; 25]
-    ensures { result
-        ≡ STATEMENT_TEXT ∷ serial.now ++ to_be_bytes w32 key ++ to_be_bytes w32 number }
+fn statement_head(subject: &Subject) -> [u8; 25]
+    ensures { result ≡ STATEMENT_TEXT
+        ∷ subject.now.serial ++ to_be_bytes w32 subject.now.key
+        ++ to_be_bytes w32 subject.now.number }
 {
     let mut head = [0; 25];
     put_at(&mut head, 0, &[STATEMENT_TEXT]);
-    put_at(&mut head, 1, serial);
-    put_at(&mut head, 17, &key.to_be_bytes());
-    put_at(&mut head, 21, &number.to_be_bytes());
+    put_at(&mut head, 1, &subject.serial);
+    put_at(&mut head, 17, &subject.key.to_be_bytes());
+    put_at(&mut head, 21, &subject.number.to_be_bytes());
     head
 }
 
-/// Signs the statement of a message with the key of this number, in the device with this serial, at this configuration
-/// number. The seed and the tree are the key's. Spends the right; takes at most 1,074 hashes and no memory.
+/// Signs the statement of a message with the subject's key, in its device, at its configuration number. The seed and
+/// the tree are the key's. Spends the right; takes at most 1,074 hashes and no memory.
 pub fn state_text<L: Ledger>(
     right: OneUse,
     seed: &KeySeed,
     tree: &KeptTree,
-    serial: &[u8; 16],
-    key: u32,
-    number: u32,
+    subject: &Subject,
     message: &[u8],
     out: &mut [u8; SIGNATURE_LENGTH],
     hashes: &mut HashCount<L>,
 )
     requires { IsTreeOf seed.now tree.now }
     ensures signature { out.new
-        ≡ signature_of seed.now right (statement_text serial.now key number message.now) }
+        ≡ signature_of seed.now right (statement_text subject.now.serial subject.now.key
+        subject.now.number message.now) }
     ensures cost { hashes.new ≤ hashes.old + LEAF_HASHES }
 {
-    let head = statement_head(serial, key, number);
+    let head = statement_head(subject);
     sign_kept(right, tree, seed, &head, message, out, hashes);
 }

@@ -4,13 +4,10 @@ use Rattle.std.specs.Prelude.{Some}
 use Rattle.std.specs.Prelude.{Result, Ok, Err}
 use Rattle.std.specs.List.{AllZip}
 use Rattle.mb_format.specs.Combinators.{same_bytes}
-use Rattle.mb_model.specs.chains.Lines.{ReadsLines, TextFailsAtLine}
 use Rattle.mb_words.specs.declared.said.NotSaid.{NotSaid}
 use Rattle.mb_words.specs.declared.said.NotSaid.TheVariants as why
 use Rattle.mb_policy.specs.declared.keyword.Leaf.{Leaf}
 use Rattle.mb_policy.specs.declared.keyword.Pairing.{Pairing}
-use Rattle.mb_policy.specs.declared.lines.PolicyEnd.{PolicyEnd}
-use Rattle.mb_policy.specs.declared.lines.PolicyEnd.TheVariants as end
 use Rattle.mb_policy.specs.declared.policy.Policy.{Policy}
 use Rattle.mb_policy.specs.declared.policy.Line.{Line}
 use Rattle.mb_policy.specs.declared.policy.Line.TheVariants as line
@@ -21,7 +18,7 @@ use Rattle.mb_policy.specs.declared.policy.Test.TheVariants as node
 use Rattle.mb_policy.specs.Policies.{Test, both_of, either_of, opposite, owner_in, code_in, version_between, trust_is}
 use Rattle.mb_policy.specs.Policies.{reliable_at, number_between, comes_first, comes_last, kind_is, key_lives}
 use Rattle.mb_policy.specs.Policies.{has_message}
-use Rattle.mb_policy.specs.Policies.{HashSet, PolicyRule, PolicyItem, set_item, rule_item, line_words, IsPolicy}
+use Rattle.mb_policy.specs.Policies.{HashSet, PolicyRule, PolicyItem, set_item, rule_item, line_words}
 use Rattle.mb_policy.specs.Policies.{SaysSet, SaysRule, SaysItem, verb_word, IsHashWord, test_words, test_depth}
 use Rattle.mb_policy.specs.Policies.{MayFollow}
 use Rattle.mb_policy.specs.declared.limits.TheConstants.{HASH_LIMIT, DEPTH_LIMIT}
@@ -85,12 +82,6 @@ abbrev pub policy_items : Policy → List PolicyItem
 policy_items policy = items_of policy.lines
 
 -- ---- reading
-
--- The text says the policy, or this line of it is the first that is wrong. Nothing is said of a failed allocation.
-abbrev pub ReadsPolicy : List ℕ → Result Policy PolicyEnd → Type 0
-ReadsPolicy text (Ok policy) = ReadsLines IsPolicy text (policy_items policy)
-ReadsPolicy text (Err (end.BadLine line)) = TextFailsAtLine IsPolicy text line
-ReadsPolicy text (Err end.NoMemory) = Unit {0}
 
 -- the words that are left
 abbrev pub words_left : Bool → List ℕ → List (List ℕ)

@@ -3,9 +3,11 @@
 ghost use Rattle.std.specs.Prelude.{◌≡◌, ◌↔◌, ◌≤◌, ◌∷◌, codes, length, IsTrue};
 ghost use Rattle.std.specs.List.{list_any};
 ghost use Rattle.mb_model.specs.declared.limits.TheConstants.{FILE_LIMIT};
-ghost use Rattle.mb_model.specs.chains.Script.{IsName, is_skipped};
+ghost use Rattle.mb_model.specs.chains.Script.{IsName};
+ghost use Rattle.mb_words.specs.Words.{ReadsTextAs};
+ghost use Rattle.mb_policy.specs.Policies.{IsPolicy};
 ghost use Rattle.mb_policy.specs.Meanings.{items_of, line_has_rule, FindsHashes};
-ghost use Rattle.mb_policy.specs.Meanings.{ReadsPolicy, ReadsLine, ReadsSet, ReadsRule, ReadsTest};
+ghost use Rattle.mb_policy.specs.Meanings.{policy_items, ReadsLine, ReadsSet, ReadsRule, ReadsTest};
 ghost use Rattle.mb_policy.specs.Meanings.{EndsTest, MakesSet, MakesRule};
 
 use crate::keyword::{Verb, find_verb};
@@ -14,32 +16,13 @@ use crate::operands::find_set;
 use crate::policy::{Line, NamedSet, Policy, Rule, Test};
 use crate::reading::read_test;
 use crate::words::Words;
-use mb_model::{Bytes, Items, NAME_LIMIT, NoMemory};
-use mb_words::{NotSaid, read_array, split_line};
+use mb_model::{Bytes, Items, NAME_LIMIT};
+use mb_words::{NotSaid, TextEnd, is_skipped, read_array, split_line};
 use std::alloc::Global;
 
-/// Why a policy was not read.
-#[derive(Clone, Copy, Debug, PartialEq, Eq)]
-pub enum PolicyEnd {
-    /// A line is not in the grammar, repeats a name, names a set that does not stand before it, or is the 257th that is
-    /// not skipped.
-    BadLine {
-        /// The number of the first such line, from 1.
-        line: u32,
-    },
-    /// An allocation failed.
-    NoMemory,
-}
-
-impl From<NoMemory> for PolicyEnd {
-    ghost use Rattle.mb_policy.specs.declared.lines.PolicyEnd.TheVariants as end;
-
-    ghost from_gives = { λ _ e. e ≡ end.NoMemory };
-
-    fn from(_error: NoMemory) -> PolicyEnd {
-        PolicyEnd::NoMemory
-    }
-}
+/// Why a policy was not read: a line is not in the grammar, repeats a name, names a set that does not stand before it,
+/// or is the 257th that is not skipped; or an allocation failed.
+pub type PolicyEnd = TextEnd;
 
 /// The policy of a text. A line ends with LF, which the last may lack; empty lines and lines that begin with `#` are
 /// skipped. The text has at most 4,194,304 bytes.
@@ -48,7 +31,7 @@ impl From<NoMemory> for PolicyEnd {
 /// read with ample memory.
 pub fn read_policy(alloc: Global, text: &[u8]) -> Result<Policy, PolicyEnd>
     requires { length text.now ≤ FILE_LIMIT }
-    ensures { ReadsPolicy text.now result }
+    ensures { ReadsTextAs policy_items IsPolicy text.now result }
 {
     let mut lines = Items::new(alloc);
     let mut number: u32 = 0;
@@ -71,16 +54,6 @@ pub fn read_policy(alloc: Global, text: &[u8]) -> Result<Policy, PolicyEnd>
         }
     }
     Ok(Policy { lines })
-}
-
-/// Whether a line says nothing.
-fn is_skipped(line: &[u8]) -> bool
-    ensures { result ≡ is_skipped line.now }
-{
-    match line.first() {
-        Some(byte) => *byte == b'#',
-        None => true,
-    }
 }
 
 /// What a line says after the lines before it.

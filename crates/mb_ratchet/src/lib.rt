@@ -1,7 +1,7 @@
 //! The typed states of a device by its hardware ratchet.
 //!
 //! This crate owns the ratchet's register, the types that show in which state it is, and which of these states reach
-//! which part of the battery-backed memory. A state is used up by the call that leaves it, and cannot be copied, so
+//! which compartment of the battery-backed memory. A state is used up by the call that leaves it, and cannot be copied, so
 //! that the level only rises until power goes. No call takes memory.
 #![tactic(auto)]
 
@@ -9,7 +9,7 @@ mod reach;
 mod register;
 mod state;
 
-pub use reach::{One, Place, Reaches, Three, Two};
+pub use reach::{Compartment, One, Reaches, Three, Two};
 pub use register::Register;
 pub use state::{Dead, Off, R1, R2, R3, Up, Zero};
 

@@ -1,4 +1,4 @@
-//! Which states reach which part of the battery-backed memory.
+//! Which states reach which compartment of the battery-backed memory.
 
 ghost use Rattle.std.specs.Prelude.{◌≡◌, ◌≤◌, ℕ, false};
 ghost use Rattle.std.proofs.Common.{rules};
@@ -6,12 +6,12 @@ ghost use Rattle.std.proofs.Common.{rules};
 use crate::register::Register;
 use crate::state::{Off, R1, R2, R3, Up};
 
-/// A part of the battery-backed memory: the root or a region.
-pub trait Place {
-    /// The number of the place, 1 to 3.
+/// A compartment of the battery-backed memory: that of the root, or of a region.
+pub trait Compartment {
+    /// The place of the compartment: 1 for the root, 2 and 3 for the regions.
     ghost place: { ℕ };
 
-    /// The number of the place, 1 to 3.
+    /// The place of the compartment, from 1 to 3.
     fn number() -> u16
         ensures { result ≡ place };
 
@@ -20,19 +20,19 @@ pub trait Place {
     ghost most: { place ≤ 3 };
 }
 
-/// The root.
+/// The compartment of the root.
 #[derive(Drop)]
 pub struct One;
 
-/// Region 2, of layer 2.
+/// The compartment of region 2, of layer 2.
 #[derive(Drop)]
 pub struct Two;
 
-/// Region 3, of layer 3.
+/// The compartment of region 3, of layer 3.
 #[derive(Drop)]
 pub struct Three;
 
-impl Place for One {
+impl Compartment for One {
     ghost place = { 1 };
 
     ghost least = { Prim.search rules };
@@ -44,7 +44,7 @@ impl Place for One {
     }
 }
 
-impl Place for Two {
+impl Compartment for Two {
     ghost place = { 2 };
 
     ghost least = { Prim.search rules };
@@ -56,7 +56,7 @@ impl Place for Two {
     }
 }
 
-impl Place for Three {
+impl Compartment for Three {
     ghost place = { 3 };
 
     ghost least = { Prim.search rules };
@@ -68,9 +68,9 @@ impl Place for Three {
     }
 }
 
-/// A state that reaches the place `L`: the level at which it stands is at least 1, and no higher than the place's
-/// number.
-pub trait Reaches<L: Place> {
+/// A state that reaches the compartment `L`: the level at which it stands is at least 1, and no higher than the
+/// compartment's number.
+pub trait Reaches<L: Compartment> {
     /// The level at which this state stands.
     ghost stage: { ℕ };
 
@@ -83,7 +83,7 @@ pub trait Reaches<L: Place> {
     ghost within: { stage ≤ L.place };
 }
 
-impl<L: Place> Reaches<L> for Up<R1> {
+impl<L: Compartment> Reaches<L> for Up<R1> {
     ghost stage = { 1 };
 
     ghost raised = { Prim.search rules };

@@ -41,7 +41,7 @@ struct Held {
     up: Up<R1>,
 }
 
-impl<L: Place> Reaches<L> for Held {
+impl<L: Compartment> Reaches<L> for Held {
     ghost stage = { 1 };
 
     ghost raised = { Prim.search rules };
@@ -54,8 +54,8 @@ impl<L: Place> Reaches<L> for Held {
     }
 }
 
-// Power fails at an access to the place.
-fn fails_at<L: Place, S: Reaches<L>, R: Register>(state: S, r: &mut R) -> Off
+// Power fails at an access to the compartment.
+fn fails_at<L: Compartment, S: Reaches<L>, R: Register>(state: S, r: &mut R) -> Off
     requires power { R.power r.old ≡ true }
     requires level { R.level r.old ≡ S.stage }
     ensures power { R.power r.new ≡ false }
@@ -105,7 +105,7 @@ fn stays_dead(rt: HostRuntime) {
 }
 
 #[test]
-fn power_fails_at_each_place(rt: HostRuntime) {
+fn power_fails_at_each_compartment(rt: HostRuntime) {
     let mut small = off();
     let one = Off::first(&small).power_on(&mut small).advance(&mut small);
     let one = fails_at::<One, Up<R1>, Small>(one, &mut small)
@@ -135,15 +135,15 @@ fn power_fails_at_each_place(rt: HostRuntime) {
     assert_eq!(rt; small.byte, 7);
 }
 
-// The number of a place.
-fn number_of<L: Place>() -> u16
+// The number of a compartment.
+fn number_of<L: Compartment>() -> u16
     ensures { result ≡ L.place }
 {
     L::number()
 }
 
 #[test]
-fn places_have_their_numbers(rt: HostRuntime) {
+fn compartments_have_their_numbers(rt: HostRuntime) {
     assert_eq!(rt; number_of::<One>(), 1);
     assert_eq!(rt; number_of::<Two>(), 2);
     assert_eq!(rt; number_of::<Three>(), 3);

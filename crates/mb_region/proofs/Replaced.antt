@@ -25,6 +25,11 @@ use Rattle.mb_model_memory.specs.InForce.{AgreeBesides}
 use Rattle.mb_model_memory.proofs.FrameLemmas.{two_replaced, three_replaced}
 use Rattle.mb_model_memory.specs.Holding.{Holds, Means, region_in_slot, with_region_in, fate_in_slot, KeepsContents}
 use Rattle.mb_model_memory.proofs.CommitLemmas.{stands_for_meant, live_contents, two_done_means, three_done_means}
+use Rattle.mb_board.specs.declared.board.Stopped.{Stopped}
+use Rattle.mb_board.specs.Calls.{Seen}
+use Rattle.mb_slot.specs.Slots.{CanUse}
+use Rattle.mb_layout.specs.declared.room.Room.{Room}
+use Rattle.mb_region.specs.Calls.{FinishesFate}
 use Rattle.mb_region.specs.Regions.{IsRegionSlot, HoldsSomeRegion, ReplacesRegion, KeepsOrReplaces}
 use Rattle.mb_region.specs.Fates.{CanBeFated, IsPending, fated_in, AppliesFate, KeepsOrApplies}
 
@@ -132,6 +137,21 @@ keep_applied slot memory = record { applied = λ contents holds. subst (Holds me
 pub fate_kept : (slot : ℕ) (fate : Fate) (memory : Memory) → fate ≡ Keep → AppliesFate slot fate memory memory
 fate_kept slot fate memory same = subst (λ (f : Fate). AppliesFate slot f memory memory) (sym same) (keep_applied slot memory)
 
+pub keep_finished : (slot : ℕ) (fate : Fate) (room : Room) (seen : Seen) → CanUse seen slot → fate ≡ Keep → FinishesFate slot fate room room {A = Unit {0}} {E = Stopped} (Ok tt) seen seen
+keep_finished slot fate room seen can same = record {
+  done = fate_kept slot fate seen.memory same;
+  either = λ contents holds. inl holds;
+  meaning = λ state means. means;
+  idle = λ keep. (refl, refl, refl);
+  besides = record { life = refl; between = refl; others = λ m least most apart. refl };
+  ran = record {
+    ran = record { power = can.on; level = refl; sized = can.loaded; ledger = refl; meter = record { armed = refl; stops = refl; writes = omega arith; cut = tt } };
+    flash = refl;
+    rest = record { sized = refl; bytes = λ offset selector first second. refl };
+  };
+  plans = record { code = refl; code_layer = refl; header = refl; log = refl };
+}
+
 -- these bytes stand for each region that the area held, after this edit
 abbrev pub AreEdited : (Region → Region) → List ℕ → List ℕ → Type 0
 AreEdited edit area bytes = (region : Region) → HoldsRegion area region → SpellsRegion bytes (edit region)
@@ -193,12 +213,6 @@ fate_means slot fate before after state which sized is either means =
         stands_for_meant after.flash after.bbram (fated_in slot fate contents) state sized holds
         (subst (λ (r : Root). HasIndex r r.pending) (sym (root_in (slot == 2) _ _ contents)) index)
         (done_means slot fate contents which pending ∙ same)
-
--- the place is that of the slot
-pub fate_keeps_meaning : (slot place : ℕ) (fate : Fate) (before after : Memory) (state : State) → slot ≡ place → IsRegionSlot place → IsLoaded after → IsPending place fate before
-    → KeepsOrApplies slot fate before after → Means before state → Means after state
-fate_keeps_meaning slot place fate before after state same which sized is either =
-    fate_means slot fate before after state (subst IsRegionSlot (sym same) which) sized (subst (λ (n : ℕ). IsPending n fate before) (sym same) is) either
 
 -- ---- what was read
 

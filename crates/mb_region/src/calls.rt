@@ -1,21 +1,16 @@
 //! The calls on regions, by the part of the memory that holds one and the state that reaches it.
 
-ghost use Rattle.std.specs.Prelude.{◌≡◌, ◌≤◌, ◌⊎◌, length, OnOk, IfOk, IsOk, vec_capacity};
+ghost use Rattle.std.specs.Prelude.{◌≡◌, ◌≤◌, length, IfOk, vec_capacity};
 ghost use Rattle.mb_layout.specs.Plans.{SamePlans};
 ghost use Rattle.mb_model.specs.declared.limits.TheConstants.{AREA_LENGTH, RECORD_LIMIT};
 ghost use Rattle.mb_model.specs.declared.region.Region.{Region};
-ghost use Rattle.mb_model.specs.declared.state.State.{State};
-ghost use Rattle.mb_model.specs.declared.stored.Fate.TheVariants.{Keep};
-ghost use Rattle.mb_model.specs.memories.Memory.{IsBlank, area_of_slot, inactive_area_of_slot};
+ghost use Rattle.mb_model.specs.memories.Memory.{area_of_slot};
 ghost use Rattle.mb_model.specs.memories.Meaning.{HoldsRegion};
-ghost use Rattle.mb_model.specs.records.RegionFormat.{SpellsRegion, CanBeWritten};
-ghost use Rattle.mb_model.specs.owners.Regions.{with_region};
+ghost use Rattle.mb_model.specs.records.RegionFormat.{CanBeWritten};
 ghost use Rattle.mb_board.specs.Calls.{IsUp};
-ghost use Rattle.mb_model_memory.specs.Holding.{Means, KeepsContents};
-ghost use Rattle.mb_model_memory.specs.InForce.{AgreeBesides};
-ghost use Rattle.mb_slot.specs.Slots.{RanInOther, RanInSlot};
-ghost use Rattle.mb_region.specs.Regions.{HoldsSomeRegion, HasNoFate, ReplacesRegion, KeepsOrReplaces};
-ghost use Rattle.mb_region.specs.Fates.{IsPending, AppliesFate, KeepsOrApplies};
+ghost use Rattle.mb_region.specs.Regions.{HoldsSomeRegion};
+ghost use Rattle.mb_region.specs.Fates.{IsPending};
+ghost use Rattle.mb_region.specs.Calls.{CommitsRecord, CommitsRegion, FinishesFate, WipesRegion};
 
 use crate::named::Named;
 use crate::stored::{count_keys_in, finish_fate, load_region, replace, store_region};
@@ -66,15 +61,7 @@ pub fn commit_record<S: Reaches<L>, L: Named, B: Board>(
     requires up { IsUp S.stage (B.seen b.old) }
     requires short { length bytes.now ≤ RECORD_LIMIT }
     requires room { AREA_LENGTH ≤ vec_capacity area.old }
-    ensures done { (region : Region) → SpellsRegion bytes.now region
-        → OnOk result (ReplacesRegion L.place region (B.seen b.old).memory (B.seen b.new).memory) }
-    ensures either { (region : Region) → SpellsRegion bytes.now region
-        → KeepsOrReplaces L.place region (B.seen b.old).memory (B.seen b.new).memory }
-    ensures left { OnOk result (inactive_area_of_slot (B.seen b.new).memory.bbram L.place
-        ≡ area_of_slot (B.seen b.old).memory.bbram L.place) }
-    ensures besides { AgreeBesides L.place (B.seen b.old).memory.bbram (B.seen b.new).memory.bbram }
-    ensures ran { RanInSlot 2 L.place result (B.seen b.old) (B.seen b.new) }
-    ensures capacity { vec_capacity area.old ≤ vec_capacity area.new }
+    ensures { CommitsRecord L.place bytes.now area.old area.new result (B.seen b.old) (B.seen b.new) }
 {
     match replace(b, L::number(), bytes, area) {
         Ok(()) => Ok(s),
@@ -92,22 +79,7 @@ pub fn commit_region<S: Reaches<L>, L: Named, B: Board>(
 ) -> Result<S, Off>
     requires up { IsUp S.stage (B.seen b.old) }
     requires stored { CanBeWritten region.now }
-    ensures done { OnOk result (ReplacesRegion L.place region.now (B.seen b.old).memory
-        (B.seen b.new).memory) }
-    ensures either { KeepsOrReplaces L.place region.now (B.seen b.old).memory
-        (B.seen b.new).memory }
-    ensures means { HasNoFate L.place (B.seen b.old).memory → (state : State)
-        → Means (B.seen b.old).memory state
-        → OnOk result (Means (B.seen b.new).memory (with_region state L.place region.now)) }
-    ensures means_either { HasNoFate L.place (B.seen b.old).memory → (state : State)
-        → Means (B.seen b.old).memory state
-        → Means (B.seen b.new).memory state
-        ⊎ Means (B.seen b.new).memory (with_region state L.place region.now) }
-    ensures left { OnOk result (inactive_area_of_slot (B.seen b.new).memory.bbram L.place
-        ≡ area_of_slot (B.seen b.old).memory.bbram L.place) }
-    ensures besides { AgreeBesides L.place (B.seen b.old).memory.bbram (B.seen b.new).memory.bbram }
-    ensures ran { RanInSlot 2 L.place result (B.seen b.old) (B.seen b.new) }
-    ensures plans { SamePlans room.old room.new }
+    ensures { CommitsRegion L.place region.now room.old room.new result (B.seen b.old) (B.seen b.new) }
 {
     match store_region(b, L::number(), region, room) {
         Ok(()) => Ok(s),
@@ -125,17 +97,7 @@ pub fn apply_fate<S: Reaches<L>, L: Named, B: Board>(
 ) -> Result<S, Off>
     requires up { IsUp S.stage (B.seen b.old) }
     requires pending { IsPending L.place fate.now (B.seen b.old).memory }
-    ensures done { OnOk result (AppliesFate L.place fate.now (B.seen b.old).memory
-        (B.seen b.new).memory) }
-    ensures either { KeepsOrApplies L.place fate.now (B.seen b.old).memory (B.seen b.new).memory }
-    ensures meaning { (state : State) → Means (B.seen b.old).memory state
-        → Means (B.seen b.new).memory state }
-    ensures idle { fate.now ≡ Keep
-        → IsOk result × ((B.seen b.new).memory ≡ (B.seen b.old).memory)
-        × ((B.seen b.new).meter ≡ (B.seen b.old).meter) }
-    ensures besides { AgreeBesides L.place (B.seen b.old).memory.bbram (B.seen b.new).memory.bbram }
-    ensures ran { RanInSlot 2 L.place result (B.seen b.old) (B.seen b.new) }
-    ensures plans { SamePlans room.old room.new }
+    ensures { FinishesFate L.place fate.now room.old room.new result (B.seen b.old) (B.seen b.new) }
 {
     match finish_fate(b, L::number(), fate, room) {
         Ok(()) => Ok(s),
@@ -147,15 +109,7 @@ pub fn apply_fate<S: Reaches<L>, L: Named, B: Board>(
 /// one write call.
 pub fn wipe_region<S: Reaches<L>, L: Named, B: Board>(s: S, b: &mut B) -> Result<S, Off>
     requires up { IsUp S.stage (B.seen b.old) }
-    ensures blank { OnOk result (IsBlank (inactive_area_of_slot (B.seen b.new).memory.bbram L.place)) }
-    ensures current { area_of_slot (B.seen b.new).memory.bbram L.place
-        ≡ area_of_slot (B.seen b.old).memory.bbram L.place }
-    ensures contents { KeepsContents (B.seen b.old).memory (B.seen b.new).memory }
-    ensures idle { IsBlank (inactive_area_of_slot (B.seen b.old).memory.bbram L.place)
-        → IsOk result × ((B.seen b.new).memory ≡ (B.seen b.old).memory)
-        × ((B.seen b.new).meter ≡ (B.seen b.old).meter) }
-    ensures besides { AgreeBesides L.place (B.seen b.old).memory.bbram (B.seen b.new).memory.bbram }
-    ensures ran { RanInOther 1 L.place result (B.seen b.old) (B.seen b.new) }
+    ensures { WipesRegion L.place result (B.seen b.old) (B.seen b.new) }
 {
     match wipe_other(b, L::number()) {
         Ok(()) => Ok(s),

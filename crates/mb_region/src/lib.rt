@@ -2,8 +2,8 @@
 //!
 //! This crate owns how a region is read from the battery-backed memory, counted, replaced, and given the fate that an
 //! order left pending for it, so that wherever power fails the memory holds the region before or the one after. Each
-//! call that writes takes the state of the device that reaches the region, and returns it. The crate stands on
-//! `mb_slot` and `mb_layout`. Only `read_stored` takes memory.
+//! call that writes takes the state of the device that reaches the region, and returns it. Only `read_stored` takes
+//! memory.
 #![tactic(auto)]
 
 mod calls;

@@ -1,12 +1,12 @@
-//! The parts of the battery-backed memory that hold regions.
+//! The compartments of the battery-backed memory that hold regions.
 
 ghost use Rattle.std.specs.Prelude.{◌≡◌, ◌⊎◌};
 ghost use Rattle.std.proofs.Common.{rules};
 
-use mb_ratchet::{Place, Three, Two};
+use mb_ratchet::{Compartment, Three, Two};
 
-/// The part of the battery-backed memory that holds a region: `Two` or `Three`.
-pub trait Named: Place {
+/// The compartment of a region: `Two` or `Three`.
+pub trait Named: Compartment {
     ghost named: { (Self.place ≡ 2) ⊎ (Self.place ≡ 3) };
 }
 

@@ -1,19 +1,18 @@
 //! Regions by the number of their slot.
 
-ghost use Rattle.std.specs.Prelude.{◌≡◌, ◌≤◌, ◌⊎◌, length, OnOk, IfOk, Ok, vec_capacity, ◌↔◌, IsTrue};
+ghost use Rattle.std.specs.Prelude.{◌≡◌, ◌≤◌, length, IfOk, vec_capacity, ◌↔◌, IsTrue};
 ghost use Rattle.mb_format.specs.Format.{IsBytes};
 ghost use Rattle.mb_layout.specs.Plans.{SamePlans};
 ghost use Rattle.mb_model.specs.declared.limits.TheConstants.{AREA_LENGTH, RECORD_LIMIT};
 ghost use Rattle.mb_model.specs.declared.region.Region.{Region};
-ghost use Rattle.mb_model.specs.declared.stored.Fate.TheVariants.{Keep};
-ghost use Rattle.mb_model.specs.memories.Memory.{area_of_slot, inactive_area_of_slot, HoldsInArea};
+ghost use Rattle.mb_model.specs.memories.Memory.{area_of_slot};
 ghost use Rattle.mb_model.specs.memories.Meaning.{HoldsRegion, region_after_fate};
 ghost use Rattle.mb_model.specs.owners.Regions.{empty_region};
 ghost use Rattle.mb_model.specs.records.RegionFormat.{SpellsRegion, CanBeWritten};
-ghost use Rattle.mb_model_memory.specs.InForce.{AgreeBesides};
-ghost use Rattle.mb_slot.specs.Slots.{CanUse, RanInSlot};
-ghost use Rattle.mb_region.specs.Regions.{IsRegionSlot, HoldsSomeRegion, ReplacesRegion, KeepsOrReplaces};
-ghost use Rattle.mb_region.specs.Fates.{CanBeFated, IsPending, AppliesFate, KeepsOrApplies};
+ghost use Rattle.mb_slot.specs.Slots.{CanUse};
+ghost use Rattle.mb_region.specs.Regions.{IsRegionSlot, HoldsSomeRegion};
+ghost use Rattle.mb_region.specs.Fates.{CanBeFated, IsPending};
+ghost use Rattle.mb_region.specs.Calls.{CommitsBytes, CommitsRecord, CommitsRegion, FinishesFate};
 
 use mb_board::{Board, Stopped};
 use mb_layout::{Room, fill_area, make_area, record_in, region_in, write_region};
@@ -32,15 +31,7 @@ fn commit_bytes<B: Board>(
     requires can_use { CanUse (B.seen b.old) slot }
     requires short { length bytes.now ≤ RECORD_LIMIT }
     requires room { AREA_LENGTH ≤ vec_capacity area.old }
-    ensures done { OnOk result (HoldsInArea (area_of_slot (B.seen b.new).memory.bbram slot) bytes.now) }
-    ensures either { (area_of_slot (B.seen b.new).memory.bbram slot
-        ≡ area_of_slot (B.seen b.old).memory.bbram slot)
-        ⊎ HoldsInArea (area_of_slot (B.seen b.new).memory.bbram slot) bytes.now }
-    ensures left { OnOk result (inactive_area_of_slot (B.seen b.new).memory.bbram slot
-        ≡ area_of_slot (B.seen b.old).memory.bbram slot) }
-    ensures besides { AgreeBesides slot (B.seen b.old).memory.bbram (B.seen b.new).memory.bbram }
-    ensures ran { RanInSlot 2 slot result (B.seen b.old) (B.seen b.new) }
-    ensures capacity { vec_capacity area.old ≤ vec_capacity area.new }
+    ensures { CommitsBytes slot bytes.now area.old area.new result (B.seen b.old) (B.seen b.new) }
 {
     make_area(area);
     fill_area(bytes, area);
@@ -58,15 +49,7 @@ pub(crate) fn replace<B: Board>(
     requires slot { IsRegionSlot slot }
     requires short { length bytes.now ≤ RECORD_LIMIT }
     requires room { AREA_LENGTH ≤ vec_capacity area.old }
-    ensures done { (region : Region) → SpellsRegion bytes.now region
-        → OnOk result (ReplacesRegion slot region (B.seen b.old).memory (B.seen b.new).memory) }
-    ensures either { (region : Region) → SpellsRegion bytes.now region
-        → KeepsOrReplaces slot region (B.seen b.old).memory (B.seen b.new).memory }
-    ensures left { OnOk result (inactive_area_of_slot (B.seen b.new).memory.bbram slot
-        ≡ area_of_slot (B.seen b.old).memory.bbram slot) }
-    ensures besides { AgreeBesides slot (B.seen b.old).memory.bbram (B.seen b.new).memory.bbram }
-    ensures ran { RanInSlot 2 slot result (B.seen b.old) (B.seen b.new) }
-    ensures capacity { vec_capacity area.old ≤ vec_capacity area.new }
+    ensures { CommitsRecord slot bytes.now area.old area.new result (B.seen b.old) (B.seen b.new) }
 {
     commit_bytes(b, slot, bytes, area)
 }
@@ -103,14 +86,7 @@ pub(crate) fn store_region<B: Board>(
     requires can_use { CanUse (B.seen b.old) slot }
     requires slot { IsRegionSlot slot }
     requires stored { CanBeWritten region.now }
-    ensures done { OnOk result (ReplacesRegion slot region.now (B.seen b.old).memory
-        (B.seen b.new).memory) }
-    ensures either { KeepsOrReplaces slot region.now (B.seen b.old).memory (B.seen b.new).memory }
-    ensures left { OnOk result (inactive_area_of_slot (B.seen b.new).memory.bbram slot
-        ≡ area_of_slot (B.seen b.old).memory.bbram slot) }
-    ensures besides { AgreeBesides slot (B.seen b.old).memory.bbram (B.seen b.new).memory.bbram }
-    ensures ran { RanInSlot 2 slot result (B.seen b.old) (B.seen b.new) }
-    ensures plans { SamePlans room.old room.new }
+    ensures { CommitsRegion slot region.now room.old room.new result (B.seen b.old) (B.seen b.new) }
 {
     region_bytes(region, &mut room.other);
     replace(b, slot, &room.other, &mut room.area)
@@ -155,15 +131,7 @@ pub(crate) fn finish_fate<B: Board>(
     requires can_use { CanUse (B.seen b.old) slot }
     requires slot { IsRegionSlot slot }
     requires pending { IsPending slot fate.now (B.seen b.old).memory }
-    ensures done { OnOk result (AppliesFate slot fate.now (B.seen b.old).memory
-        (B.seen b.new).memory) }
-    ensures either { KeepsOrApplies slot fate.now (B.seen b.old).memory (B.seen b.new).memory }
-    ensures idle { fate.now ≡ Keep
-        → (result ≡ Ok tt) × ((B.seen b.new).memory ≡ (B.seen b.old).memory)
-        × ((B.seen b.new).meter ≡ (B.seen b.old).meter) }
-    ensures besides { AgreeBesides slot (B.seen b.old).memory.bbram (B.seen b.new).memory.bbram }
-    ensures ran { RanInSlot 2 slot result (B.seen b.old) (B.seen b.new) }
-    ensures plans { SamePlans room.old room.new }
+    ensures { FinishesFate slot fate.now room.old room.new result (B.seen b.old) (B.seen b.new) }
 {
     if let Fate::Keep = fate {
         return Ok(());

@@ -1,24 +1,13 @@
 -- What the readers of a script give. Is what is read exactly what stands there?
-use Rattle.std.specs.Prelude.{◌≡◌, ℕ, ◌+◌, ◌≤◌, false, not, filter, List, ◌∷◌, ◌++◌, length, codes, IsTrue, Result}
-use Rattle.std.specs.Prelude.{Ok, Err}
+use Rattle.std.specs.Prelude.{◌≡◌, ℕ, ◌+◌, ◌≤◌, false, not, filter, List, ◌∷◌, ◌++◌, length, codes, IsTrue}
 use Rattle.std.specs.Fmt.{decimal}
 use Rattle.mb_model.specs.declared.limits.TheConstants.{FILL_LIMIT, FLASH_LENGTH}
-use Rattle.mb_model.specs.declared.event.Event.{Event}
 use Rattle.mb_model.specs.owners.Layers.{is_upper}
 use Rattle.mb_model.specs.outside.Texts.{IsHex}
-use Rattle.mb_model.specs.chains.Lines.{HasLines, ReadsLines, TextFailsAtLine}
-use Rattle.mb_model.specs.chains.Script.{IsName, is_skipped, IsScript}
-use Rattle.mb_script.specs.declared.script.ScriptEnd.{ScriptEnd}
-use Rattle.mb_script.specs.declared.script.ScriptEnd.TheVariants as end
+use Rattle.mb_model.specs.chains.Lines.{HasLines}
+use Rattle.mb_model.specs.chains.Script.{IsName, is_skipped}
 
 -- ---- a script
-
--- The text is a script of these events, or this line of it is the first that is wrong. Nothing is said of a failed
--- allocation.
-abbrev pub ReadsScript : List ℕ → Result (List Event) ScriptEnd → Type 0
-ReadsScript text (Ok events) = ReadsLines IsScript text events
-ReadsScript text (Err (end.BadLine line)) = TextFailsAtLine IsScript text line
-ReadsScript text (Err end.NoMemory) = Unit {0}
 
 -- the lines that say events
 abbrev pub lines_said : List (List ℕ) → List (List ℕ)

@@ -5,7 +5,8 @@ ghost use Rattle.std.specs.Fmt.{decimal};
 ghost use Rattle.hex.specs.Hex.{encode_lower};
 ghost use Rattle.mb_model.specs.outside.Texts.{line_with_lf};
 ghost use Rattle.mb_model.specs.chains.Lines.{hex_word};
-ghost use Rattle.mb_model.specs.chains.Replies.{standing_word, refusal_words, reply_line};
+ghost use Rattle.mb_model.specs.machine.Refusals.{refusal_words};
+ghost use Rattle.mb_model.specs.chains.Replies.{standing_word, reply_line};
 ghost use Rattle.mb_bytes.specs.Puts.{Puts, Writes};
 
 use mb_bytes::put_slice;

@@ -1,36 +1,18 @@
 //! The text of a script, read line by line.
 
-ghost use Rattle.std.specs.Prelude.{◌≡◌, ◌≤◌, length};
+ghost use Rattle.std.specs.Prelude.{◌≤◌, length};
 ghost use Rattle.mb_model.specs.declared.limits.TheConstants.{FILE_LIMIT};
-ghost use Rattle.mb_model.specs.chains.Script.{is_skipped};
-ghost use Rattle.mb_script.specs.Reading.{ReadsScript, IsLineOf};
+ghost use Rattle.mb_model.specs.chains.Script.{IsScript};
+ghost use Rattle.mb_words.specs.Words.{ReadsTextOf};
+ghost use Rattle.mb_script.specs.Reading.{IsLineOf};
 
 use crate::events::read_event;
-use mb_model::{EVENT_LIMIT, Events, NoMemory};
-use mb_words::{NotSaid, split_line};
+use mb_model::{EVENT_LIMIT, Events};
+use mb_words::{NotSaid, TextEnd, is_skipped, split_line};
 use std::alloc::Global;
 
-/// Why a script was not read.
-#[derive(Clone, Copy, Debug, PartialEq, Eq)]
-pub enum ScriptEnd {
-    /// A line is not in the grammar, or has an event too many.
-    BadLine {
-        /// The number of the first such line, from 1.
-        line: u32,
-    },
-    /// An allocation failed.
-    NoMemory,
-}
-
-impl From<NoMemory> for ScriptEnd {
-    ghost use Rattle.mb_script.specs.declared.script.ScriptEnd.TheVariants as end;
-
-    ghost from_gives = { λ _ e. e ≡ end.NoMemory };
-
-    fn from(_error: NoMemory) -> ScriptEnd {
-        ScriptEnd::NoMemory
-    }
-}
+/// Why a script was not read: a line is not in the grammar, or has an event too many; or an allocation failed.
+pub type ScriptEnd = TextEnd;
 
 /// Reads the events of a script of at most 4,194,304 bytes, in order. The draw of each command is all zeros. A line
 /// ends with LF, which the last may lack; empty lines and lines that begin with `#` are skipped.
@@ -38,7 +20,7 @@ impl From<NoMemory> for ScriptEnd {
 /// Errors: `BadLine` with the first line that is not in the grammar or has the 65,537th event, and `NoMemory`.
 pub fn read_script(alloc: Global, text: &[u8]) -> Result<Events, ScriptEnd>
     requires { length text.now ≤ FILE_LIMIT }
-    ensures { ReadsScript text.now result }
+    ensures { ReadsTextOf IsScript text.now result }
 {
     let mut events = Events::new(alloc);
     let mut number: u32 = 0;
@@ -85,14 +67,4 @@ pub fn line_of(text: &[u8], index: usize) -> u32
         passed += 1;
     }
     number + 1
-}
-
-/// Whether a line is skipped: it is empty, or a comment.
-fn is_skipped(line: &[u8]) -> bool
-    ensures { result ≡ is_skipped line.now }
-{
-    match line.first() {
-        Some(byte) => *byte == b'#',
-        None => true,
-    }
 }

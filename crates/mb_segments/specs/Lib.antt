@@ -1,4 +1,3 @@
 pub mod Beginnings
 pub mod Bounds
-pub mod Ends
 pub mod Uncopied

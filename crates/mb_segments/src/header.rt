@@ -8,13 +8,12 @@ ghost use Rattle.mb_bytes.specs.Puts.{Puts, Writes};
 ghost use Rattle.std.specs.Option.{option_copied};
 ghost use Rattle.mb_segments.specs.Beginnings.{FindsBeginning, ReadsBeginning};
 ghost use Rattle.mb_segments.specs.Bounds.{TextsFit, HeaderFits};
-ghost use Rattle.mb_segments.specs.Ends.{end_at};
+ghost use Rattle.mb_bytes.specs.Ends.{end_at};
 ghost use Rattle.mb_segments.specs.Uncopied.{texts_of, header_of};
 
-use crate::end::HeaderEnd;
 use mb_bytes::{
-    Cursor, bytes_after_u16, put_after_u16, put_slice, put_u8, put_u16, put_u32, u8_between,
-    u16_between, u32_between, word_at,
+    Cursor, ReadEnd, bytes_after_u16, put_after_u16, put_slice, put_u8, put_u16, put_u32,
+    u8_between, u16_between, u32_between, word_at,
 };
 use mb_model::{
     BadRecord, Bytes, CODE_LIMIT, ENTRY_LIMIT, ENTRY_TEXT_LIMIT, Header, NoMemory, Slot,
@@ -176,7 +175,7 @@ fn copy_header(alloc: Global, stored: StoredHeader<'_>) -> Result<Header, NoMemo
 /// Reads the header at the beginning of a sector, whatever bytes follow it. Else `Bad` with the offset of the first
 /// field that lacks bytes or is not allowed, or `NoMemory`. The sector has at most 4,194,304 bytes; nothing here
 /// depends on the length of a sector.
-pub fn read_header(alloc: Global, sector: &[u8]) -> Result<Header, HeaderEnd>
+pub fn read_header(alloc: Global, sector: &[u8]) -> Result<Header, ReadEnd>
     requires { length sector.now ≤ FILE_LIMIT }
     ensures { ReadsBeginning end_at header_format sector.now result }
 {

@@ -10,7 +10,7 @@ use crate::one_time::{CHAINS, chain_value, message_hash, randomizer_at};
 use crate::tree::{KeptTree, LEAVES};
 use crate::uses::OneUse;
 use mb_bytes::{chains_type, put_at, tree_type};
-use mb_lms::{HashCount, digit, digits_of};
+use mb_lms::{HashCount, coef, digits_of};
 use mb_model::{Chains, KeySeed, PublicKey, SIGNATURE_LENGTH, Tree};
 use std::sync::ledger::Ledger;
 
@@ -112,7 +112,7 @@ fn put_values<L: Ledger>(
     ensures cost { hashes.new ≤ hashes.old + 1072 }
 {
     for chain in 0..CHAINS {
-        let value = chain_value(seed, q, chain, digit(Chains::W4, digits, chain), hashes);
+        let value = chain_value(seed, q, chain, coef(Chains::W4, digits, chain), hashes);
         put_at(out, VALUES_AT + 32 * usize::from(chain), &value);
     }
 }

@@ -1,7 +1,7 @@
 -- What a call on a slot of the battery-backed memory needs, and what it may change. Can a write to one slot reach
 -- another?
 use Rattle.std.specs.Prelude.{◌≡◌, ◌≢◌, ℕ, ◌+◌, ◌<◌, ◌≤◌, ◌%◌, ◌==◌, ◌⊎◌, List, length, slice_index}
-use Rattle.std.specs.Prelude.{Bool, true, not, if◌then◌else◌, Result}
+use Rattle.std.specs.Prelude.{Bool, true, not, if◌then◌else◌, Result, IsOk}
 use Rattle.mb_model.specs.declared.limits.TheConstants.{AREA_LENGTH, BBRAM_LENGTH}
 use Rattle.mb_model.specs.memories.Memory.{slots, selector_of, area_of_slot, inactive_area_of_slot}
 use Rattle.mb_board.specs.Reach.{Reached}
@@ -46,6 +46,10 @@ pub record AreExchanged (slot : ℕ) (before after : List ℕ) : Type 0 where
   pub not_in_force : inactive_area_of_slot after slot ≡ area_of_slot before slot
 
 -- ---- what stays
+
+-- calls with this result wrote nothing, and were not stopped
+abbrev pub WritesNothing : {A E : Type 0} → Result A E → Seen → Seen → Type 0
+WritesNothing result before after = IsOk result × (after.memory ≡ before.memory) × (after.meter ≡ before.meter)
 
 -- an offset is outside the n bytes that begin at another
 abbrev pub IsOutside : ℕ → ℕ → ℕ → Type 0

@@ -2,7 +2,7 @@
 //!
 //! This crate owns how the current area is replaced so that no power loss leaves a part of it: the inactive area is
 //! written whole, and then the selector. Whatever byte a torn write leaves in the selector, it chooses one of two whole
-//! areas. The crate stands on the board of `mb_board`. No call takes memory.
+//! areas. No call takes memory.
 #![tactic(auto)]
 
 mod slot;

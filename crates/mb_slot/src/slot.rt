@@ -1,10 +1,10 @@
 //! The two areas of a slot, and the selector between them.
 
-ghost use Rattle.std.specs.Prelude.{◌≡◌, ◌≢◌, ℕ, ◌≤◌, ◌%◌, ◌==◌, ◌⊎◌, ◌↔◌, length, IsTrue, OnOk, Ok};
+ghost use Rattle.std.specs.Prelude.{◌≡◌, ◌≤◌, ◌%◌, ◌==◌, ◌⊎◌, ◌↔◌, length, IsTrue, OnOk};
 ghost use Rattle.mb_model.specs.memories.Memory.{IsBlank, area_of_slot, inactive_area_of_slot};
 ghost use Rattle.mb_model.specs.declared.limits.TheConstants.{AREA_LENGTH};
-ghost use Rattle.mb_model_memory.specs.InForce.{AgreeBesides};
 ghost use Rattle.mb_slot.specs.Slots.{CanUse, is_first_in_force, area_offset, current_offset, other_offset, IsAreaAt, AreExchanged, RanInOther, RanInSlot};
+ghost use Rattle.mb_slot.specs.Calls.{CommitsArea, WipesOther};
 
 use mb_board::{Board, Stopped};
 use mb_model::AREA_LENGTH;
@@ -116,14 +116,7 @@ pub fn is_other_blank<B: Board>(b: &B, slot: u16) -> bool
 pub fn commit<B: Board>(b: &mut B, slot: u16, area: &[u8]) -> Result<(), Stopped>
     requires can_use { CanUse (B.seen b.old) slot }
     requires area { length area.now ≡ AREA_LENGTH }
-    ensures done { OnOk result (area_of_slot (B.seen b.new).memory.bbram slot ≡ area.now) }
-    ensures left { OnOk result (inactive_area_of_slot (B.seen b.new).memory.bbram slot
-        ≡ area_of_slot (B.seen b.old).memory.bbram slot) }
-    ensures either { (area_of_slot (B.seen b.new).memory.bbram slot
-        ≡ area_of_slot (B.seen b.old).memory.bbram slot)
-        ⊎ (area_of_slot (B.seen b.new).memory.bbram slot ≡ area.now) }
-    ensures besides { AgreeBesides slot (B.seen b.old).memory.bbram (B.seen b.new).memory.bbram }
-    ensures ran { RanInSlot 2 slot result (B.seen b.old) (B.seen b.new) }
+    ensures { CommitsArea slot area.now result (B.seen b.old) (B.seen b.new) }
 {
     write_other(b, slot, area)?;
     flip(b, slot)
@@ -133,16 +126,7 @@ pub fn commit<B: Board>(b: &mut B, slot: u16, area: &[u8]) -> Result<(), Stopped
 /// call.
 pub fn wipe_other<B: Board>(b: &mut B, slot: u16) -> Result<(), Stopped>
     requires can_use { CanUse (B.seen b.old) slot }
-    ensures blank { OnOk result (IsBlank (inactive_area_of_slot (B.seen b.new).memory.bbram slot)) }
-    ensures current { area_of_slot (B.seen b.new).memory.bbram slot
-        ≡ area_of_slot (B.seen b.old).memory.bbram slot }
-    ensures idle { IsBlank (inactive_area_of_slot (B.seen b.old).memory.bbram slot)
-        → (result ≡ Ok tt) × ((B.seen b.new).memory ≡ (B.seen b.old).memory)
-        × ((B.seen b.new).meter ≡ (B.seen b.old).meter) }
-    ensures others { (m : ℕ) → 1 ≤ m → m ≤ 3 → m ≢ slot
-        → inactive_area_of_slot (B.seen b.new).memory.bbram m ≡ inactive_area_of_slot (B.seen b.old).memory.bbram m }
-    ensures besides { AgreeBesides slot (B.seen b.old).memory.bbram (B.seen b.new).memory.bbram }
-    ensures ran { RanInOther 1 slot result (B.seen b.old) (B.seen b.new) }
+    ensures { WipesOther slot result (B.seen b.old) (B.seen b.new) }
 {
     if is_other_blank(b, slot) {
         return Ok(());

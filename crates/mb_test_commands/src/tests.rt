@@ -13,13 +13,15 @@ mod limits;
 mod policies;
 mod runs;
 mod short_files;
+mod short_orders;
 mod shown;
 mod sign;
 mod statuses;
 mod trials;
 
 use mb_test_plays::{
-    A_NEW_DEVICE, A_WHOLE_LIFE, Access, Content, Given, IMAGE, ITS_CHAIN, MAKER, OWNER, Part, Play,
-    SERIAL, ShortFile, Step, Told, ZEROS_KEY, ZEROS_PUBLIC, file_of, host_with, store,
+    A_NEW_DEVICE, A_WHOLE_LIFE, ANOTHER_DEVICE, Access, Content, FOREIGN_ENDORSEMENT, FOREIGN_KEY,
+    Given, IMAGE, ITS_CHAIN, MAKER, OWNER, Part, Play, SERIAL, ShortFile, Step, Told, ZEROS_KEY,
+    ZEROS_PUBLIC, file_of, host_with, store,
 };
 use mb_test_program::{births, ends, go_on, go_through, perform};

@@ -7,6 +7,7 @@
 
 mod births;
 mod cuts;
+mod endorsement;
 mod files;
 mod hostile;
 mod lives;
@@ -18,7 +19,8 @@ pub use births::{
     IMAGE, MAKER, OWNER, SERIAL, ZEROS_KEY, ZEROS_PUBLIC, new_device_goes_through, owned,
     owned_device_goes_through,
 };
+pub use endorsement::{FOREIGN_ENDORSEMENT, FOREIGN_KEY};
 pub use files::{file_of, host_with, slice, store, write};
-pub use lives::{A_NEW_DEVICE, A_WHOLE_LIFE, ITS_CHAIN, ITS_LISTING};
+pub use lives::{A_NEW_DEVICE, A_WHOLE_LIFE, ANOTHER_DEVICE, ITS_CHAIN, ITS_LISTING};
 pub use play::{Program, ends, go_on, go_through, perform};
 pub use step::{Access, Content, Cut, Given, Part, Play, ShortFile, Step, Told, TwoCuts};

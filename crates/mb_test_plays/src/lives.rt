@@ -68,3 +68,30 @@ pub const ITS_LISTING: &[Step] = &[
     ),
     Step::Ends("audit image public0 chain 1", 0, "agrees\n"),
 ];
+
+/// Another device of the same maker, `other`, obeys the first four orders. Its chain is `others`.
+pub const ANOTHER_DEVICE: &[Step] = &[
+    Step::Writes("noise48", &[Part::Slice("noise", 0, 48)]),
+    Step::Ends(
+        "factory noise48 maker public1 code other",
+        0,
+        "serial 07070707070707070707070707070707\n",
+    ),
+    Step::Writes(
+        "script",
+        &[
+            Part::Text("boot\n"),
+            Part::File("order1"),
+            Part::File("order2"),
+            Part::File("order3"),
+            Part::File("order4"),
+            Part::Text("off\n"),
+        ],
+    ),
+    Step::Ends(
+        "run other script noise",
+        0,
+        "booted\ndone 1 2\ndone 2 3\ndone 3 4\ndone 4 5\noff\n",
+    ),
+    Step::Ends("chain other others", 0, "entries 5\n"),
+];

@@ -1,8 +1,7 @@
 //! The commands that need no device: those of makers, officers and relying parties.
 //!
 //! This crate owns what `keygen`, `sign`, `countersign`, `factory`, `migrate`, `verify`, `audit`, `chain` and `attach`
-//! do after the words are read, and the forms of their inputs. It stands on `mb_console`, on the readers and the
-//! signers of `mb_officer`, on the verifier, and on `mb_image` and `mb_migrate`.
+//! do after the words are read, and the forms of their inputs.
 #![tactic(auto)]
 
 pub mod attach;

@@ -1,8 +1,7 @@
 //! The commands on the code of applications.
 //!
-//! This crate owns what `app`, `appcode`, `asm` and `disasm` do after the words are read, and the forms of their inputs.
-//! It stands on `mb_console`, on `mb_tools` for the image of a device and the code of a layer, and on the machine, the
-//! assembler and the disassembler of `mb_appvm`.
+//! This crate owns what `app`, `appcode`, `asm` and `disasm` do after the words are read, and the forms of their
+//! inputs.
 #![tactic(auto)]
 
 pub mod app;

@@ -17,7 +17,7 @@ use Rattle.mb_tools_device.proofs.MachineLemmas.{IsUncut, third_same}
 
 first_is_cut : (lines : List (List ℕ)) (count : ℕ) (tear : Tear) (rest : List Event) → IsUncutScript lines (event.Cut count tear ∷ rest) → ⊥
 first_is_cut lines count tear rest is =
-    let no : true ≡ false = All-head IsUncut (event.Cut count tear) rest is.uncut.uncut in
+    let no : true ≡ false = All-head IsUncut (event.Cut count tear) rest is.uncut.can.uncut in
     absurd (let bad : true ≡ false = no in cc)
 
 no_last : (fill_word : List ℕ) (run : CutRun) → IsCutRun fill_word [] run → ⊥

@@ -49,8 +49,10 @@ draws_uncut events noise drawn uncut is =
     let size : length drawn ≡ length events = ap length is.given ∙ drawn-length noise events in
     record {
       some = λ none. uncut.some (none_left events (sym size ∙ ap length none));
-      uncut = subst (All IsUncut) (sym is.given) (all_made (λ at. drawn_event noise at.0 at.1) events (λ at. drawn_uncut noise at.0 at.1) uncut.uncut);
-      most = omega (arith, uncut.most, size);
+      can = record {
+        uncut = subst (All IsUncut) (sym is.given) (all_made (λ at. drawn_event noise at.0 at.1) events (λ at. drawn_uncut noise at.0 at.1) uncut.can.uncut);
+        most = omega (arith, uncut.can.most, size);
+      };
     }
   where
     none_left : (list : List Event) → length list ≡ 0 → list ≡ []

@@ -4,7 +4,7 @@ use Rattle.std.specs.Prelude.{All, codes, filter, suc}
 use Rattle.std.specs.List.{AllZip}
 use Rattle.std.proofs.Math.Seq.{drop-cons}
 use Rattle.std.proofs.lemmas.List.{append-nil, take-append-drop, take_more, take_all}
-use Rattle.std.proofs.lemmas.List.Elements.{filter-append, All-nil, All-head, All-tail, All-push}
+use Rattle.std.proofs.lemmas.List.Elements.{filter-append, All-nil, All-cons, All-head, All-tail, All-push}
 use Rattle.mb_model.specs.declared.event.Event.{Event}
 use Rattle.mb_model.specs.declared.event.Event.TheVariants as event
 use Rattle.mb_model.specs.chains.Lines.{IsBeginning, FailsAtLine, ends_early, ReadsLines, TextFailsAtLine}
@@ -15,7 +15,7 @@ use Rattle.mb_model_lemmas.proofs.EventLemmas.{SaysEvent-same, IsScript-same, co
 use Rattle.mb_script.specs.Reading.{IsLineOf, says, past}
 use Rattle.mb_script.proofs.ScriptReading.{one_kept, push_said}
 use Rattle.mb_tools_device.specs.MachineRuns.{is_cut}
-use Rattle.mb_tools_device.specs.CutCommand.{AreUncut, IsUncutScript, uncut_script_input}
+use Rattle.mb_tools_device.specs.CutCommand.{CanComeFirst, AreUncut, IsUncutScript, uncut_script_input}
 use Rattle.mb_tools_device.specs.Refusing.{IsFirstRefused, is_missing, is_wrong}
 use Rattle.mb_tools_device.proofs.MachineLemmas.{IsUncut}
 
@@ -37,8 +37,7 @@ one_more_uncut events index e is within there room uncut =
 pub all_uncut : (events : List Event) (index : ℕ) → IsUncutTo events index → length events ≤ index → events ≢ [] → AreUncut events
 all_uncut events index is whole some = record {
   some = some;
-  uncut = subst (All IsUncut) (take_all index events whole) is.uncut;
-  most = omega (arith, is.most, whole);
+  can = record { uncut = subst (All IsUncut) (take_all index events whole) is.uncut; most = omega (arith, is.most, whole) };
 }
 
 split_here : (events : List Event) (index : ℕ) (e : Event) → index < length events → e ≡ get_or events index e → events ≡ take index events ++ e ∷ drop (suc index) events
@@ -50,10 +49,24 @@ length_here events index e within there =
     let whole = ap length (split_here events index e within there) ∙ length-append (take index events) (e ∷ drop (suc index) events) in
     omega (arith, whole, length-drop (suc index) events, within)
 
+all_middle : (xs ys : List Event) (y : Event) → All IsUncut (xs ++ y ∷ ys) → IsUncut y
+all_middle [] ys y all = All-head IsUncut y ys all
+all_middle (x ∷ xs) ys y all = all_middle xs ys y (All-tail IsUncut x (xs ++ y ∷ ys) all)
+
 pub refused_here : (events : List Event) (index : ℕ) (e : Event) → IsUncutTo events index → index < length events → e ≡ get_or events index e
-    → ((is_cut e ≡ true) × (index + 3 < 65536)) ⊎ (index + 3 ≡ 65536) → IsFirstRefused events index
+    → (is_cut e ≡ true) ⊎ (index ≡ 65533) → IsFirstRefused events index
 refused_here events index e is within there why =
-    is_wrong (take index events) e (drop (suc index) events) (split_here events index e within there) (length_here events index e within there) is.uncut why
+    let before = take index events in
+    let many = length_here events index e within there in
+    is_wrong before e (drop (suc index) events) (split_here events index e within there) many (record { uncut = is.uncut; most = omega (arith, is.most, many) })
+    (λ can. elim why [
+      | inl cut ↦
+          let no : true ≡ false = sym cut ∙ all_middle before [] e can.uncut in
+          cc
+      | inr full ↦
+          let most = can.most in
+          omega (arith, full, many, most, length-append before (e ∷ []))
+    ])
 
 -- ---- its line
 
@@ -91,80 +104,68 @@ said_among (y ∷ front) later line (e ∷ events) said =
       here = rest.here;
     }
 
-all_middle : (xs ys : List Event) (y : Event) → All IsUncut (xs ++ y ∷ ys) → IsUncut y
-all_middle [] ys y all = All-head IsUncut y ys all
-all_middle (x ∷ xs) ys y all = all_middle xs ys y (All-tail IsUncut x (xs ++ y ∷ ys) all)
-
 said_lines : (front later : List (List ℕ)) (line : List ℕ) → is_skipped line ≡ false → filter counts (front ++ line ∷ later) ≡ filter counts front ++ line ∷ filter counts later
 said_lines front later line said =
     filter-append counts front (line ∷ later)
     ∙ ap (λ (x : List (List ℕ)). filter counts front ++ x) (filter-append counts (line ∷ []) later ∙ ap (λ (x : List (List ℕ)). x ++ filter counts later) (one_kept line said))
 
--- a text that begins with these lines goes on with a boot
-goes_on : (front : List (List ℕ)) (before : List Event) → AllZip SaysEvent (filter counts front) before → All IsUncut before → length before + 3 < 65536 → IsBeginning IsUncutScript front
-goes_on front before said uncut room = record {
+-- lines that say no event are followed by a boot
+goes_on : (front : List (List ℕ)) → AllZip SaysEvent (filter counts front) [] → IsBeginning IsUncutScript front
+goes_on front said = record {
   more = codes "boot" ∷ [];
-  value = before ++ event.Boot ∷ [];
+  value = event.Boot ∷ [];
   stands = record {
     script = record {
-      said = subst (λ (x : List (List ℕ)). AllZip SaysEvent x (before ++ event.Boot ∷ [])) (sym (filter-append counts front (codes "boot" ∷ [])))
-          (push_said (filter counts front) before (codes "boot") event.Boot said refl);
-      most = omega (arith, room, length-append before (event.Boot ∷ []));
+      said = subst (λ (x : List (List ℕ)). AllZip SaysEvent x (event.Boot ∷ [])) (sym (filter-append counts front (codes "boot" ∷ [])))
+          (push_said (filter counts front) [] (codes "boot") event.Boot said refl);
+      most = omega arith;
     };
     uncut = record {
-      some = λ none. omega (arith, ap length none, length-append before (event.Boot ∷ []));
-      uncut = All-push IsUncut before event.Boot uncut refl;
-      most = omega (arith, room, length-append before (event.Boot ∷ []));
+      some = λ none. omega (arith, ap length none);
+      can = record { uncut = All-cons IsUncut event.Boot [] refl (All-nil IsUncut); most = omega arith };
     };
   };
 }
 
--- or it ends there
-ends_there : (front : List (List ℕ)) (before : List Event) → AllZip SaysEvent (filter counts front) before → All IsUncut before → length before + 3 ≡ 65536 → IsBeginning IsUncutScript front
-ends_there front before said uncut full = record {
+-- a text that begins with these lines ends there, or goes on with a boot if it has no event
+begins : (front : List (List ℕ)) (before : List Event) → AllZip SaysEvent (filter counts front) before → CanComeFirst before → IsBeginning IsUncutScript front
+begins front [] said can = goes_on front said
+begins front (e ∷ before) said can = record {
   more = [];
-  value = before;
+  value = e ∷ before;
   stands = record {
-    script = record { said = subst (λ (x : List (List ℕ)). AllZip SaysEvent (filter counts x) before) (sym (append-nil front)) said; most = omega (arith, full) };
-    uncut = record { some = λ none. omega (arith, ap length none, full); uncut = uncut; most = omega (arith, full) };
+    script = record { said = subst (λ (x : List (List ℕ)). AllZip SaysEvent (filter counts x) (e ∷ before)) (sym (append-nil front)) said; most = omega (arith, can.most) };
+    uncut = record { some = λ none. omega (arith, ap length none); can = can };
   };
 }
-
-begins : (front : List (List ℕ)) (before : List Event) (this : Event) → AllZip SaysEvent (filter counts front) before → All IsUncut before
-    → ((is_cut this ≡ true) × (length before + 3 < 65536)) ⊎ (length before + 3 ≡ 65536) → IsBeginning IsUncutScript front
-begins front before this said uncut (inl why) = goes_on front before said uncut why.1
-begins front before this said uncut (inr full) = ends_there front before said uncut full
 
 -- no text begins with these lines and the one of the event that is refused
 no_more : (front : List (List ℕ)) (line : List ℕ) (before : List Event) (this : Event) → is_skipped line ≡ false → length (filter counts front) ≡ length before → SaysEvent line this
-    → ((is_cut this ≡ true) × (length before + 3 < 65536)) ⊎ (length before + 3 ≡ 65536) → IsBeginning IsUncutScript (front ++ line ∷ []) → ⊥
-no_more front line before this said many here why good =
+    → CanComeFirst before → (CanComeFirst (before ++ this ∷ []) → ⊥) → IsBeginning IsUncutScript (front ++ line ∷ []) → ⊥
+no_more front line before this said many here can cannot good =
     let moved = append_assoc front (line ∷ []) good.more in
     let all = subst (λ (x : List (List ℕ)). AllZip SaysEvent x good.value) (ap (filter counts) moved ∙ said_lines front good.more line said) good.stands.script.said in
     let among = said_among (filter counts front) (filter counts good.more) line good.value all in
-    elim why [
-      | inl cut ↦
-          let uncut : is_cut among.this ≡ false = all_middle among.before among.after among.this (subst (All IsUncut) among.split good.stands.uncut.uncut) in
-          let same : among.this ≡ this = SaysEvent-same line among.this this among.here here in
-          let no : true ≡ false = sym cut.0 ∙ ap is_cut (sym same) ∙ uncut in
-          cc
-      | inr full ↦
-          let size = ap length among.split ∙ length-append among.before (among.this ∷ among.after) in
-          omega (arith, size, among.many, many, full, good.stands.uncut.most)
-    ]
+    let uncut : is_cut among.this ≡ false = all_middle among.before among.after among.this (subst (All IsUncut) among.split good.stands.uncut.can.uncut) in
+    let same : among.this ≡ this = SaysEvent-same line among.this this among.here here in
+    let size = ap length among.split ∙ length-append among.before (among.this ∷ among.after) in
+    cannot (record {
+      uncut = All-push IsUncut before this can.uncut (ap is_cut (sym same) ∙ uncut);
+      most = omega (arith, size, among.many, many, good.stands.uncut.can.most, length-append before (this ∷ []));
+    })
 
 refused_at : (front later : List (List ℕ)) (line : List ℕ) (before after : List Event) (this : Event) → is_skipped line ≡ false → length (filter counts front) ≡ length before
-    → AllZip SaysEvent (filter counts (front ++ line ∷ later)) (before ++ this ∷ after) → All IsUncut before
-    → ((is_cut this ≡ true) × (length before + 3 < 65536)) ⊎ (length before + 3 ≡ 65536) → FailsAtLine IsUncutScript (front ++ line ∷ later) (length front + 1)
-refused_at front later line before after this said many all uncut why =
+    → AllZip SaysEvent (filter counts (front ++ line ∷ later)) (before ++ this ∷ after) → CanComeFirst before → (CanComeFirst (before ++ this ∷ []) → ⊥)
+    → FailsAtLine IsUncutScript (front ++ line ∷ later) (length front + 1)
+refused_at front later line before after this said many all can cannot =
     let parts = said_there (filter counts front) (filter counts later) line before after this many
     (subst (λ (x : List (List ℕ)). AllZip SaysEvent x (before ++ this ∷ after)) (said_lines front later line said) all) in
-    bad_after IsUncutScript front line later (begins front before this parts.0 uncut why) (no_more front line before this said many parts.1 why)
+    bad_after IsUncutScript front line later (begins front before parts.0 can) (no_more front line before this said many parts.1 can cannot)
 
 -- a script without events lacks one after its last line
 lacks_event : (lines : List (List ℕ)) → IsScript lines [] → FailsAtLine IsUncutScript lines (length lines + 1)
 lacks_event lines script = ends_early (record {
-  good = goes_on lines [] script.said (All-nil IsUncut) (omega arith);
+  good = goes_on lines script.said;
   unfinished = λ value stands. stands.uncut.some (IsScript-same lines value [] stands.script script);
   number = refl;
 })
@@ -182,17 +183,16 @@ refused_line text events index n reads (is_missing none zero) (past lines has fe
   fails = subst (λ (m : ℕ). FailsAtLine IsUncutScript lines m) (sym n_is)
       (lacks_event lines (subst (λ (x : List Event). IsScript lines x) none (subst (λ (x : List (List ℕ)). IsScript x events) (HasLines-same text reads.lines lines reads.has has) reads.stands)));
 }
-refused_line text events index n reads (is_wrong before this after split index_is uncut why) (says front line later has said passed n_is) =
+refused_line text events index n reads (is_wrong before this after split index_is can cannot) (says front line later has said passed n_is) =
     let same = HasLines-same text reads.lines (front ++ line ∷ later) reads.has has in
     let all = subst (λ (x : List Event). AllZip SaysEvent (filter counts (front ++ line ∷ later)) x) split (subst (λ (x : List (List ℕ)). AllZip SaysEvent (filter counts x) events) same reads.stands.said) in
     record {
       lines = front ++ line ∷ later;
       has = has;
       fails = subst (λ (m : ℕ). FailsAtLine IsUncutScript (front ++ line ∷ later) m) (sym n_is)
-          (refused_at front later line before after this said (passed ∙ index_is) all uncut
-          (subst (λ (k : ℕ). ((is_cut this ≡ true) × (k + 3 < 65536)) ⊎ (k + 3 ≡ 65536)) index_is why));
+          (refused_at front later line before after this said (passed ∙ index_is) all can cannot);
     }
-refused_line text events index n reads (is_wrong before this after split index_is uncut why) (past lines has few n_is) =
+refused_line text events index n reads (is_wrong before this after split index_is can cannot) (past lines has few n_is) =
     let all = subst (λ (x : List (List ℕ)). AllZip SaysEvent (filter counts x) events) (HasLines-same text reads.lines lines reads.has has) reads.stands.said in
     let size = says_count (filter counts lines) events all in
     absurd (omega (arith, size, few, index_is, ap length split, length-append before (this ∷ after)))

@@ -77,12 +77,12 @@ can_be_cut first last count tear fill uncut scripted least most some short torn 
     (All-cons IsScriptEvent last (event.Boot ∷ event.Off ∷ []) (All-split IsScriptEvent first last [] scripted)
     (All-cons IsScriptEvent event.Boot (event.Off ∷ []) tt (All-cons IsScriptEvent event.Off [] tt (All-nil IsScriptEvent)))) in
     record {
-      uncut = All-front IsUncut first (last ∷ []) uncut.uncut;
-      last = All-split IsUncut first last [] uncut.uncut;
+      uncut = All-front IsUncut first (last ∷ []) uncut.can.uncut;
+      last = All-split IsUncut first last [] uncut.can.uncut;
       first = All-front IsScriptEvent first (last ∷ []) scripted;
-      first_most = omega (arith, uncut.most, length-append first (last ∷ []));
+      first_most = omega (arith, uncut.can.most, length-append first (last ∷ []));
       second = All-append IsScriptEvent first (event.Cut count tear ∷ last ∷ event.Boot ∷ event.Off ∷ []) (All-front IsScriptEvent first (last ∷ []) scripted) ends;
-      most = omega (arith, uncut.most, length-append first (last ∷ []), length-append first (event.Cut count tear ∷ last ∷ event.Boot ∷ event.Off ∷ []));
+      most = omega (arith, uncut.can.most, length-append first (last ∷ []), length-append first (event.Cut count tear ∷ last ∷ event.Boot ∷ event.Off ∷ []));
     }
 
 pub runs_made : (word read : List ℕ) (events all first copies one two three four : List Event) (count : ℕ) (tear : Tear) (last : Event) (given : List Event)

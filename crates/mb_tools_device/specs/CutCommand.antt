@@ -32,11 +32,16 @@ pub record CutNames : Type 0 where
 
 -- ---- the script
 
--- Events whose last one can be cut: there is at least one, none is a cut itself, and there is room for three more.
-pub record AreUncut (events : List Event) : Type 0 where
-  pub some : events ≢ []
+-- Events that can come first in a script whose last event can be cut: none is a cut itself, and there is room for three
+-- more.
+pub record CanComeFirst (events : List Event) : Type 0 where
   pub uncut : All (λ e. is_cut e ≡ false) events
   pub most : length events + 3 ≤ EVENT_LIMIT
+
+-- Events whose last one can be cut: there is at least one, and they can come first in such a script.
+pub record AreUncut (events : List Event) : Type 0 where
+  pub some : events ≢ []
+  pub can : CanComeFirst events
 
 -- a script whose last event can be cut
 pub record IsUncutScript (lines : List (List ℕ)) (events : List Event) : Type 0 where

@@ -1,8 +1,7 @@
 //! The commands that serve a device.
 //!
 //! This crate owns what `run`, `rehearse`, `cutat` and `generate` do after the words are read, and the forms of the
-//! scripts among their inputs. It stands on `mb_console`, on the device and its board, and on the readers of scripts
-//! and images.
+//! scripts among their inputs.
 #![tactic(auto)]
 
 mod counter_examples;

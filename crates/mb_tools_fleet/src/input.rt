@@ -30,7 +30,7 @@ impl Form for RegisterForm {
     fn read(self, alloc: Global, bytes: Vec<u8>) -> Result<Fleet, Unread> {
         match Fleet::read(alloc, &bytes) {
             Ok(fleet) => Ok(fleet),
-            Err(FleetReadEnd::Bad(bad)) => Err(Unread::At(Place::At(bad.at))),
+            Err(FleetReadEnd::Bad { at }) => Err(Unread::At(Place::At(at))),
             Err(FleetReadEnd::NoMemory) => Err(Unread::NoMemory),
         }
     }
@@ -62,7 +62,7 @@ impl Form for ItemsForm {
     fn read(self, alloc: Global, bytes: Vec<u8>) -> Result<Items<Item>, Unread> {
         match read_items(alloc, &bytes) {
             Ok(items) => Ok(items),
-            Err(FleetReadEnd::Bad(bad)) => Err(Unread::At(Place::At(bad.at))),
+            Err(FleetReadEnd::Bad { at }) => Err(Unread::At(Place::At(at))),
             Err(FleetReadEnd::NoMemory) => Err(Unread::NoMemory),
         }
     }

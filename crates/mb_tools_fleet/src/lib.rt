@@ -1,8 +1,7 @@
 //! The commands that keep a register of what many devices have shown.
 //!
 //! This crate owns what `register`, `enrol`, `devices` and `fleet` do after the words are read, and the forms of their
-//! inputs. It stands on `mb_console`, on the form of a public key of `mb_tools`, and on `mb_fleet`, which reads, serves
-//! and writes a register.
+//! inputs.
 #![tactic(auto)]
 
 pub mod devices;

@@ -1,8 +1,7 @@
 //! The commands of a maker's HSS key, which endorses factory root keys.
 //!
-//! This crate owns what `hsskeygen`, `showmaker`, `endorse` and `endorsed` do after the words are read, and the forms of
-//! the inputs that no other command has. It stands on `mb_hss`, which makes and verifies the signatures, on
-//! `mb_console`, and on `mb_tools` for the other forms.
+//! This crate owns what `hsskeygen`, `showmaker`, `endorse` and `endorsed` do after the words are read, and the forms
+//! of the inputs that no other command has.
 #![tactic(auto)]
 
 pub mod endorse;

@@ -9,7 +9,7 @@ ghost use Rattle.mb_console.specs.Ending.{CarriesOut};
 ghost use Rattle.mb_tools_orders.specs.Names.{cosign_files, cosign_given};
 ghost use Rattle.mb_lms.specs.declared.hash_count.TheConstants.{SIGNING_HASHES};
 
-use mb_command::signed_part;
+use mb_command::order_body;
 use mb_console::{Arguments, End, file, number, read_as, refused};
 use mb_host::Host;
 use mb_lms::HashCount;
@@ -88,7 +88,7 @@ fn have_one_body(alloc: Global, one: &Order, other: &Order) -> Result<bool, NoMe
     requires other { order_format.Allowed other.now }
     ensures { IfOk result (λ same. IsTrue same ↔ (order_body one.now ≡ order_body other.now)) }
 {
-    let one = signed_part(alloc, one)?;
-    let other = signed_part(alloc, other)?;
+    let one = order_body(alloc, one)?;
+    let other = order_body(alloc, other)?;
     Ok(one.as_slice() == other.as_slice())
 }

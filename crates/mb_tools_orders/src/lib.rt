@@ -1,8 +1,6 @@
 //! The commands by which an officer sees what an order says, who has signed it, and what a key has left.
 //!
-//! This crate owns what `showorder`, `ordered`, `cosign` and `showkey` do after the words are read. It stands on
-//! `mb_console`, on the forms of inputs and the writing of signed orders of `mb_tools`, on `mb_officer`, which
-//! countersigns, and on the words of `mb_verifier`'s listing.
+//! This crate owns what `showorder`, `ordered`, `cosign` and `showkey` do after the words are read.
 #![tactic(auto)]
 
 pub mod cosign;

@@ -8,7 +8,7 @@ ghost use Rattle.mb_tools_orders.specs.Names.{ordered_files, ordered_given};
 ghost use Rattle.mb_tools_orders.specs.Ordered.{ordered, signed_in_charge, signed_above, signatures_of};
 ghost use Rattle.mb_tools_orders.specs.Telling.{AppendsIfVerified, AppendsNames};
 
-use mb_command::signed_part;
+use mb_command::order_body;
 use mb_console::{Arguments, End, file, finish, read_as, refused};
 use mb_host::Host;
 use mb_lms::verify;
@@ -57,7 +57,7 @@ fn names_of(alloc: Global, key: &PublicKey, order: &Order) -> Result<Vec<u8>, No
     requires { order_format.Allowed order.now }
     ensures { IfOk result (λ text. AppendsNames key.now (signatures_of order.now) [] text.items) }
 {
-    let body = signed_part(alloc, order)?;
+    let body = order_body(alloc, order)?;
     let mut out = Vec::new(alloc);
     let signature = order.signature.as_slice();
     let line = "in charge\n";

@@ -9,7 +9,7 @@ ghost use Rattle.mb_model.specs.chains.Drafts.{order_words, version_line};
 ghost use Rattle.mb_model.specs.chains.Listing.{number_line};
 ghost use Rattle.mb_tools_orders.specs.ShowOrder.{target_line, owner_line, given_trusts_line, code_line, load_lines, act_lines, body_line, countersignature_line, signature_lines, order_shown};
 
-use mb_command::signed_part;
+use mb_command::order_body;
 use mb_lms::key_hash;
 use mb_model::{Act, Bytes, Countersignature, NoMemory, Order, Payload, PublicKey, Target, Trusts};
 use mb_verifier::{kind_word, trust_words};
@@ -165,7 +165,7 @@ fn put_body(alloc: Global, order: &Order, out: &mut Vec<u8>) -> Result<(), NoMem
     requires { order_format.Allowed order.now }
     ensures { OnOk result (out.new.items ≡ out.old.items ++ line_with_lf (body_line order.now)) }
 {
-    let body = signed_part(alloc, order)?;
+    let body = order_body(alloc, order)?;
     let hash = hex_word(alloc, &Sha256::digest(body.as_slice()))?;
     let line = format!(in alloc; "body {hash}\n")?;
     put(out, line.as_str())

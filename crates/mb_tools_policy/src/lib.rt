@@ -1,8 +1,6 @@
 //! The command of a relying party: whether its policy allows the configurations that a chain lists for a key.
 //!
-//! This crate owns what `trust` does after the words are read, and the form of a policy among the inputs. It stands on
-//! `mb_console`, on the forms of `mb_tools`, on the verifier, and on `mb_policy`, which reads a policy and judges a
-//! report.
+//! This crate owns what `trust` does after the words are read, and the form of a policy among the inputs.
 #![tactic(auto)]
 
 mod input;

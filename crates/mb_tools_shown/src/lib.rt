@@ -1,8 +1,7 @@
 //! The commands that show what images and chains say.
 //!
 //! This crate owns what `showimage` and `history` do after the words are read: the lines that show a device by its
-//! image, and the lines that tell a device's history by its chain. It stands on `mb_console`, on the readers of images
-//! and the forms of `mb_tools`, and on `mb_image` and the verifier.
+//! image, and the lines that tell a device's history by its chain.
 #![tactic(auto)]
 
 mod entries;

@@ -18,7 +18,8 @@ use mb_host::Host;
 use std::alloc::Global;
 
 /// The beginning of the text that `--help` prints.
-pub const HEAD: &str = "miniboot serves a simulated secure coprocessor.
+pub const HEAD: &str =
+    "miniboot simulates a secure coprocessor, and provides the tools of its maker, owners and verifiers.
 ";
 
 /// The end of the text that `--help` prints.
@@ -29,7 +30,7 @@ to learn of the program:
   miniboot --version
       prints the version
 
-status: 0 done, 2 the words are no command, 3 an input is not in its form, 4 an input could not be read,
+status: 0 done, 2 usage error, 3 malformed input, 4 an input could not be read,
         5 an output could not be written, 6 an allocation failed, 7 the command is refused
 ";
 

@@ -170,7 +170,7 @@ pub const GROUPS: [Group; 5] = [
                 &[NOISE, KEY, OWNER, CODE, IMAGE],
                 "
       makes a device of this owner and code from the noise, signs its birth by the maker's key, writes
-      that key with one more index used and the device's image, and prints the device's serial",
+      that key with its next index marked as used and the device's image, and prints the device's serial",
             ),
             (
                 Command::Hsskeygen,
@@ -220,16 +220,16 @@ pub const GROUPS: [Group; 5] = [
                 "sign",
                 &[KEY, DRAFT, OUT],
                 "
-      signs the order of the draft, writes the key with one more index used and the order as a line, and
-      prints the index",
+      signs the order of the draft, writes the key with its next index marked as used and the order as a
+      line, and prints the index",
             ),
             (
                 Command::Countersign,
                 "countersign",
                 &[KEY, LAYER, ORDER, OUT],
                 "
-      adds the countersignature of the owner of layer 2 or 3 to an order line, writes the key with one
-      more index used and the order as a line, and prints the index",
+      adds the countersignature of the owner of layer 2 or 3 to an order line, writes the key with its
+      next index marked as used and the order as a line, and prints the index",
             ),
             (
                 Command::Cosign,

@@ -1,12 +1,15 @@
 -- Whether each entry of a log is good, one entry after another.
-use Rattle.std.proofs.Common.{◌≡◌, ◌≢◌, ◌<◌, ◌+◌, ℕ, List, [], ◌∷◌, ◌++◌, length, take, drop, get_or, Option, None, Some, Bool, false, true≢false, sym, ap, subst, ◌∙◌, append_assoc}
-use Rattle.std.specs.Prelude.{◌↔◌, IsTrue, IfSome}
-use Rattle.std.proofs.lemmas.List.{take_more, take-append-drop}
+use Rattle.std.proofs.Common.{◌≡◌, ◌≢◌, ◌<◌, ◌≤◌, ◌+◌, ℕ, List, [], ◌∷◌, ◌++◌, length, map, take, drop, get_or, Option, None, Some, Bool, false, true≢false, refl, sym, ap, subst, ◌∙◌, append_assoc, arith}
+use Rattle.std.specs.Prelude.{◌↔◌, IsTrue, IfSome, is_some}
+use Rattle.std.specs.Option.{option_or}
+use Rattle.std.proofs.lemmas.List.{map-append, take_more, take-append-drop}
 use Rattle.mb_model.specs.declared.key.PublicKey.{PublicKey}
 use Rattle.mb_model.specs.declared.entry.Entry.{Entry}
 use Rattle.mb_model.specs.declared.entry.SignedEntry.{SignedEntry}
-use Rattle.mb_model.specs.owners.Log.{figures_of, entries_of, Ordered, RuledLog}
+use Rattle.mb_model.specs.declared.entry.Entry.TheVariants.{Birth, Change, NewKey, Succession}
+use Rattle.mb_model.specs.owners.Log.{figures_of, entries_of, last_of, serial_in, serial_of, Ordered, Ruled, RuledLog}
 use Rattle.mb_model.specs.signatures.Merkle.{leaf_number}
+use Rattle.mb_model.specs.records.EntryFormat.{entry_hash}
 use Rattle.mb_model.specs.chains.Acceptance.{ChainRefusal, IsInPlace, IsGood, AreGood}
 use Rattle.mb_model_lemmas.proofs.LogLemmas.{entries_more}
 use Rattle.mb_model_lemmas.proofs.ChainLemmas.{AreGood-push, good_is_ruled}
@@ -60,6 +63,33 @@ life_next maker log i d n figures before after within good is was next =
     let more = entries_more log i d within in
     let ruled : RuledLog (entries_of (take i log) ++ (get_or log i d).entry ∷ []) = subst RuledLog more (good_is_ruled maker (take (i + 1) log) good) in
     subst (λ (es : List Entry). IsLifeOf es n after) (sym more) (next (entries_of (take i log)) n is ruled was)
+
+-- the hashes of the entries up to one more
+pub hashes_go_on : (log : List SignedEntry) (i : ℕ) (d : SignedEntry) (before after : List (List ℕ)) (next : List ℕ) → i < length log
+    → before ≡ map entry_hash (entries_of (take i log)) → after ≡ before ++ next ∷ [] → next ≡ entry_hash (get_or log i d).entry
+    → after ≡ map entry_hash (entries_of (take (i + 1) log))
+hashes_go_on log i d before after next within was more is =
+    more ∙ ap (λ (hashes : List (List ℕ)). hashes ++ next ∷ []) was
+    ∙ ap (λ (hash : List ℕ). map entry_hash (entries_of (take i log)) ++ hash ∷ []) is
+    ∙ sym (ap (map entry_hash) (entries_more log i d within) ∙ map-append entry_hash (entries_of (take i log)) ((get_or log i d).entry ∷ []))
+
+-- ---- the serial
+
+or_some : (o : Option (List ℕ)) (x : List ℕ) → option_or o (Some x) ≡ None → ⊥
+or_some None x e = true≢false (ap is_some e)
+or_some (Some y) x e = true≢false (ap is_some e)
+
+first_is_birth : (entry : Entry) (rest : List Entry) → Ruled (figures_of []) entry → serial_of (entry ∷ rest) ≡ None → ⊥
+unfolding serial_of last_of
+first_is_birth (Birth version serial key layers) rest ruled e = or_some (last_of serial_in rest) serial e
+first_is_birth (Change version position number kind layer cosigned layers kept next) rest ruled e = ruled.0 refl
+first_is_birth (NewKey position number key_number layer kind key) rest ruled e = ruled.0 refl
+first_is_birth (Succession position key) rest ruled e = ruled.0 refl
+
+-- some good entries begin with a birth, which names a serial
+pub some_serial : (maker : PublicKey) (log : List SignedEntry) → 1 ≤ length log → AreGood maker log → serial_of (entries_of log) ≡ None → ⊥
+some_serial maker [] some good e = absurd (omega (arith, some))
+some_serial maker (signed ∷ rest) some good e = first_is_birth signed.entry (entries_of rest) (good [] signed rest refl).ruled e
 
 -- ---- answers
 

@@ -1,5 +1,5 @@
 -- From what is judged of a chain's entries, key and statement to what is said of its bytes.
-use Rattle.std.proofs.Common.{◌≡◌, ◌≤◌, ℕ, Bool, List, length, Option, None, Some, refl, sym, ap, subst, ◌∙◌}
+use Rattle.std.proofs.Common.{◌≡◌, ◌≤◌, ℕ, Bool, List, length, map, Option, None, Some, refl, sym, ap, subst, ◌∙◌}
 use Rattle.std.specs.Prelude.{All, IfSome, IfOk, IfErr, Result, Ok, Err}
 use Rattle.std.proofs.lemmas.List.{length-map}
 use Rattle.mb_format.specs.Format.{IsBytes, Spells, IsClearWhole}
@@ -11,8 +11,8 @@ use Rattle.mb_model.specs.declared.entry.Statement.{Statement}
 use Rattle.mb_model.specs.declared.order.KeyKind.{KeyKind}
 use Rattle.mb_model.specs.declared.state.Configuration.{Configuration}
 use Rattle.mb_model.specs.declared.state.Report.{Report}
-use Rattle.mb_model.specs.owners.Log.{figures_of, entries_of, RuledLog}
-use Rattle.mb_model.specs.records.EntryFormat.{entry_format}
+use Rattle.mb_model.specs.owners.Log.{figures_of, entries_of, serial_of, RuledLog}
+use Rattle.mb_model.specs.records.EntryFormat.{entry_format, entry_hash}
 use Rattle.mb_model.specs.records.ChainFormat.{chain_format}
 use Rattle.mb_model.specs.chains.Acceptance.{ChainRefusal, bad_form, bad_signature, bad_order, breaks_rules, key_unknown, bad_statement, wrong_number, key_ended, AreGood, IsNext, IfStatement, IsCurrent, message_of, Accepts, IsRefused}
 use Rattle.mb_cert.proofs.Sizes.{entries_allowed}
@@ -26,7 +26,7 @@ use Rattle.mb_model_lemmas.proofs.ChainLemmas.{accepted_is_ruled}
 use Rattle.mb_verifier.specs.declared.refusal.ChainRefusal as why
 use Rattle.mb_verifier.specs.Ends.{chain_refusal_of}
 use Rattle.mb_verifier.specs.Checked.{HasBadEntry}
-use Rattle.mb_verifier.specs.Entries.{IsOfEntries, IsEntriesRefused}
+use Rattle.mb_verifier.specs.Entries.{ChainShows, IsOfEntries, IsEntriesRefused}
 
 -- ---- the entries of a chain
 
@@ -36,6 +36,23 @@ entries_spelled chain is = entries_allowed chain is
 pub entries_few : (chain : Chain) → chain_format.Allowed chain → length chain.entries ≤ 128
 unfolding chain_format
 entries_few chain is = is.1.0.0.1
+
+pub some_entries : (chain : Chain) → chain_format.Allowed chain → 1 ≤ length chain.entries
+unfolding chain_format
+some_entries chain is = is.1.0.0.0
+
+-- what good entries of a chain show
+pub entries_show : (maker : PublicKey) (bytes : List ℕ) (chain : Chain) (log : List SignedEntry) (serial : List ℕ) (figures : Figures) (hashes : List (List ℕ)) → Spells chain_format bytes chain → log ≡ chain.entries
+    → AreGood maker log → serial_of (entries_of log) ≡ Some serial → figures ≡ figures_of (entries_of log) → hashes ≡ map entry_hash (entries_of log)
+    → ChainShows maker bytes (record { serial = serial; figures = figures; hashes = hashes })
+entries_show maker bytes chain log serial figures hashes spelled is good named counted hashed = record {
+  chain = chain;
+  spelled = spelled;
+  good = subst (AreGood maker) is good;
+  serial = subst (λ (l : List SignedEntry). serial_of (entries_of l) ≡ Some serial) is named;
+  figures = subst (λ (l : List SignedEntry). figures ≡ figures_of (entries_of l)) is counted;
+  hashes = subst (λ (l : List SignedEntry). hashes ≡ map entry_hash (entries_of l)) is hashed;
+}
 
 -- ---- refusals
 

@@ -1,9 +1,30 @@
--- Why the entries of a chain are refused, whatever the key. Is the reason one that its statement cannot give?
-use Rattle.std.specs.Prelude.{ℕ, List}
+-- What the entries of a chain show of their device, and why they are refused, whatever the key. Is the reason one that
+-- the chain's statement cannot give?
+use Rattle.std.specs.Prelude.{◌≡◌, ℕ, List, map, Some}
+use Rattle.mb_format.specs.Format.{Spells}
 use Rattle.mb_model.specs.declared.key.PublicKey.{PublicKey}
+use Rattle.mb_model.specs.declared.entry.Chain.{Chain}
+use Rattle.mb_model.specs.owners.Log.{entries_of, figures_of, serial_of}
+use Rattle.mb_model.specs.records.EntryFormat.{entry_hash}
+use Rattle.mb_model.specs.records.ChainFormat.{chain_format}
 use Rattle.mb_model.specs.chains.Acceptance.{ChainRefusal, bad_form, bad_signature, bad_order, breaks_rules}
-use Rattle.mb_model.specs.chains.Acceptance.{key_unknown}
+use Rattle.mb_model.specs.chains.Acceptance.{key_unknown, AreGood}
 use Rattle.mb_model.specs.chains.Acceptance.{bad_statement, wrong_number, key_ended, IsRefused}
+use Rattle.mb_verifier.specs.declared.chain.Shown.{Shown}
+
+-- ---- good entries
+
+-- The bytes are a chain whose entries are good under the maker's key, and what is shown is theirs; of a statement only
+-- the form counts.
+pub record ChainShows (maker : PublicKey) (bytes : List ℕ) (shown : Shown) : Type 0 where
+  pub chain : Chain
+  pub spelled : Spells chain_format bytes chain
+  pub good : AreGood maker chain.entries
+  pub serial : serial_of (entries_of chain.entries) ≡ Some shown.serial
+  pub figures : shown.figures ≡ figures_of (entries_of chain.entries)
+  pub hashes : shown.hashes ≡ map entry_hash (entries_of chain.entries)
+
+-- ---- entries that are refused
 
 -- a reason that the form or an entry gives; the others are of a key or a statement
 abbrev pub IsOfEntries : ChainRefusal → Type 0

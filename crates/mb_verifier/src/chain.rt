@@ -9,14 +9,26 @@ ghost use Rattle.mb_model.specs.chains.Acceptance.{Accepts, AreGood, IsRefused, 
 ghost use Rattle.mb_model.specs.chains.Acceptance as acceptance;
 ghost use Rattle.mb_format.specs.Format.{Spells};
 ghost use Rattle.mb_verifier.specs.Ends.{chain_refusal_of};
-ghost use Rattle.mb_verifier.specs.Entries.{IsEntriesRefused};
+ghost use Rattle.mb_verifier.specs.Entries.{IsEntriesRefused, ChainShows};
 
-use crate::entries::judge;
+use crate::entries::{hash_entries, judge};
 use crate::refusal::ChainRefusal;
 use crate::statement::check_statement;
 use mb_cert::{ChainEnd, read_chain};
-use mb_model::{Bytes, Chain, PublicKey, Report, Statement};
+use mb_log::serial_of;
+use mb_model::{Bytes, Chain, Figures, Items, PublicKey, Report, Statement};
 use std::alloc::Global;
+
+/// What the entries of a chain show of their device.
+#[derive(Drop)]
+pub struct Shown {
+    /// The serial of the device.
+    pub serial: [u8; 16],
+    /// What the entries say together.
+    pub figures: Figures,
+    /// The hash of each entry, without its signature, in order.
+    pub hashes: Items<[u8; 32]>,
+}
 
 /// The report on the key with the number `key` by a chain of at most 4,194,304 bytes, if the chain is accepted under
 /// the maker's key `root`. Each signature is checked once, and the text of one entry at a time is in memory; no clause
@@ -36,7 +48,7 @@ pub fn verify(
 {
     match read_chain(alloc, chain) {
         Ok(chain) => report_on(alloc, root, chain, key),
-        Err(ChainEnd::BadChain { at }) => Err(ChainRefusal::Form { at }),
+        Err(ChainEnd::Bad { at }) => Err(ChainRefusal::Form { at }),
         Err(ChainEnd::NoMemory) => Err(ChainRefusal::NoMemory),
     }
 }
@@ -83,7 +95,7 @@ pub fn verify_entries(alloc: Global, root: &PublicKey, chain: &[u8]) -> Result<C
 {
     match read_chain(alloc, chain) {
         Ok(chain) => good_chain(alloc, root, chain),
-        Err(ChainEnd::BadChain { at }) => Err(ChainRefusal::Form { at }),
+        Err(ChainEnd::Bad { at }) => Err(ChainRefusal::Form { at }),
         Err(ChainEnd::NoMemory) => Err(ChainRefusal::NoMemory),
     }
 }
@@ -98,6 +110,41 @@ fn good_chain(alloc: Global, root: &PublicKey, chain: Chain) -> Result<Chain, Ch
 {
     judge(alloc, root, chain.entries.as_slice(), 0)?;
     Ok(chain)
+}
+
+/// What the entries of a chain of at most 4,194,304 bytes show, if they are good under the maker's key `root`. Of a
+/// statement, only the form is checked. Each signature of an entry is checked once; no clause says so.
+///
+/// Errors: those of `ChainRefusal` that the form or an entry gives (`Form`, `Signature`, `Order`, `Rules`), and
+/// `NoMemory`.
+pub fn verify_shown(alloc: Global, root: &PublicKey, chain: &[u8]) -> Result<Shown, ChainRefusal>
+    requires { length chain.now ≤ FILE_LIMIT }
+    ensures shown { IfOk result (ChainShows root.now chain.now) }
+    ensures refused { IfErr result (λ why. IfSome (chain_refusal_of why) (IsEntriesRefused root.now chain.now)) }
+{
+    match read_chain(alloc, chain) {
+        Ok(chain) => shown_by(alloc, root, &chain),
+        Err(ChainEnd::Bad { at }) => Err(ChainRefusal::Form { at }),
+        Err(ChainEnd::NoMemory) => Err(ChainRefusal::NoMemory),
+    }
+}
+
+/// What the entries of a chain show, if they are good; else why the first that is not good is refused.
+fn shown_by(alloc: Global, root: &PublicKey, chain: &Chain) -> Result<Shown, ChainRefusal>
+    requires { chain_format.Allowed chain.now }
+    ensures shown { (bytes : List ℕ) → Spells chain_format bytes chain.now → IfOk result (ChainShows root.now bytes) }
+    ensures refused { (bytes : List ℕ) → Spells chain_format bytes chain.now → IfErr result (λ why. IfSome (chain_refusal_of why) (IsEntriesRefused root.now bytes)) }
+{
+    let log = chain.entries.as_slice();
+    let hashed = hash_entries(alloc, root, log)?;
+    let Some(serial) = serial_of(log) else {
+        unreachable!()
+    };
+    Ok(Shown {
+        serial,
+        figures: hashed.figures,
+        hashes: hashed.hashes,
+    })
 }
 
 /// The message of a statement, if there is one.

@@ -11,7 +11,7 @@ mod refusal;
 mod signer;
 mod statement;
 
-pub use chain::{verify, verify_entries};
+pub use chain::{Shown, verify, verify_entries, verify_shown};
 pub use listing::{kind_word, layer_line, life_word, trust_words, write_listing};
 pub use mb_model::Report;
 pub use refusal::ChainRefusal;

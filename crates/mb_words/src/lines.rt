@@ -1,6 +1,7 @@
 //! Texts cut into lines, and lines into words.
 
 ghost use Rattle.std.specs.Prelude.{◌≡◌, ◌≢◌, ◌++◌, ℕ, List, All, MatchOption};
+ghost use Rattle.mb_model.specs.chains.Script.{is_skipped};
 ghost use Rattle.mb_words.specs.Words.{IsSplit, SplitsLine};
 
 /// The text before the first occurrence of this byte, and the text after it; `None` if the text has no such byte.
@@ -20,6 +21,16 @@ pub fn split_line(text: &[u8]) -> (&[u8], &[u8])
     match split_at_byte(text, b'\n') {
         Some(parts) => parts,
         None => (text, &[]),
+    }
+}
+
+/// Whether a line is skipped: it is empty, or a comment.
+pub fn is_skipped(line: &[u8]) -> bool
+    ensures { result ≡ is_skipped line.now }
+{
+    match line.first() {
+        Some(byte) => *byte == b'#',
+        None => true,
     }
 }
 

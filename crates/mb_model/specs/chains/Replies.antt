@@ -1,6 +1,5 @@
 -- The line of each reply. Does what is printed tell one reply from another?
-use Rattle.std.specs.Prelude.{ℕ, ◌==◌, List, [], ◌∷◌, codes, flat_map, Option, None, Some, IsSome, unwrap_or}
-use Rattle.std.specs.Prelude.{if◌then◌else◌}
+use Rattle.std.specs.Prelude.{ℕ, List, [], ◌∷◌, codes, flat_map, IsSome, unwrap_or}
 use Rattle.std.specs.Fmt.{decimal}
 use Rattle.mb_model.specs.declared.event.Answered.{Answered}
 use Rattle.mb_model.specs.declared.reply.Reply.{Reply}
@@ -8,6 +7,7 @@ use Rattle.mb_model.specs.declared.reply.Reply.TheVariants as reply
 use Rattle.mb_model.specs.declared.reply.Standing.{Standing}
 use Rattle.mb_model.specs.declared.reply.Standing.TheVariants as stands
 use Rattle.mb_model.specs.outside.Texts.{line_with_lf}
+use Rattle.mb_model.specs.machine.Refusals.{refusal_words}
 use Rattle.mb_model.specs.chains.Lines.{spaced_words, hex_word}
 
 -- the word for how a layer stands
@@ -16,25 +16,6 @@ standing_word stands.Unowned = codes "unowned"
 standing_word stands.Unreliable = codes "unreliable"
 standing_word stands.Reliable = codes "reliable"
 standing_word stands.Runnable = codes "runnable"
-
--- the words for the number of a refusal; no refusal has any other number
-abbrev pub refusal_words : ℕ → Option (List ℕ)
-refusal_words number =
-    if number == 1 then Some (codes "off")
-    else if number == 2 then Some (codes "phase")
-    else if number == 3 then Some (codes "zeroised")
-    else if number == 4 then Some (codes "layer")
-    else if number == 5 then Some (codes "full")
-    else if number == 6 then Some (codes "key")
-    else if number == 7 then Some (codes "spent")
-    else if number == 10 then Some (codes "text")
-    else if number == 11 then Some (codes "target")
-    else if number == 12 then Some (codes "state")
-    else if number == 13 then Some (codes "signature")
-    else if number == 14 then Some (codes "countersignature")
-    else if number == 15 then Some (codes "log full")
-    else if number == 16 then Some (codes "keys full")
-    else None
 
 -- Every reply has a line, except a refusal whose number has no words.
 abbrev pub HasLine : Reply → Type 0

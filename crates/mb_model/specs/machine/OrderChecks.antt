@@ -1,6 +1,6 @@
 -- What an order has to pass. Is it obeyed only if its owners may give it?
 use Rattle.std.specs.Prelude.{◌≡◌, ℕ, ◌+◌, ◌<◌, ◌≤◌, ◌==◌, Bool, not, ◌&&◌, if◌then◌else◌}
-use Rattle.std.specs.Prelude.{length, All, Option}
+use Rattle.std.specs.Prelude.{◌⊎◌, List, [], ◌∷◌, length, All, Option}
 use Rattle.mb_model.specs.declared.limits.TheConstants.{LAST_INDEX, ENTRY_LIMIT, KEY_LIMIT}
 use Rattle.mb_model.specs.declared.order.Order.{Order}
 use Rattle.mb_model.specs.declared.order.Act.{Act}
@@ -15,11 +15,9 @@ use Rattle.mb_model.specs.owners.Rules.{kind_of, change_of, authority, Condition
 use Rattle.mb_model.specs.owners.Log.{entries_of, number_of, uses_of_device_key, keys_made_by}
 use Rattle.mb_model.specs.records.OrderFormat.{order_body}
 use Rattle.mb_model.specs.machine.SignedTexts.{order_text, countersigned_text, IsSignedBy}
-use Rattle.mb_model.specs.declared.reply.Refusal.{Refusal}
-use Rattle.mb_model.specs.declared.reply.Refusal.TheVariants.{PoweredOff, WrongPhase, Zeroised, WrongLayer}
-use Rattle.mb_model.specs.declared.reply.Refusal.TheVariants.{RegionFull, NoSuchKey, KeySpent, BadText, WrongTarget}
-use Rattle.mb_model.specs.declared.reply.Refusal.TheVariants.{WrongState, WrongSignature, WrongCountersignature}
-use Rattle.mb_model.specs.declared.reply.Refusal.TheVariants.{LogFull, KeysFull}
+use Rattle.mb_model.specs.declared.reply.OrderRefusal.{OrderRefusal}
+use Rattle.mb_model.specs.declared.reply.OrderRefusal.TheVariants.{WrongTarget, WrongState, WrongSignature}
+use Rattle.mb_model.specs.declared.reply.OrderRefusal.TheVariants.{WrongCountersignature, LogFull, KeysFull}
 
 -- the part of a state by which its orders are judged
 abbrev pub view_of : State → View
@@ -39,7 +37,7 @@ view_of state = record {
 abbrev pub region_keys : View → ℕ → ℕ
 region_keys view layer = if layer == 2 then view.keys_two else if layer == 3 then view.keys_three else 0
 
--- ---- the checks of an order, in the order in which they are tried
+-- ---- what the checks of an order look at
 
 -- the change that the order makes: none if it makes a new key
 abbrev pub change_by : Order → Option ChangeKind
@@ -76,12 +74,17 @@ needs_succession view order = succession_is_due view.uses (renews (change_by ord
 abbrev pub needed_with : ℕ → Bool → ℕ
 needed_with uses names_next = if succession_is_due uses names_next then 2 else 1
 
+-- the log has room for this entry, and for the succession, if it is due
+abbrev pub HasRoomWith : View → Bool → Type 0
+HasRoomWith view names_next = view.length + needed_with view.uses names_next ≤ ENTRY_LIMIT
+
 -- how many entries the order appends
 abbrev pub entries_needed : View → Order → ℕ
 entries_needed view order = needed_with view.uses (renews (change_by order) order.layer)
 
+-- the log has room for the entries of the order
 abbrev pub LogHasRoom : View → Order → Type 0
-LogHasRoom view order = view.length + entries_needed view order ≤ ENTRY_LIMIT
+LogHasRoom view order = HasRoomWith view (renews (change_by order) order.layer)
 
 -- if the order makes a key, its region has room for it
 abbrev pub RegionHasRoom : View → ℕ → Act → Type 0
@@ -91,39 +94,49 @@ RegionHasRoom view layer act.Surrender = Unit {0}
 RegionHasRoom view layer (act.Load payload) = Unit {0}
 RegionHasRoom view layer (act.Emergency payload) = Unit {0}
 
+-- ---- the list of them
+
+-- a check of an order: what has to hold, and which refusals there can be if it does not
+pub record Check : Type 1 where
+  pub Holds : Type 0
+  pub IsRefusal : OrderRefusal → Type 0
+
+-- this has to hold, and there is one refusal
+abbrev pub one_check : Type 0 → OrderRefusal → Check
+one_check Holds refusal = record { Holds = Holds; IsRefusal = λ why. (why ≡ refusal) × (Holds → ⊥) }
+
+-- this has to hold of each item of a list, and the refusal tells the first of which it does not
+abbrev pub each_check : {A : Type 0} → List A → (A → Type 0) → (ℕ → A → OrderRefusal) → Check
+each_check {A} items Holds refusal = record {
+  Holds = All Holds items;
+  IsRefusal = λ why. (index : ℕ) × (item : A) × (why ≡ refusal index item) × IsFirstFailing Holds items index item;
+}
+
+-- the checks of an order, in the order in which they are tried
+abbrev pub checks_of : View → Order → List Check
+checks_of view order =
+    each_check order.targets (TargetHoldsIn view) (λ index target. WrongTarget index)
+    ∷ one_check (MayBeGiven view order) WrongState
+    ∷ one_check (IsSigned view order) WrongSignature
+    ∷ each_check order.countersignatures (IsCountersigned view order) (λ index by. WrongCountersignature by.layer)
+    ∷ one_check (LogHasRoom view order) LogFull
+    ∷ one_check (RegionHasRoom view order.layer order.act) KeysFull
+    ∷ []
+
+-- each check holds
+abbrev pub EachHolds : List Check → Type 0
+EachHolds [] = Unit {0}
+EachHolds (check ∷ later) = check.Holds × EachHolds later
+
+-- this is the refusal of the first check that does not hold
+abbrev pub IsFirstRefusal : List Check → OrderRefusal → Type 0
+IsFirstRefusal [] why = ⊥
+IsFirstRefusal (check ∷ later) why = check.IsRefusal why ⊎ (check.Holds × IsFirstRefusal later why)
+
 -- the order passes every check
 pub record Passes (view : View) (order : Order) : Type 0 where
-  pub targets : TargetsHold view order
-  pub condition : MayBeGiven view order
-  pub signature : IsSigned view order
-  pub countersignatures : All (IsCountersigned view order) order.countersignatures
-  pub log : LogHasRoom view order
-  pub keys : RegionHasRoom view order.layer order.act
+  pub each : EachHolds (checks_of view order)
 
--- The order passes every check before that of this refusal, and fails that one.
-abbrev pub Fails : View → Order → Refusal → Type 0
-Fails view order (WrongTarget index) =
-    (target : Target) × IsFirstFailing (TargetHoldsIn view) order.targets index target
-Fails view order WrongState = TargetsHold view order × (MayBeGiven view order → ⊥)
-Fails view order WrongSignature =
-    TargetsHold view order × MayBeGiven view order × (IsSigned view order → ⊥)
-Fails view order (WrongCountersignature cosigner) =
-    TargetsHold view order × MayBeGiven view order × IsSigned view order
-    × ((index : ℕ) × (by : Countersignature) × (by.layer ≡ cosigner)
-    × IsFirstFailing (IsCountersigned view order) order.countersignatures index by)
-Fails view order LogFull =
-    TargetsHold view order × MayBeGiven view order × IsSigned view order
-    × All (IsCountersigned view order) order.countersignatures × (LogHasRoom view order → ⊥)
-Fails view order KeysFull =
-    TargetsHold view order × MayBeGiven view order × IsSigned view order
-    × All (IsCountersigned view order) order.countersignatures × LogHasRoom view order
-    × (RegionHasRoom view order.layer order.act → ⊥)
--- no order is refused for these
-Fails view order BadText = ⊥
-Fails view order PoweredOff = ⊥
-Fails view order WrongPhase = ⊥
-Fails view order Zeroised = ⊥
-Fails view order WrongLayer = ⊥
-Fails view order RegionFull = ⊥
-Fails view order NoSuchKey = ⊥
-Fails view order KeySpent = ⊥
+-- the order passes every check before one, and is refused for failing that one
+abbrev pub Fails : View → Order → OrderRefusal → Type 0
+Fails view order why = IsFirstRefusal (checks_of view order) why

@@ -1,6 +1,7 @@
 -- How an entry of the log is spelled, and an entry with its signature. What did the device sign?
 use Rattle.std.specs.Prelude.{ℕ, ◌+◌, ◌*◌, ◌==◌, if◌then◌else◌, true, false, List, [], ◌∷◌, Option, Some, None}
 use Rattle.std.specs.Int.{w8, w32}
+use Rattle.sha2.specs.Sha256.{sha256}
 use Rattle.mb_format.specs.Format.{Format}
 use Rattle.mb_format.specs.Combinators.{raw, number, between, table, listed, nothing, flag_byte, optional}
 use Rattle.mb_format.specs.Combinators.{pair, as_value, as_record, led}
@@ -157,6 +158,10 @@ entry_by succession_tag = succession_format
 
 unfoldable pub entry_format : Format Entry
 entry_format = led (listed w8 entry_rows entry_byte) entry_tag entry_by
+
+-- the hash of an entry, without its signature
+abbrev pub entry_hash : Entry → List ℕ
+entry_hash entry = sha256 (entry_format.spelling entry)
 
 -- a signature of types 5 and 3 (RFC 8554, section 5.4)
 abbrev pub signature_format : Format (List ℕ)

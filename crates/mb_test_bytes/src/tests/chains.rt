@@ -7,6 +7,7 @@ use super::statements::FIRST;
 use super::values::{BIRTH, CHANGE, EMERGENCY, KEY_43, NEW_KEY, SUCCESSION};
 use super::vectors;
 use mb_cert::{Chain, Statement, attach, certifies, leaf_number, read_chain, write_chain};
+use mb_layout::entry_bytes;
 use mb_model::{Bytes, Entry, Items, SignedEntry};
 use std::alloc::Global;
 use std::process::Abort;
@@ -102,6 +103,7 @@ fn no_key_signed_an_entry_whose_signature_is_none(rt: HostRuntime) -> Result<(),
         signature: [0x61; 2348],
     };
     assert!(rt; leaf_number(&signed.signature) == 0x6161_6161);
-    assert!(rt; !certifies(rt.alloc(), &KEY_43, &signed)?);
+    let spelling = entry_bytes(rt.alloc(), &signed.entry)?;
+    assert!(rt; !certifies(&KEY_43, &signed, spelling.as_slice()));
     Ok(())
 }

@@ -1,8 +1,8 @@
 //! Each field read and written, against bytes that are written out.
 
-use mb_bytes::example::{Example, NotRead, read_example, read_whole_example, write_example};
+use mb_bytes::example::{Example, read_example, read_whole_example, write_example};
 use mb_bytes::{
-    Cursor, Short, bytes_after_u8, bytes_after_u16, bytes_after_u32, flag_at, key_kind_at,
+    Cursor, ReadEnd, Short, bytes_after_u8, bytes_after_u16, bytes_after_u32, flag_at, key_kind_at,
     key_seed_at, public_key_at, put_after_u8, put_after_u16, put_after_u32, put_at, put_flag,
     put_key_kind, put_key_seed, put_public_key, put_slice, put_trust, put_u8, put_u16, put_u32,
     trust_at, u8_between, u16_between, u32_between,
@@ -49,8 +49,8 @@ fn an_example_is_read(rt: HostRuntime) -> Result<(), Fail> {
     };
     assert!(rt; is_read && cursor.left() == 0);
     let at = match read_whole_example(rt.alloc(), &EXAMPLE[..10]) {
-        Ok(_) | Err(NotRead::NoMemory) => 0,
-        Err(NotRead::BadRecord { at }) => at,
+        Ok(_) | Err(ReadEnd::NoMemory) => 0,
+        Err(ReadEnd::Bad { at }) => at,
     };
     assert!(rt; at == 9);
     Ok(())

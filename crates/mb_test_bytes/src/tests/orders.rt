@@ -3,7 +3,7 @@
 ghost use Rattle.mb_model.specs.records.OrderFormat.{order_format};
 
 use super::spelled::joined;
-use mb_command::{body_length, read_order, signed_part, write_order};
+use mb_command::{body_length, order_body, read_order, write_order};
 use mb_model::{Act, NoMemory, Order, Target, Trust, Trusts};
 use std::alloc::Global;
 use std::process::Abort;
@@ -18,7 +18,7 @@ pub fn is_written(alloc: Global, order: &Order, bytes: &[u8], body: usize) -> Re
 {
     let mut out = Vec::new(alloc);
     write_order(order, &mut out)?;
-    let part = signed_part(alloc, order)?;
+    let part = order_body(alloc, order)?;
     let signed = part.as_slice();
     let length = body_length(order) as usize;
     Ok(

@@ -114,13 +114,11 @@ fn fails_after(
         let wanted = if i + 1 < known {
             Ok(())
         } else {
-            Err(OrderEnd::BadText { at })
+            Err(OrderEnd::Bad { at })
         };
         assert!(rt; reader.feed(&bytes[i..i + 1]) == wanted);
     }
-    assert!(rt;
-        matches!(reader.finish(alloc), Err(OrderEnd::BadText { at: found }) if found == at)
-    );
+    assert!(rt; matches!(reader.finish(alloc), Err(OrderEnd::Bad { at: found }) if found == at));
     Ok(())
 }
 
@@ -194,9 +192,7 @@ fn lacks_bytes(
     let bytes = joined(alloc, pieces)?;
     let mut reader = OrderReader::new(alloc);
     assert!(rt; reader.feed(&bytes) == Ok(()));
-    assert!(rt;
-        matches!(reader.finish(alloc), Err(OrderEnd::BadText { at: found }) if found == at)
-    );
+    assert!(rt; matches!(reader.finish(alloc), Err(OrderEnd::Bad { at: found }) if found == at));
     Ok(())
 }
 

@@ -8,7 +8,7 @@ use super::{trusts, vectors};
 use mb_bytes::Cursor;
 use mb_cert::{ChainEnd, read_chain, read_statement};
 use mb_command::{OrderEnd, read_order};
-use mb_layout::{BadRecord, LayoutEnd, read_entry, read_layer, region_of_bytes, root_of_bytes};
+use mb_layout::{BadRecord, ReadEnd, read_entry, read_layer, region_of_bytes, root_of_bytes};
 use std::alloc::Global;
 use std::process::Abort;
 use std::test::Fail;
@@ -50,19 +50,19 @@ fn failing_place(alloc: Global, form: Form, bytes: &[u8]) -> Option<u32>
             Ok(_) => None,
         },
         Form::Region => match region_of_bytes(alloc, bytes) {
-            Err(LayoutEnd::Bad(BadRecord { at })) => Some(at),
+            Err(ReadEnd::Bad { at }) => Some(at),
             _ => None,
         },
         Form::Order => match read_order(alloc, bytes) {
-            Err(OrderEnd::BadText { at }) => Some(at),
+            Err(OrderEnd::Bad { at }) => Some(at),
             _ => None,
         },
         Form::Chain => match read_chain(alloc, bytes) {
-            Err(ChainEnd::BadChain { at }) => Some(at),
+            Err(ChainEnd::Bad { at }) => Some(at),
             _ => None,
         },
         Form::Statement => match read_statement(alloc, bytes) {
-            Err(ChainEnd::BadChain { at }) => Some(at),
+            Err(ChainEnd::Bad { at }) => Some(at),
             _ => None,
         },
     }

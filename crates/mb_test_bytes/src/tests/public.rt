@@ -6,8 +6,7 @@ use super::spelled::{bytes_of, joined};
 use super::values::{BIRTH, NEW_KEY, SUCCESSION};
 use super::vectors;
 use hex::FromHex;
-use mb_bytes::Cursor;
-use mb_layout::LayoutEnd;
+use mb_bytes::{Cursor, ReadEnd};
 use mb_migrate::{
     public_at_start, public_of_bytes, read_public, record_at_start, write_public_record,
 };
@@ -80,7 +79,7 @@ fn is_spelled(alloc: Global, bytes: &[u8]) -> Result<bool, Fail>
 }
 
 /// Whether the codes and entries of the vectors are read at a cursor.
-fn is_read_at_cursor(alloc: Global, bytes: &[u8]) -> Result<bool, LayoutEnd>
+fn is_read_at_cursor(alloc: Global, bytes: &[u8]) -> Result<bool, ReadEnd>
     requires { length bytes.now ≤ 100000 }
 {
     let public = read_public(alloc, &mut Cursor::new(bytes))?;

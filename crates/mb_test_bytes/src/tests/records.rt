@@ -13,9 +13,8 @@ use super::values::{
 use super::{trusts, vectors};
 use mb_bytes::Cursor;
 use mb_layout::{
-    LayoutEnd, Root, fill_area, read_entry, read_layer, read_region, read_root, record_in,
-    region_in, region_of_bytes, root_in, root_of_bytes, write_entry, write_layer, write_region,
-    write_root,
+    ReadEnd, Root, fill_area, read_entry, read_layer, read_region, read_root, record_in, region_in,
+    region_of_bytes, root_in, root_of_bytes, write_entry, write_layer, write_region, write_root,
 };
 use mb_model::{Entry, Layer, NoMemory, Region, RegionKey, Secret};
 use sha2::{Digest, Sha256};
@@ -131,7 +130,7 @@ fn is_expected(region: &Region) -> bool {
 }
 
 /// Whether the region of the vectors is read at a cursor.
-fn is_read_at_cursor(alloc: Global, bytes: &[u8]) -> Result<bool, LayoutEnd>
+fn is_read_at_cursor(alloc: Global, bytes: &[u8]) -> Result<bool, ReadEnd>
     requires { length bytes.now ≤ 4000 }
 {
     let region = read_region(alloc, &mut Cursor::new(bytes))?;

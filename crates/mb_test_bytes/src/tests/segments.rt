@@ -5,10 +5,10 @@ ghost use Rattle.mb_model.specs.declared.limits.TheConstants.{SECTOR_LENGTH};
 
 use super::spelled::joined;
 use hex::FromHex;
-use mb_model::{BadRecord, SECTOR_LENGTH, SIGNATURE_LENGTH};
+use mb_model::{SECTOR_LENGTH, SIGNATURE_LENGTH};
 use mb_segments::{
-    Header, HeaderEnd, Slot, StoredHeader, code_sector, header_at, header_sector, log_at,
-    log_sector, put_log, read_header, write_header,
+    Header, ReadEnd, Slot, StoredHeader, code_sector, header_at, header_sector, log_at, log_sector,
+    put_log, read_header, write_header,
 };
 use sha2::{Digest, Sha256};
 use std::alloc::Global;
@@ -213,7 +213,7 @@ fn is_no_header(alloc: Global, at: u32, bytes: &str) -> Result<bool, Fail> {
     let bytes = joined(alloc, &[(bytes, 1), (NEW_KEY, 1)])?;
     let sector = sector_of(alloc, bytes.as_slice())?;
     Ok(
-        read_header(alloc, sector.as_slice()).err() == Some(HeaderEnd::Bad(BadRecord { at }))
+        read_header(alloc, sector.as_slice()).err() == Some(ReadEnd::Bad { at })
             && header_at(sector.as_slice()).is_none(),
     )
 }

@@ -3,7 +3,10 @@
 
 use super::births::{owned, owned_device_goes_through};
 use super::fleet::{FILES, REGISTER, REGISTER_FIELDS};
-use super::{A_NEW_DEVICE, A_WHOLE_LIFE, Part, Play, ShortFile, Step, Told, go_on, perform, store};
+use super::{
+    A_NEW_DEVICE, A_WHOLE_LIFE, ANOTHER_DEVICE, Part, Play, ShortFile, Step, Told, go_on, perform,
+    store,
+};
 use std::alloc::Global;
 use std::test::Fail;
 
@@ -76,29 +79,6 @@ const EXTENDED_AND_OLDER: &[Step] = &[
 /// first.
 const A_COPY_IS_CAUGHT: &[Step] = &[
     Step::Ends("register register", 0, "devices 0\n"),
-    Step::Writes("noise48", &[Part::Slice("noise", 0, 48)]),
-    Step::Ends(
-        "factory noise48 maker public1 code other",
-        0,
-        "serial 07070707070707070707070707070707\n",
-    ),
-    Step::Writes(
-        "script",
-        &[
-            Part::Text("boot\n"),
-            Part::File("order1"),
-            Part::File("order2"),
-            Part::File("order3"),
-            Part::File("order4"),
-            Part::Text("off\n"),
-        ],
-    ),
-    Step::Ends(
-        "run other script noise",
-        0,
-        "booted\ndone 1 2\ndone 2 3\ndone 3 4\ndone 4 5\noff\n",
-    ),
-    Step::Ends("chain other others", 0, "entries 5\n"),
     Step::Ends(
         "enrol public0 register others",
         0,
@@ -282,7 +262,7 @@ fn devices_are_enrolled(rt: HostRuntime) -> Result<(), Fail> {
 
 #[test]
 fn a_copy_is_not_enrolled(rt: HostRuntime) -> Result<(), Fail> {
-    owned_device_goes_through(&rt, &[A_COPY_IS_CAUGHT])
+    owned_device_goes_through(&rt, &[ANOTHER_DEVICE, A_COPY_IS_CAUGHT])
 }
 
 #[test]

@@ -3,8 +3,8 @@
 
 use super::births::owned_device_goes_through;
 use super::{
-    A_NEW_DEVICE, A_WHOLE_LIFE, Content, Given, Part, Play, ShortFile, Step, Told, go_on,
-    host_with, perform, store,
+    A_NEW_DEVICE, A_WHOLE_LIFE, ANOTHER_DEVICE, Content, Given, Part, Play, ShortFile, Step, Told,
+    go_on, host_with, perform, store,
 };
 use std::alloc::Global;
 use std::test::Fail;
@@ -92,29 +92,6 @@ const FOUND_BY_CODE: &[Step] = &[
         name: "counts",
         content: Content::Hex("0302"),
     }),
-    Step::Writes("noise48", &[Part::Slice("noise", 0, 48)]),
-    Step::Ends(
-        "factory noise48 maker public1 code other",
-        0,
-        "serial 07070707070707070707070707070707\n",
-    ),
-    Step::Writes(
-        "script",
-        &[
-            Part::Text("boot\n"),
-            Part::File("order1"),
-            Part::File("order2"),
-            Part::File("order3"),
-            Part::File("order4"),
-            Part::Text("off\n"),
-        ],
-    ),
-    Step::Ends(
-        "run other script noise",
-        0,
-        "booted\ndone 1 2\ndone 2 3\ndone 3 4\ndone 4 5\noff\n",
-    ),
-    Step::Ends("chain other others", 0, "entries 5\n"),
     Step::Ends("chain keyless chain", 0, "entries 5\n"),
     Step::Writes(
         "items",
@@ -384,7 +361,15 @@ fn devices_are_extended_and_older(rt: HostRuntime) -> Result<(), Fail> {
 
 #[test]
 fn devices_are_found_by_code(rt: HostRuntime) -> Result<(), Fail> {
-    owned_device_goes_through(&rt, &[A_REGISTER_BEGINS, FOUND_BY_CODE, A_COPY_IS_CAUGHT])
+    owned_device_goes_through(
+        &rt,
+        &[
+            A_REGISTER_BEGINS,
+            ANOTHER_DEVICE,
+            FOUND_BY_CODE,
+            A_COPY_IS_CAUGHT,
+        ],
+    )
 }
 
 #[test]

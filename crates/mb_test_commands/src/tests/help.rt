@@ -4,7 +4,8 @@ use super::{Play, Step, perform};
 use std::test::Fail;
 
 /// The text of `--help`. `checks/documents.sh` finds it in docs/use/commands.md.
-const HELP: &str = "miniboot serves a simulated secure coprocessor.
+const HELP: &str =
+    "miniboot simulates a secure coprocessor, and provides the tools of its maker, owners and verifiers.
 
 to make keys and devices:
   miniboot keygen NOISE KEY PUBLIC
@@ -14,7 +15,7 @@ to make keys and devices:
       prints the hash of the public key of an officer's key, its next index, and how many indices are left
   miniboot factory NOISE KEY OWNER CODE IMAGE
       makes a device of this owner and code from the noise, signs its birth by the maker's key, writes
-      that key with one more index used and the device's image, and prints the device's serial
+      that key with its next index marked as used and the device's image, and prints the device's serial
   miniboot hsskeygen NOISE LEVELS KEY PUBLIC
       makes a maker's HSS key of 1 to 8 levels from the noise, writes its file and its public key, and
       prints the public key's hash
@@ -31,11 +32,11 @@ to give orders:
   miniboot ordered PUBLIC ORDER
       names the signatures of an order line that verify under the public key
   miniboot sign KEY DRAFT OUT
-      signs the order of the draft, writes the key with one more index used and the order as a line, and
-      prints the index
+      signs the order of the draft, writes the key with its next index marked as used and the order as a
+      line, and prints the index
   miniboot countersign KEY LAYER ORDER OUT
-      adds the countersignature of the owner of layer 2 or 3 to an order line, writes the key with one
-      more index used and the order as a line, and prints the index
+      adds the countersignature of the owner of layer 2 or 3 to an order line, writes the key with its
+      next index marked as used and the order as a line, and prints the index
   miniboot cosign KEY LAYER ORDER DRAFT OUT
       countersigns as countersign does, if the order line says what the draft says, and else refuses
 
@@ -106,7 +107,7 @@ to learn of the program:
   miniboot --version
       prints the version
 
-status: 0 done, 2 the words are no command, 3 an input is not in its form, 4 an input could not be read,
+status: 0 done, 2 usage error, 3 malformed input, 4 an input could not be read,
         5 an output could not be written, 6 an allocation failed, 7 the command is refused
 ";
 

@@ -11,10 +11,10 @@ ghost use Rattle.mb_test_cuts.specs.Staged.{IsLiveImage, IsReadyForCalls};
 
 use super::board::{armed_board, wake};
 use super::states::{Device, is_clean, read};
-use mb_area::commit_root;
+use mb_area::{Unsettled, commit_root};
 use mb_board::{Board, SimBoard};
 use mb_boot::{BootEnd, boot};
-use mb_layout::{LayoutEnd, Room, region_of_bytes, root_of_bytes};
+use mb_layout::{ReadEnd, Room, region_of_bytes, root_of_bytes};
 use mb_lms::HashCount;
 use mb_model::{Items, Region, Root};
 use mb_outbound::{BindEnd, bind};
@@ -151,7 +151,11 @@ fn put_root(alloc: Global, board: &mut SimBoard, record: &str) -> Result<bool, F
     match commit_root(up, board, &root, &mut room) {
         Ok(unsettled) => {
             board.power_off();
-            let _off = Reaches::<One>::lost(unsettled, board);
+            let Unsettled {
+                working,
+                root: _root,
+            } = unsettled;
+            let _off = Reaches::<One>::lost(working, board);
             Ok(false)
         }
         Err(_off) => Ok(true),

@@ -1,5 +1,6 @@
 //! Runs, texts and codes of applications, by values of another program.
 
+mod codes;
 mod devices;
 mod runs;
 mod texts;

@@ -16,7 +16,6 @@ use std::marker::Brand;
 use std::sync::ledger::{Blank, Ledger};
 use std::test::Fail;
 
-mod endorsement;
 mod files;
 mod levels;
 mod signatures;

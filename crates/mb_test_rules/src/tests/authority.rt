@@ -1,6 +1,6 @@
 //! Conditions, and what changes leave, by the rules of the device.
 
-use mb_authority::{admits, after, condition, kept_regions, layer_of, may_cosign};
+use mb_authority::{admits, after, kept_regions, layer_of, may_cosign, stands_for_order};
 use mb_model::{Chains, ChangeKind, CodeName, Layer, Layers, Pair, PublicKey, Tree, Trust, Trusts};
 use std::process::Abort;
 
@@ -50,7 +50,7 @@ const ORDERS: &[(Option<ChangeKind>, u8, bool)] = &[
 
 /// The layers of `all_owned` admit this change or new key as expected.
 fn is_admitted(rt: &impl Abort, kind: Option<ChangeKind>, layer: u8, expected: bool) {
-    assert!(rt; condition(&all_owned(), kind, layer) == expected);
+    assert!(rt; stands_for_order(&all_owned(), kind, layer) == expected);
 }
 
 #[test]

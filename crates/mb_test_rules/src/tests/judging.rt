@@ -1,17 +1,19 @@
 //! Orders judged by written figures, and each refusal before those that come after it.
 
-ghost use Rattle.std.specs.Prelude.{◌≡◌, ◌<◌, ◌≤◌, IfOk};
-ghost use Rattle.mb_model.specs.records.OrderFormat.{order_format};
+ghost use Rattle.std.specs.Prelude.{◌≡◌, ◌<◌, ◌≤◌};
+ghost use Rattle.mb_model.specs.machine.OrderChecks.{Passes};
 
 use super::signed::{
     ESTABLISH_AT_SEVEN, LOAD_ONE, LOAD_ONE_BY_ONE, LOAD_ONE_BY_THREE, LOAD_THREE,
     LOAD_THREE_BY_THREE, LOAD_TWO, LOAD_TWO_BY_TWO, NEW_KEY, NEW_KEY_BY_THREE, ONE, THREE, TWO,
 };
 use super::{joined, public_key};
-use mb_command::read_order;
+use mb_command::{read_order, signed_prefix};
 use mb_lms::HashCount;
-use mb_model::{CodeName, Fate, KeySeed, Layer, Layers, Order, Trust, Trusts, View};
-use mb_orders::{JudgeEnd, Plan, judge};
+use mb_model::{
+    CodeName, Fate, KeySeed, Layer, Layers, NoMemory, Order, OrderRefusal, Trust, Trusts, View,
+};
+use mb_orders::{Plan, check, make_plan};
 use mb_signer::Bench;
 use std::alloc::Global;
 use std::marker::Brand;
@@ -109,20 +111,13 @@ fn view(layers: Layers, length: u32, uses: u32) -> View
     }
 }
 
-/// The order of these parts: its body, the signature, and the countersignatures.
-fn order_of(alloc: Global, parts: [&str; 3]) -> Result<Order, Fail>
-    ensures { IfOk result (λ order. order_format.Allowed order) }
-{
-    Ok(read_order(alloc, &joined(alloc, &parts)?)?)
-}
-
-fn judge_counted<L: Ledger>(
+fn plan_counted<L: Ledger>(
     alloc: Global,
     view: &View,
     order: &Order,
     blank: Blank,
-) -> Result<Plan, JudgeEnd>
-    requires spelled { order_format.Allowed order.now }
+) -> Result<Plan, NoMemory>
+    requires passes { Passes view.now order.now }
     requires uses { view.now.uses ≤ 31 }
     requires number { view.now.number ≤ 128 }
     requires keys_made { view.now.keys_made ≤ 128 }
@@ -131,7 +126,22 @@ fn judge_counted<L: Ledger>(
     requires some { 0 < blank.parts }
 {
     let mut hashes = HashCount::<L>::begin(alloc, blank);
-    judge(alloc, view, order, &[8; 32], &mut Bench::new(), &mut hashes)
+    make_plan(alloc, view, order, &[8; 32], &mut Bench::new(), &mut hashes)
+}
+
+/// The plan of the order of these parts (its body, the signature, and the countersignatures), or the first check that
+/// it fails.
+fn judge(alloc: Global, view: &View, parts: [&str; 3]) -> Result<Result<Plan, OrderRefusal>, Fail>
+    requires uses { view.now.uses ≤ 31 }
+    requires number { view.now.number ≤ 128 }
+    requires keys_made { view.now.keys_made ≤ 128 }
+{
+    let bytes = joined(alloc, &parts)?;
+    let order = read_order(alloc, &bytes)?;
+    match check(view, &order, signed_prefix(&order, &bytes)) {
+        Ok(()) => Ok(Ok(plan_counted::<Brand>(alloc, view, &order, Blank::new(1))?)),
+        Err(end) => Ok(Err(end)),
+    }
 }
 
 /// What is seen of a plan.
@@ -157,7 +167,7 @@ enum Outcome {
     /// A plan that leaves layer 3 these trusts.
     Trusts(Trusts),
     /// No plan, for this reason.
-    End(JudgeEnd),
+    End(OrderRefusal),
 }
 
 /// Whether this is seen of the plan.
@@ -186,13 +196,10 @@ fn comes_to(alloc: Global, view: &View, parts: [&str; 3], expected: &Outcome) ->
     requires number { view.now.number ≤ 128 }
     requires keys_made { view.now.keys_made ≤ 128 }
 {
-    let order = order_of(alloc, parts)?;
-    Ok(
-        match judge_counted::<Brand>(alloc, view, &order, Blank::new(1)) {
-            Ok(plan) => is_planned(&plan, expected),
-            Err(found) => matches!(expected, Outcome::End(end) if *end == found),
-        },
-    )
+    match judge(alloc, view, parts)? {
+        Ok(plan) => Ok(is_planned(&plan, expected)),
+        Err(found) => Ok(matches!(expected, Outcome::End(end) if *end == found)),
+    }
 }
 
 /// Orders: what each shows, what is changed in the layers, the number of entries, the number of used indices (less than
@@ -204,7 +211,7 @@ const ORDERS: &[(&str, But, u32, u8, [&str; 3], Outcome)] = &[
         1,
         1,
         [ESTABLISH_AT_SEVEN, UNSIGNED, ALONE],
-        Outcome::End(JudgeEnd::Target(0)),
+        Outcome::End(OrderRefusal::WrongTarget(0)),
     ),
     (
         "a target before all",
@@ -212,7 +219,7 @@ const ORDERS: &[(&str, But, u32, u8, [&str; 3], Outcome)] = &[
         128,
         31,
         [LOAD_AT_SEVEN, UNSIGNED, WRONG],
-        Outcome::End(JudgeEnd::Target(0)),
+        Outcome::End(OrderRefusal::WrongTarget(0)),
     ),
     (
         "the layers come next",
@@ -220,7 +227,7 @@ const ORDERS: &[(&str, But, u32, u8, [&str; 3], Outcome)] = &[
         128,
         31,
         [LOAD_TWO, UNSIGNED, ALONE],
-        Outcome::End(JudgeEnd::State),
+        Outcome::End(OrderRefusal::WrongState),
     ),
     (
         "then the signature",
@@ -228,7 +235,7 @@ const ORDERS: &[(&str, But, u32, u8, [&str; 3], Outcome)] = &[
         128,
         31,
         [LOAD_ONE, UNSIGNED, WRONG],
-        Outcome::End(JudgeEnd::Signature),
+        Outcome::End(OrderRefusal::WrongSignature),
     ),
     (
         "then countersignatures",
@@ -236,7 +243,7 @@ const ORDERS: &[(&str, But, u32, u8, [&str; 3], Outcome)] = &[
         128,
         31,
         [LOAD_ONE, LOAD_ONE_BY_ONE, WRONG],
-        Outcome::End(JudgeEnd::Countersignature(2)),
+        Outcome::End(OrderRefusal::WrongCountersignature(2)),
     ),
     (
         "nobody countersigns for a layer without an owner",
@@ -244,7 +251,7 @@ const ORDERS: &[(&str, But, u32, u8, [&str; 3], Outcome)] = &[
         2,
         1,
         [LOAD_ONE, LOAD_ONE_BY_ONE, LOAD_ONE_BY_THREE],
-        Outcome::End(JudgeEnd::Countersignature(3)),
+        Outcome::End(OrderRefusal::WrongCountersignature(3)),
     ),
     (
         "then the log, without room for two",
@@ -252,7 +259,7 @@ const ORDERS: &[(&str, But, u32, u8, [&str; 3], Outcome)] = &[
         127,
         31,
         [LOAD_TWO, LOAD_TWO_BY_TWO, ALONE],
-        Outcome::End(JudgeEnd::LogFull),
+        Outcome::End(OrderRefusal::LogFull),
     ),
     (
         "then the log, without room for one",
@@ -260,7 +267,7 @@ const ORDERS: &[(&str, But, u32, u8, [&str; 3], Outcome)] = &[
         128,
         1,
         [NEW_KEY, NEW_KEY_BY_THREE, ALONE],
-        Outcome::End(JudgeEnd::LogFull),
+        Outcome::End(OrderRefusal::LogFull),
     ),
     (
         "the keys come last",
@@ -268,7 +275,7 @@ const ORDERS: &[(&str, But, u32, u8, [&str; 3], Outcome)] = &[
         100,
         1,
         [NEW_KEY, NEW_KEY_BY_THREE, ALONE],
-        Outcome::End(JudgeEnd::KeysFull),
+        Outcome::End(OrderRefusal::KeysFull),
     ),
     (
         "a load of layer 1 needs no succession",

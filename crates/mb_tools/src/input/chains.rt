@@ -31,7 +31,7 @@ impl Form for ChainForm {
     fn read(self, alloc: Global, bytes: Vec<u8>) -> Result<Chain, Unread> {
         match read_chain(alloc, &bytes) {
             Ok(chain) => Ok(chain),
-            Err(ChainEnd::BadChain { at }) => Err(Unread::At(Place::At(at))),
+            Err(ChainEnd::Bad { at }) => Err(Unread::At(Place::At(at))),
             Err(ChainEnd::NoMemory) => Err(Unread::NoMemory),
         }
     }

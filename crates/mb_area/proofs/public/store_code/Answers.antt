@@ -1,12 +1,13 @@
+use Rattle.std.proofs.Common.{rules}
 use Rattle.mb_area.proofs.Published.{code_stands, code_there}
 use Rattle.mb_area.proofs.public.store_code.Goals as goal
 
-pub returns-clause-written : goal.returns-clause-written
-returns-clause-written g c =
-    code_stands c.args.layer c.args.slot c.code_sector.result (g.B.Board.seen c.write_sectors.new.b).memory.flash c.args.code.now c.write_sectors.result c.code_sector.ensures c.requires.code
-    c.write_sectors.ensures.written
-
-pub returns-clause-idle : goal.returns-clause-idle
-returns-clause-idle g c = λ there.
-    c.write_sectors.ensures.idle
-    (code_there (g.B.Board.seen c.args.b.now).memory.flash c.args.code.now c.args.layer c.args.slot c.code_sector.result c.code_sector.ensures c.requires.code there)
+pub returns : goal.returns
+returns g c = record {
+  same = search rules;
+  written = code_stands c.args.layer c.args.slot c.code_sector.result (g.B.Board.seen c.write_sectors.new.b).memory.flash c.args.code.now c.write_sectors.result c.code_sector.ensures c.requires.code
+      c.write_sectors.ensures.written;
+  idle = λ there. c.write_sectors.ensures.idle
+      (code_there (g.B.Board.seen c.args.b.now).memory.flash c.args.code.now c.args.layer c.args.slot c.code_sector.result c.code_sector.ensures c.requires.code there);
+  ran = c.write_sectors.ensures.ran;
+}

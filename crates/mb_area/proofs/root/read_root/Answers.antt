@@ -11,15 +11,13 @@ held_root-requires g c =
     let same : c.deref.result.now ≡ area_of_slot (g.B.Board.seen c.args.b.now).memory.bbram 1 = c.deref.ensures.value ∙ take_at c.read_current.new.out _ _ (omega arith) ∙ c.read_current.ensures in
     some_held c.deref.result.now (g.B.Board.seen c.args.b.now).memory same c.requires.root
 
-pub returns-clause-holds : goal.returns-clause-holds
-returns-clause-holds g c =
+pub returns-clause-current : goal.returns-clause-current
+returns-clause-current g c =
     let same : c.deref.result.now ≡ area_of_slot (g.B.Board.seen c.args.b.now).memory.bbram 1 = c.deref.ensures.value ∙ take_at c.read_current.new.out _ _ (omega arith) ∙ c.read_current.ensures in
-    record { alive = c.requires.root.holds.alive; blank = c.requires.root.holds.blank; holds = in_force c.deref.result.now (g.B.Board.seen c.args.b.now).memory.bbram c.held_root.result same c.held_root.ensures.holds }
-
-pub returns-clause-root : goal.returns-clause-root
-returns-clause-root g c = λ root is. (
-    let same : c.deref.result.now ≡ area_of_slot (g.B.Board.seen c.args.b.now).memory.bbram 1 = c.deref.ensures.value ∙ take_at c.read_current.new.out _ _ (omega arith) ∙ c.read_current.ensures in
-    c.held_root.ensures.only root (subst (λ (xs : List ℕ). HoldsRecord root_format xs root) (sym same) is.holds))
+    record {
+      holds = record { alive = c.requires.root.holds.alive; blank = c.requires.root.holds.blank; holds = in_force c.deref.result.now (g.B.Board.seen c.args.b.now).memory.bbram c.held_root.result same c.held_root.ensures.holds };
+      only = λ root is. c.held_root.ensures.only root (subst (λ (xs : List ℕ). HoldsRecord root_format xs root) (sym same) is.holds);
+    }
 
 pub returns-clause-area : goal.returns-clause-area
 returns-clause-area g c = (bounded_by c.held_root.result c.held_root.ensures.holds.spelled.allowed).area

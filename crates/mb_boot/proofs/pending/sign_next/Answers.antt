@@ -1,9 +1,10 @@
-use Rattle.std.proofs.Common.{ℕ, ◌⊎◌, List, refl, sym, ap, subst, ◌∙◌}
+use Rattle.std.proofs.Common.{ℕ, List, arith, refl, sym, ap, subst, ◌∙◌}
 use Rattle.mb_model.specs.records.HeaderFormat.{header_format}
 use Rattle.mb_model.specs.memories.Sectors.{BeginsAs}
-use Rattle.mb_signer.specs.Benches.{HasTree, HasRoom}
+use Rattle.mb_signer.specs.Benches.{HasTree}
 use Rattle.std.specs.Option.{option_copied}
 use Rattle.mb_segments.specs.Uncopied.{header_of}
+use Rattle.mb_boot.specs.Calls.{SignsOnce}
 use Rattle.mb_boot.specs.Completions.{IsSignedSector}
 use Rattle.mb_boot.proofs.Completed.{text_fits, signed_next, nothing_next}
 use Rattle.mb_boot.proofs.Signers.{no_text_there}
@@ -32,8 +33,8 @@ returns-in_default-clause-kept g c = λ header begins some. absurd (
 pub returns-clause-kept : goal.returns-clause-kept
 returns-clause-kept g c = λ header begins some. subst (λ signer. HasTree c.sign_text.new.bench signer.key) c.signer_of-signer.ensures.signer c.sign_text.ensures.kept
 
-pub returns-clause-beside : goal.returns-clause-beside
-returns-clause-beside g c = λ has. c.sign_text.ensures.beside (subst (λ signer. HasRoom c.args.bench.now ⊎ HasTree c.args.bench.now signer.key) (sym c.signer_of-signer.ensures.signer) has)
+pub returns-in_default-clause-signing : goal.returns-in_default-clause-signing
+returns-in_default-clause-signing g c = record { beside = λ room key has. has; cost = omega arith; again = λ has. omega arith }
 
-pub returns-clause-again : goal.returns-clause-again
-returns-clause-again g c = λ has. c.sign_text.ensures.again (subst (λ signer. HasTree c.args.bench.now signer.key) (sym c.signer_of-signer.ensures.signer) has)
+pub returns-clause-signing : goal.returns-clause-signing
+returns-clause-signing g c = subst (λ signer. SignsOnce signer.key c.args.bench.now c.sign_text.new.bench c.args.hashes.now c.sign_text.new.hashes) c.signer_of-signer.ensures.signer c.sign_text.ensures.signing

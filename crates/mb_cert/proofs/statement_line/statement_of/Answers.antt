@@ -3,8 +3,8 @@ use Rattle.mb_format.specs.Format.{IsBytes}
 use Rattle.mb_model.specs.records.ChainFormat.{statement_format}
 use Rattle.mb_model.proofs.EntryFormatLaws.{statement_exact}
 use Rattle.mb_bytes.specs.Reads.{FailsWholeAt}
-use Rattle.mb_cert.specs.declared.end.ChainEnd.{ChainEnd}
-use Rattle.mb_cert.specs.Ends.{chain_at}
+use Rattle.mb_bytes.specs.declared.end.ReadEnd.{ReadEnd}
+use Rattle.mb_bytes.specs.Ends.{end_at}
 use Rattle.mb_layout.proofs.Areas.{spells_none}
 use Rattle.mb_cert.proofs.StatementTexts.{too_long}
 use Rattle.mb_cert.proofs.statement_line.statement_of.Goals as goal
@@ -12,8 +12,8 @@ use Rattle.mb_cert.proofs.statement_line.statement_of.Goals as goal
 pub returns-then-bytes-gt-STATEMENT_LIMIT : goal.returns-then-bytes-gt-STATEMENT_LIMIT
 returns-then-bytes-gt-STATEMENT_LIMIT c = too_long c.args.bytes.now c.if-bytes-gt-STATEMENT_LIMIT.true
 
-pub returns-in-Err-BadChain : goal.returns-in-Err-BadChain
-returns-in-Err-BadChain c =
+pub returns-in-Err-Bad : goal.returns-in-Err-Bad
+returns-in-Err-Bad c =
     let are : IsBytes c.args.bytes.now = λ i. omega (arith, c.type_inv.bytes i) in
-    spells_none {bytes = c.args.bytes.now} {at = c.in-Err-BadChain.field-0-0} statement_exact are
-    (subst (λ (e : ChainEnd). FailsWholeAt statement_format c.args.bytes.now (chain_at e)) c.in-Err-BadChain.field-0-is c.in-Err-BadChain.ensures)
+    spells_none {bytes = c.args.bytes.now} {at = c.in-Err-Bad.field-0-0} statement_exact are
+    (subst (λ (e : ReadEnd). FailsWholeAt statement_format c.args.bytes.now (end_at e)) c.in-Err-Bad.field-0-is c.in-Err-Bad.ensures)

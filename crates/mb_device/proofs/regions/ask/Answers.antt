@@ -1,71 +1,70 @@
-use Rattle.std.proofs.Common.{Some, ap, sym, subst, true}
-use Rattle.std.specs.Prelude.{IfOk}
+use Rattle.std.proofs.Common.{Ok, Some, refl, sym, subst, arith}
 use Rattle.mb_model.specs.declared.event.Event.{Event}
 use Rattle.mb_model.specs.declared.event.Event.TheVariants as event
-use Rattle.mb_model_memory.specs.Answering.{ComesTo}
-use Rattle.mb_outbound.specs.KeptTrees.{IsKeptFor, IsKeptIn}
-use Rattle.mb_device_regions.specs.Statements.{LeavesTree}
-use Rattle.mb_device_orders.specs.declared.remembering.Trees.{Trees}
-use Rattle.mb_device_orders.specs.Remembering.{IsDeviceTree}
+use Rattle.mb_model.specs.machine.LayerEvents.{get_event}
+use Rattle.mb_device_orders.specs.declared.remembering.Known.{Known}
+use Rattle.mb_device_regions.specs.Calls.{AnswersIn}
+use Rattle.mb_device_regions.proofs.Promised.{remembered_ready, answers_idle}
+use Rattle.mb_device.specs.Calls.{SignsIn}
 use Rattle.mb_device.specs.Regions.{layer_outcome}
-use Rattle.mb_device.specs.KeptTrees.{IsKeptToSign, TreesAreKept}
-use Rattle.mb_device.proofs.Uses.{known_runs}
-use Rattle.mb_device.proofs.Told.{known_number}
+use Rattle.mb_device.specs.KeptTrees.{IsKeptToSign}
 use Rattle.mb_device.proofs.Trees.{same_trees, trees_signed_by, trees_untouched}
 use Rattle.mb_device.proofs.regions.ask.Goals as goal
 
-pub returns-in-Put-clause-told : goal.returns-in-Put-clause-told
-returns-in-Put-clause-told g c = λ state ready knows.
-    subst (λ (e : Event). ComesTo state (layer_outcome g.L.Place.place e state) (g.B.Board.seen c.args.b.now).memory (g.B.Board.seen c.put_secret.new.b).memory c.put_secret.result) (sym c.in-Put.is)
-    (c.put_secret.ensures.told state ready (known_runs c.args.running.now.known state g.L.Place.place true knows ready.valid c.requires.runs) (known_number c.args.running.now.known state knows))
+pub get_secret-reply-requires-clause-ready : goal.get_secret-reply-requires-clause-ready
+get_secret-reply-requires-clause-ready g c = remembered_ready c.requires.can_answer
 
-pub returns-in-Drop-clause-told : goal.returns-in-Drop-clause-told
-returns-in-Drop-clause-told g c = λ state ready knows.
-    subst (λ (e : Event). ComesTo state (layer_outcome g.L.Place.place e state) (g.B.Board.seen c.args.b.now).memory (g.B.Board.seen c.drop_secret.new.b).memory c.drop_secret.result) (sym c.in-Drop.is)
-    (c.drop_secret.ensures.told state ready (known_runs c.args.running.now.known state g.L.Place.place true knows ready.valid c.requires.runs))
+pub returns-in-Put-clause-answers : goal.returns-in-Put-clause-answers
+returns-in-Put-clause-answers g c =
+    subst (λ (e : Event). AnswersIn g.L.Compartment.place (layer_outcome g.L.Compartment.place e) c.args.running.now c.put_secret.new.running c.put_secret.result (g.B.Board.seen c.args.b.now) (g.B.Board.seen c.put_secret.new.b)) (sym c.in-Put.is) c.put_secret.ensures.answers
 
-pub returns-in-Sign-clause-told : goal.returns-in-Sign-clause-told
-returns-in-Sign-clause-told g c = λ state ready knows.
-    subst (λ (e : Event). ComesTo state (layer_outcome g.L.Place.place e state) (g.B.Board.seen c.args.b.now).memory (g.B.Board.seen c.sign_message.new.b).memory c.sign_message.result) (sym c.in-Sign.is)
-    (c.sign_message.ensures.told state ready (known_runs c.args.running.now.known state g.L.Place.place true knows ready.valid c.requires.runs) knows.serial (known_number c.args.running.now.known state knows))
+pub returns-in-Get-clause-answers : goal.returns-in-Get-clause-answers
+returns-in-Get-clause-answers g c =
+    subst (λ (e : Event). AnswersIn g.L.Compartment.place (layer_outcome g.L.Compartment.place e) c.args.running.now (record c.args.running.now { room = c.get_secret-reply.new.room }) (Ok (c.args.s, c.get_secret-reply.result)) (g.B.Board.seen c.args.b.now) (g.B.Board.seen c.args.b.now)) (sym c.in-Get.is)
+    (answers_idle g.L.Compartment.place _ (get_event g.L.Compartment.place c.in-Get.name) c.args.running.now _ c.args.s c.get_secret-reply.result (g.B.Board.seen c.args.b.now) c.requires.can_answer.up refl c.get_secret-reply.ensures.plans c.get_secret-reply.ensures.told)
 
-pub sign_message-requires-clause-kept : goal.sign_message-requires-clause-kept
-sign_message-requires-clause-kept g c =
-    let is = c.requires.remembered in
-    record { state = is.state; ready = is.ready; own = subst (λ (trees : Trees). IsKeptIn trees.region is.state) (sym c.deref_mut.ensures.value) is.knows.trees.region }
+pub returns-in-Drop-clause-answers : goal.returns-in-Drop-clause-answers
+returns-in-Drop-clause-answers g c =
+    subst (λ (e : Event). AnswersIn g.L.Compartment.place (layer_outcome g.L.Compartment.place e) c.args.running.now c.drop_secret.new.running c.drop_secret.result (g.B.Board.seen c.args.b.now) (g.B.Board.seen c.drop_secret.new.b)) (sym c.in-Drop.is) c.drop_secret.ensures.answers
 
-pub returns-in-Sign-clause-known : goal.returns-in-Sign-clause-known
-returns-in-Sign-clause-known g c = λ state ready knows. record {
-  serial = knows.serial;
-  figures = knows.figures;
-  trees = record {
-    device = subst (λ (trees : Trees). IsDeviceTree trees.device state) (sym c.deref_mut.ensures.value) knows.trees.device;
-    region = c.sign_message.ensures.kept state ready (subst (λ (trees : Trees). IsKeptIn trees.region state) (sym c.deref_mut.ensures.value) knows.trees.region);
-  };
-}
+pub returns-in-Sign-clause-answers : goal.returns-in-Sign-clause-answers
+returns-in-Sign-clause-answers g c =
+    subst (λ (e : Event). AnswersIn g.L.Compartment.place (layer_outcome g.L.Compartment.place e) c.args.running.now c.sign_message.new.running c.sign_message.result (g.B.Board.seen c.args.b.now) (g.B.Board.seen c.sign_message.new.b)) (sym c.in-Sign.is) c.sign_message.ensures.answers
 
-pub returns-in-Put-clause-trees : goal.returns-in-Put-clause-trees
-returns-in-Put-clause-trees g c =
-    subst (λ (e : Event). IfOk c.put_secret.result (λ told. TreesAreKept g.L.Place.place e told.1 (Some c.args.running.now.known.trees.value) (Some c.args.running.now.known.trees.value))) (sym c.in-Put.is)
-    (trees_untouched c.put_secret.result g.L.Place.place (event.Put c.in-Put.region c.in-Put.name c.in-Put.value) (Some c.args.running.now.known.trees.value) (λ answer. tt))
+pub returns-in-Put-clause-signs : goal.returns-in-Put-clause-signs
+returns-in-Put-clause-signs g c =
+    subst (λ (e : Event). SignsIn g.L.Compartment.place e (Some c.args.running.now.known.trees.value) (Some c.put_secret.new.running.known.trees.value) c.put_secret.result c.args.hashes.now c.args.hashes.now) (sym c.in-Put.is)
+    (subst (λ (known : Known). SignsIn g.L.Compartment.place (event.Put c.in-Put.region c.in-Put.name c.in-Put.value) (Some c.args.running.now.known.trees.value) (Some known.trees.value) c.put_secret.result c.args.hashes.now c.args.hashes.now) (sym c.put_secret.ensures.stays)
+    (record {
+      trees = trees_untouched c.put_secret.result g.L.Compartment.place (event.Put c.in-Put.region c.in-Put.name c.in-Put.value) (Some c.args.running.now.known.trees.value) (λ answer. tt);
+      cost = omega arith;
+      again = λ own. omega arith;
+    }))
 
-pub returns-in-Get-clause-trees : goal.returns-in-Get-clause-trees
-returns-in-Get-clause-trees g c =
-    subst (λ (e : Event). TreesAreKept g.L.Place.place e c.get_secret-reply.result (Some c.args.running.now.known.trees.value) (Some c.args.running.now.known.trees.value)) (sym c.in-Get.is)
-    (same_trees g.L.Place.place (event.Get c.in-Get.region c.in-Get.name) c.get_secret-reply.result (Some c.args.running.now.known.trees.value) tt)
+pub returns-in-Drop-clause-signs : goal.returns-in-Drop-clause-signs
+returns-in-Drop-clause-signs g c =
+    subst (λ (e : Event). SignsIn g.L.Compartment.place e (Some c.args.running.now.known.trees.value) (Some c.drop_secret.new.running.known.trees.value) c.drop_secret.result c.args.hashes.now c.args.hashes.now) (sym c.in-Drop.is)
+    (subst (λ (known : Known). SignsIn g.L.Compartment.place (event.Drop c.in-Drop.region c.in-Drop.name) (Some c.args.running.now.known.trees.value) (Some known.trees.value) c.drop_secret.result c.args.hashes.now c.args.hashes.now) (sym c.drop_secret.ensures.stays)
+    (record {
+      trees = trees_untouched c.drop_secret.result g.L.Compartment.place (event.Drop c.in-Drop.region c.in-Drop.name) (Some c.args.running.now.known.trees.value) (λ answer. tt);
+      cost = omega arith;
+      again = λ own. omega arith;
+    }))
 
-pub returns-in-Drop-clause-trees : goal.returns-in-Drop-clause-trees
-returns-in-Drop-clause-trees g c =
-    subst (λ (e : Event). IfOk c.drop_secret.result (λ told. TreesAreKept g.L.Place.place e told.1 (Some c.args.running.now.known.trees.value) (Some c.args.running.now.known.trees.value))) (sym c.in-Drop.is)
-    (trees_untouched c.drop_secret.result g.L.Place.place (event.Drop c.in-Drop.region c.in-Drop.name) (Some c.args.running.now.known.trees.value) (λ answer. tt))
+pub returns-in-Get-clause-signs : goal.returns-in-Get-clause-signs
+returns-in-Get-clause-signs g c =
+    subst (λ (e : Event). SignsIn g.L.Compartment.place e (Some c.args.running.now.known.trees.value) (Some c.args.running.now.known.trees.value) (Ok (c.args.s, c.get_secret-reply.result)) c.args.hashes.now c.args.hashes.now) (sym c.in-Get.is)
+    (record {
+      trees = same_trees g.L.Compartment.place (event.Get c.in-Get.region c.in-Get.name) c.get_secret-reply.result (Some c.args.running.now.known.trees.value) tt;
+      cost = omega arith;
+      again = λ own. omega arith;
+    })
 
-pub returns-in-Sign-clause-trees : goal.returns-in-Sign-clause-trees
-returns-in-Sign-clause-trees g c =
-    trees_signed_by c.sign_message.result g.L.Place.place c.in-Sign.region c.in-Sign.key c.in-Sign.message c.args.event.now c.args.running.now.known.trees.value _ c.in-Sign.is c.sign_message.ensures.keeps
-    (subst (λ (trees : Trees). LeavesTree c.sign_message.result trees.region c.sign_message.new.kept) c.deref_mut.ensures.value c.sign_message.ensures.stays)
-    (ap (λ (trees : Trees). trees.device) c.deref_mut.ensures.value)
-
-pub returns-in-Sign-clause-again : goal.returns-in-Sign-clause-again
-returns-in-Sign-clause-again g c = λ own.
-    let asked : IsKeptFor c.args.running.now.known.trees.value.region g.L.Place.place c.in-Sign.key = subst (λ (e : Event). IsKeptToSign (Some c.args.running.now.known.trees.value) g.L.Place.place e) c.in-Sign.is own in
-    c.sign_message.ensures.again (subst (λ (trees : Trees). IsKeptFor trees.region g.L.Place.place c.in-Sign.key) (sym c.deref_mut.ensures.value) asked)
+pub returns-in-Sign-clause-signs : goal.returns-in-Sign-clause-signs
+returns-in-Sign-clause-signs g c =
+    let signs = c.sign_message.ensures.trees in
+    record {
+      trees = trees_signed_by c.sign_message.result g.L.Compartment.place c.in-Sign.region c.in-Sign.key c.in-Sign.message c.args.event.now c.args.running.now.known.trees.value c.sign_message.new.running.known.trees.value c.in-Sign.is signs.keeps signs.stays signs.device;
+      cost = signs.cost;
+      again = λ own. signs.again (subst (λ (e : Event). IsKeptToSign (Some c.args.running.now.known.trees.value) g.L.Compartment.place e) c.in-Sign.is own);
+    }

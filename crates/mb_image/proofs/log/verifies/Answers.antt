@@ -1,4 +1,4 @@
-use Rattle.mb_image.proofs.Following.{first_is_verified, none_verifies, verified_by, IfOk-weaker}
+use Rattle.mb_image.proofs.Following.{first_is_verified, none_verifies, verified_by}
 use Rattle.mb_image.proofs.log.verifies.Goals as goal
 
 pub returns-then-figures-eq0 : goal.returns-then-figures-eq0
@@ -9,5 +9,5 @@ returns-in_default c = none_verifies c.args.figures.now c.args.signed.now c.if-f
 
 pub returns : goal.returns
 returns c =
-    IfOk-weaker _ _ (verified_by c.args.figures.now c.args.signed.now c.in-Some.key c.if-figures-eq0.false c.in-Some.is)
-    c.certifies.result c.certifies.ensures
+    verified_by c.args.figures.now c.args.signed.now c.in-Some.key c.if-figures-eq0.false c.in-Some.is c.certifies.result
+    c.certifies.ensures

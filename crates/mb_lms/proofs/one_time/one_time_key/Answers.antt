@@ -17,5 +17,5 @@ loop-i-preserved c =
     let w = digit_bits key.chains in
     let end = c.chain_end.ensures key.identifier c.args.q c.loop-i.i c.chain_prefix-prefix.ensures in
     let whole : c.chain_end.result ≡ value_after_steps key.identifier c.args.q c.loop-i.i (coef c.args.digits.now c.loop-i.i w) (2 ^ w - 1) (value_at c.args.values.now c.loop-i.i) =
-    cc (end, c.digit.ensures.value, c.greatest_digit-last.ensures, c.value_at-value.ensures, c.from.ensures) in
+    cc (end, c.coef.ensures.value, c.greatest_digit-last.ensures, c.value_at-value.ensures, c.from.ensures) in
     subst P (ends_grown _ key.identifier c.args.q w c.args.digits.now c.args.values.now c.loop-i.i _ whole) (c.update.ensures _ c.loop-i.invariant)

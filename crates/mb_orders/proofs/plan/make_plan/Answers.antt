@@ -1,5 +1,9 @@
-use Rattle.mb_orders.proofs.Plans.{planned}
+use Rattle.mb_model.proofs.Passed.{passed}
+use Rattle.mb_orders.proofs.Plans.{planned, room_for}
 use Rattle.mb_orders.proofs.plan.make_plan.Goals as goal
+
+pub bodies-requires-clause-room : goal.bodies-requires-clause-room
+bodies-requires-clause-room g c = room_for c.args.view.now c.args.order.now c.fact_of-fact.result c.fact_of-fact.ensures (passed c.requires.passes).log
 
 pub returns-clause-planned : goal.returns-clause-planned
 returns-clause-planned g c =

@@ -1,8 +1,8 @@
-use Rattle.mb_region.proofs.Replaced.{fate_keeps_meaning}
+use Rattle.mb_region.proofs.Placed.{fate_placed_ok, fate_placed_err}
 use Rattle.mb_region.proofs.calls.apply_fate.Goals as goal
 
-pub returns-in-Ok-clause-meaning : goal.returns-in-Ok-clause-meaning
-returns-in-Ok-clause-meaning g c = λ state. fate_keeps_meaning c.number.result g.L.Place.place c.args.fate.now _ _ state c.number.ensures g.met.L.Named.named c.finish_fate.ensures.ran.ran.sized c.requires.pending c.finish_fate.ensures.either
+pub returns-in-Ok : goal.returns-in-Ok
+returns-in-Ok g c = fate_placed_ok c.number.result g.L.Compartment.place c.args.fate.now c.args.room.now c.finish_fate.new.room (g.B.Board.seen c.args.b.now) (g.B.Board.seen c.finish_fate.new.b) _ _ c.number.ensures c.in-Ok.ensures
 
-pub returns-in-Err-clause-meaning : goal.returns-in-Err-clause-meaning
-returns-in-Err-clause-meaning g c = λ state. fate_keeps_meaning c.number.result g.L.Place.place c.args.fate.now _ _ state c.number.ensures g.met.L.Named.named c.finish_fate.ensures.ran.ran.sized c.requires.pending c.finish_fate.ensures.either
+pub returns-in-Err : goal.returns-in-Err
+returns-in-Err g c = fate_placed_err c.number.result g.L.Compartment.place c.args.fate.now c.args.room.now c.finish_fate.new.room (g.B.Board.seen c.args.b.now) (g.B.Board.seen c.finish_fate.new.b) _ _ c.number.ensures c.in-Err.ensures

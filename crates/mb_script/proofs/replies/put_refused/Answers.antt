@@ -3,7 +3,7 @@ use Rattle.std.specs.Fmt.{decimal}
 use Rattle.mb_bytes.specs.Puts.{StopsShort}
 use Rattle.std.specs.Prelude.{unwrap_or}
 use Rattle.std.proofs.lemmas.Result.{err_from_is_err_and}
-use Rattle.mb_model.specs.chains.Replies.{refusal_words}
+use Rattle.mb_model.specs.machine.Refusals.{refusal_words}
 use Rattle.mb_bytes.proofs.Putting.{puts_stop, puts_stop_later}
 use Rattle.mb_script.proofs.replies.put_refused.Goals as goal
 

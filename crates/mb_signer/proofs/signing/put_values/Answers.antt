@@ -20,10 +20,10 @@ loop-chain-preserved g c =
           (signed_values c.args.seed.now c.args.q c.args.digits.now (c.loop-chain.chain + 1)) c.chain_value-value.result (40 + 32 * c.from.result)
           (40 + 32 * c.loop-chain.chain) (40 + 32 * (c.loop-chain.chain + 1)) c.put_at.ensures.written (omega (arith, c.from.ensures))
           (omega (arith, c.from.ensures)) c.loop-chain.invariant.values
-          (signed_next c.args.seed.now c.args.q c.args.digits.now c.loop-chain.chain c.digit.result c.chain_value-value.result c.digit.ensures.value
+          (signed_next c.args.seed.now c.args.q c.args.digits.now c.loop-chain.chain c.coef.result c.chain_value-value.result c.coef.ensures.value
           c.chain_value-value.ensures.value);
       sized = search rules;
-      cost = omega (arith, c.digit.ensures.bound, c.chain_value-value.ensures.counted);
+      cost = omega (arith, c.coef.ensures.bound, c.chain_value-value.ensures.counted);
     }
 
 pub returns-clause-values : goal.returns-clause-values

@@ -2,12 +2,12 @@
 
 ghost use Rattle.std.specs.Prelude.{◌≡◌, ◌≤◌, IfOk};
 
-use super::endorsement::{ENDORSEMENT, KEY};
 use super::{HEAD, root_bytes};
 use crate::tests::pieces::bytes_of;
 use Change::{Byte, First, Longer, Nothing};
 use hex::FromHex;
 use mb_hss::{HssKey, parse, verify};
+use mb_test_plays::{FOREIGN_ENDORSEMENT, FOREIGN_KEY};
 use std::alloc::Global;
 use std::test::Fail;
 
@@ -46,7 +46,7 @@ const VERDICTS: &[(&str, u8, Change, bool)] = &[
 fn key_of(levels: u8) -> Result<HssKey, Fail>
     ensures { IfOk result (λ key. key.levels ≡ levels) }
 {
-    let bytes = <[u8; 60] as FromHex>::from_hex(KEY)?;
+    let bytes = <[u8; 60] as FromHex>::from_hex(FOREIGN_KEY)?;
     let key = parse(&bytes).ok_or("no key")?;
     Ok(HssKey { levels, ..key })
 }
@@ -79,7 +79,7 @@ fn verifies(alloc: Global, levels: u8, change: Change) -> Result<bool, Fail> {
     if levels < 1 || levels > 8 {
         return Err("no such key")?;
     }
-    let mut sig = bytes_of(alloc, ENDORSEMENT)?;
+    let mut sig = bytes_of(alloc, FOREIGN_ENDORSEMENT)?;
     apply(&mut sig, change)?;
     endorses(levels, &sig)
 }

@@ -2,7 +2,6 @@
 
 use crate::tests::pieces::bytes_of;
 use mb_fleet::{Fleet, FleetReadEnd, read_items};
-use mb_model::BadRecord;
 use std::alloc::Global;
 use std::test::Fail;
 
@@ -119,7 +118,7 @@ fn is_no_register(alloc: Global, at: u32, word: &str) -> Result<bool, Fail> {
     let bytes = bytes_of(alloc, word)?;
     match Fleet::read(alloc, bytes.as_slice()) {
         Ok(_) => Ok(false),
-        Err(end) => Ok(end == FleetReadEnd::Bad(BadRecord { at })),
+        Err(end) => Ok(end == FleetReadEnd::Bad { at }),
     }
 }
 
@@ -128,7 +127,7 @@ fn are_no_items(alloc: Global, at: u32, word: &str) -> Result<bool, Fail> {
     let bytes = bytes_of(alloc, word)?;
     match read_items(alloc, bytes.as_slice()) {
         Ok(_) => Ok(false),
-        Err(end) => Ok(end == FleetReadEnd::Bad(BadRecord { at })),
+        Err(end) => Ok(end == FleetReadEnd::Bad { at }),
     }
 }
 

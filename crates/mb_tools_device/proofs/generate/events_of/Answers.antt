@@ -1,7 +1,6 @@
-use Rattle.std.proofs.Common.{◌≤◌, Err, length, sym, ap, ◌∙◌, subst}
+use Rattle.std.proofs.Common.{◌≤◌, length, sym, ap, ◌∙◌, subst}
 use Rattle.mb_model.specs.chains.Lines.{ReadsLines, TextFailsAtLine}
 use Rattle.mb_model.specs.chains.Script.{IsScript, IsShortNoise}
-use Rattle.mb_script.specs.Reading.{ReadsScript}
 use Rattle.mb_model_lemmas.proofs.ScriptLemmas.{IsScript-events}
 use Rattle.mb_model_lemmas.proofs.DrawLemmas.{drawn-length, drawn-script}
 use Rattle.mb_tools_device.proofs.GenerateLemmas.{no_bad_line, no_short_noise}
@@ -10,8 +9,7 @@ use Rattle.mb_tools_device.proofs.generate.events_of.Goals as goal
 pub unreachable-requires : goal.unreachable-requires
 unreachable-requires c =
     let line = c.in-Err-BadLine.field-0-0 in
-    let fails : TextFailsAtLine IsScript c.as_slice.result.now line =
-    subst (λ e. ReadsScript c.as_slice.result.now (Err e)) c.in-Err-BadLine.field-0-is c.in-Err-BadLine.ensures in
+    let fails : TextFailsAtLine IsScript c.as_slice.result.now line = rw c.in-Err-BadLine.field-0-is at c.in-Err-BadLine.ensures in
     no_bad_line c.args.files.now.script c.requires.undrawn line c.requires.script (subst (λ t. TextFailsAtLine IsScript t line) c.as_slice.ensures fails)
 
 pub unreachable-requires-in-Err : goal.unreachable-requires-in-Err

@@ -1,4 +1,4 @@
-use Rattle.std.proofs.Common.{arith, inl, inr, sym, ap, ◌∙◌, length}
+use Rattle.std.proofs.Common.{inl, inr, sym, ap, ◌∙◌, length}
 use Rattle.std.proofs.lemmas.Bool.{eqb-false}
 use Rattle.mb_tools_device.proofs.RefusingLemmas.{one_more_uncut, all_uncut, refused_here}
 use Rattle.mb_tools_device.proofs.scripts.refused_event.Goals as goal
@@ -6,13 +6,10 @@ use Rattle.mb_tools_device.proofs.scripts.refused_event.Goals.{then-index-eq-UNC
 
 pub returns-then-index-eq-UNCUT_LIMIT : goal.returns-then-index-eq-UNCUT_LIMIT
 returns-then-index-eq-UNCUT_LIMIT c =
-    let is = c.loop-index.invariant in
-    let most = is.most in
-    refused_here c.args.events.now c.loop-index.index c.index-events-index.result is c.loop-index-test.true c.index-events-index.is
+    refused_here c.args.events.now c.loop-index.index c.index-events-index.result c.loop-index.invariant c.loop-index-test.true c.index-events-index.is
     (elim c.then-index-eq-UNCUT_LIMIT.branch [
-      | then-index-eq-UNCUT_LIMIT-via-then-index-eq-UNCUT_LIMIT w ↦ inr (omega (arith, w.if-index-eq-UNCUT_LIMIT.true))
-      | then-index-eq-UNCUT_LIMIT-via-else-index-eq-UNCUT_LIMIT+then-is_cut w ↦
-          inl (sym w.is_cut.ensures ∙ w.if-is_cut.true, omega (arith, most, w.if-index-eq-UNCUT_LIMIT.false))
+      | then-index-eq-UNCUT_LIMIT-via-then-index-eq-UNCUT_LIMIT w ↦ inr w.if-index-eq-UNCUT_LIMIT.true
+      | then-index-eq-UNCUT_LIMIT-via-else-index-eq-UNCUT_LIMIT+then-is_cut w ↦ inl (sym w.is_cut.ensures ∙ w.if-is_cut.true)
     ])
 
 pub loop-index-preserved : goal.loop-index-preserved

@@ -14,7 +14,7 @@ returns-in_err-check-clause-refused c =
     let maker = c.args.maker.now in
     let log = c.args.log.now in
     let i = c.loop-signed.signed-index in
-    let p = err_from_is_err_and c.from_residual.result c.from_residual.ensures.1 in
+    let p = err_from_is_err_and c.from_residual-in_err-check.result c.from_residual-in_err-check.ensures.1 in
     rw (p.1, p.2) (if_some_weaker _ (HasBadEntry maker log) (chain_refusal_of c.in_err-check.field-0.0)
     (λ why bad. bad_entry maker log i _ c.loop-signed.figures why c.loop-signed-test.true c.loop-signed.invariant.figures c.loop-signed.invariant.good bad)
     c.in_err-check.ensures.refused)

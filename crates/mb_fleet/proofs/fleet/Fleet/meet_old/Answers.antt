@@ -3,7 +3,7 @@ use Rattle.std.specs.Prelude.{slice_set}
 use Rattle.mb_fleet.specs.declared.row.Row.{Row}
 use Rattle.mb_fleet.specs.Rows.{serial_of_row}
 use Rattle.mb_fleet.specs.Indexes.{AreIndexesOf}
-use Rattle.mb_fleet.specs.Places.{FitsRegister}
+use Rattle.mb_fleet.specs.Lookups.{FitsRegister}
 use Rattle.mb_fleet.proofs.Standing.{held_here_is}
 use Rattle.mb_fleet.proofs.Indexing.{put_instead, indexes_then}
 use Rattle.mb_fleet.proofs.Meeting.{hashes_there, meets_same, meets_older, meets_fork, meets_extended, old_fits}

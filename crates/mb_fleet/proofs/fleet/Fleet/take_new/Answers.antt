@@ -2,7 +2,7 @@ use Rattle.std.proofs.Common.{arith, ap, subst, ◌∙◌, List, length}
 use Rattle.std.specs.List.{insert}
 use Rattle.mb_fleet.specs.declared.row.Row.{Row}
 use Rattle.mb_fleet.specs.Indexes.{AreIndexesOf}
-use Rattle.mb_fleet.specs.Places.{FitsRegister}
+use Rattle.mb_fleet.specs.Lookups.{FitsRegister}
 use Rattle.mb_fleet.proofs.Indexing.{put_new, indexes_then}
 use Rattle.mb_fleet.proofs.Meeting.{meets_full, meets_new, new_fits}
 use Rattle.mb_fleet.proofs.Registers.{row_count}

@@ -1,4 +1,0 @@
-use Rattle.mb_test_rules.proofs.tests.judging.comes_to.Given as goal
-
-abbrev pub ghosts-judge_counted : goal.ghosts-judge_counted
-ghosts-judge_counted a = record { name = a.blank.name; parts = a.blank.parts }
