@@ -214,11 +214,7 @@ def run(code, input_, secrets, steps):
 
 
 class NoAnswer(Exception):
-    """A call that is not answered: why, in the words of `callcode`."""
-
-    def __init__(self, line):
-        super().__init__(line)
-        self.line = line
+    """A call that is not answered, and why."""
 
 
 def takes_calls(code):

@@ -13,7 +13,6 @@ mod images;
 mod judging;
 mod logs;
 mod signed;
-mod statements;
 mod versions;
 
 /// The bytes of these parts, one part after another.

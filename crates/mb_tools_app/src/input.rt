@@ -2,4 +2,3 @@
 
 pub mod assembly;
 pub mod listing;
-pub mod secrets;
