@@ -41,7 +41,7 @@ pub record ActionExamples : Type 0 where
   -- a byte follows the answer; the answer has 129 bytes
   pub left_over : FailsWhole action_format (0 ∷ 0 ∷ 0 ∷ []) 2
   pub long_answer : FailsWhole action_format (0 ∷ 129 ∷ []) 1
-  -- there is no demand 2, no name of no bytes, and no name with a space
+  -- no demand begins with the byte 2, no name is empty, and none has a space
   pub other_demand : FailsWhole action_format (1 ∷ 2 ∷ 1 ∷ 110 ∷ 0 ∷ []) 1
   pub no_name : FailsWhole action_format (1 ∷ 0 ∷ 0 ∷ 0 ∷ []) 2
   pub space_in_name : FailsWhole action_format (1 ∷ 0 ∷ 1 ∷ 32 ∷ 0 ∷ []) 3
