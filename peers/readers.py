@@ -167,13 +167,13 @@ def pending_images(source):
 
 
 def replaced_regions(source):
-    """The regions of a device in version 1, after one more use of each key, with another secret in each, and both."""
+    """The regions of a device in version 1, after one more use of each key, and with another secret in each."""
     found = []
-    for name in ("", "_USED", "_PUT", "_PUT_USED"):
+    for name in ("", "_USED", "_PUT"):
         owned, _, _ = device.left_to_do("entry", signed=False, version=2 if name else 1)
-        for layer in (2, 3) if "_USED" in name else ():
+        for layer in (2, 3) if name == "_USED" else ():
             owned.regions[layer]["keys"][0][1].uses += 1
-        if "_PUT" in name:
+        if name == "_PUT":
             pin, _, born = owned.regions[2]["secrets"][0]
             owned.regions[3]["secrets"] = owned.regions[2]["secrets"]
             owned.regions[2]["secrets"] = [(pin, b"5678", born)]

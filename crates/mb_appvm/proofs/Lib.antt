@@ -1,7 +1,5 @@
-pub mod SecretReading
-pub mod Readables
+pub mod Instructions
 pub mod Fetches
-pub mod Asking
 pub mod Actions
 pub mod Names
 pub mod RunSteps
@@ -16,3 +14,4 @@ pub mod Tables
 pub mod Assemblies
 pub mod Listings
 pub mod Clear
+pub mod Determined

@@ -5,7 +5,6 @@
 //! cannot be copied.
 #![tactic(auto)]
 
-mod calls;
 mod control;
 mod counter_examples;
 mod device;

@@ -1,4 +1,3 @@
 mod KeyBytes
 mod Ends
-mod Saying
 mod Determined

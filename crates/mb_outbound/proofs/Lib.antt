@@ -1,4 +1,3 @@
 pub mod Bound
-pub mod KeyUses
 pub mod Seeds
 pub mod Stated

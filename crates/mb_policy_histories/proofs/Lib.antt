@@ -1,3 +1,2 @@
 pub mod TrustLemmas
-pub mod CodeLemmas
 pub mod ShorteningLemmas

@@ -1,3 +1,2 @@
 pub mod TrustLaws
-pub mod CodeLaws
 pub mod ShorteningLaws

@@ -1,4 +1,3 @@
 pub mod Replaced
-pub mod Wiped
 pub mod Meant
 pub mod Placed

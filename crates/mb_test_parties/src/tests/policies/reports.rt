@@ -5,8 +5,7 @@ ghost use Rattle.std.specs.Prelude.{◌≤◌, length};
 use hex::FromHex;
 use mb_lms::parse_key;
 use mb_model::{
-    Bytes, CodeName, Configuration, KeyKind, Layer, Layers, Lives, NoMemory, Report, Said, Trust,
-    Trusts,
+    Bytes, CodeName, Configuration, KeyKind, Layer, Layers, Lives, NoMemory, Report, Trust, Trusts,
 };
 use mb_policy::{Judgement, PolicyEnd, judge_report, read_policy};
 use std::alloc::Global;
@@ -78,7 +77,7 @@ pub fn report(alloc: Global) -> Result<Report, Fail> {
         alive: true,
         lives,
         entries: 8,
-        said: None,
+        message: None,
     })
 }
 
@@ -91,12 +90,8 @@ pub enum Whose {
     /// that layer has no code, and in 9, where it has no owner either.
     Ended,
     /// A configuration key of layer 2 that is alive, and lived in configuration 5. Layer 3 is not listed there, and the
-    /// chain has a statement of a message.
+    /// chain has a statement.
     Configured,
-    /// The key of `Configured`, whose chain has the statement of a call.
-    Called,
-    /// The key of `Configured`, whose chain has a statement of a message that is the hash of the call's input.
-    Hashed,
 }
 
 /// A configuration of a key that has ended, with this layer 2.
@@ -132,12 +127,12 @@ fn ended(alloc: Global) -> Result<Report, Fail> {
         alive: false,
         lives,
         entries: 12,
-        said: None,
+        message: None,
     })
 }
 
-/// The report on the configuration key, whose chain has a statement that says this.
-fn configured(alloc: Global, said: Said) -> Result<Report, Fail> {
+/// The report on the configuration key.
+fn configured(alloc: Global) -> Result<Report, Fail> {
     let whole = configuration(5, layer(OWNERS[0], CODE, Trust::Countersigned)?)?;
     let mut lives = Lives::new(alloc);
     lives.push(Configuration {
@@ -154,25 +149,8 @@ fn configured(alloc: Global, said: Said) -> Result<Report, Fail> {
         alive: true,
         lives,
         entries: 9,
-        said: Some(said),
+        message: Some(Bytes::copy(alloc, b"today")?),
     })
-}
-
-/// The SHA-256 of `an input`.
-pub const INPUT: &str = "4fddb6e92a8333684779335007eda9426ddd8ea849ce4ab7c8340016d9d9d89a";
-
-/// The answer `abc` of a call with the input `an input`. The SHA-256 of the answer is that of the later code.
-fn called(alloc: Global) -> Result<Said, Fail> {
-    Ok(Said::Answer {
-        input: <[u8; 32] as FromHex>::from_hex(INPUT)?,
-        answer: Bytes::copy(alloc, b"abc")?,
-    })
-}
-
-/// The message of 32 bytes that are the SHA-256 of `an input`.
-fn message_of_a_hash(alloc: Global) -> Result<Said, Fail> {
-    let hash = <[u8; 32] as FromHex>::from_hex(INPUT)?;
-    Ok(Said::Message(Bytes::copy(alloc, &hash)?))
 }
 
 /// The report on this key.
@@ -180,9 +158,7 @@ pub fn report_on(alloc: Global, whose: Whose) -> Result<Report, Fail> {
     match whose {
         Whose::Living => report(alloc),
         Whose::Ended => ended(alloc),
-        Whose::Configured => configured(alloc, Said::Message(Bytes::copy(alloc, b"today")?)),
-        Whose::Called => configured(alloc, called(alloc)?),
-        Whose::Hashed => configured(alloc, message_of_a_hash(alloc)?),
+        Whose::Configured => configured(alloc),
     }
 }
 

@@ -1,2 +1,0 @@
-pub mod AcceptedCallLaws
-pub mod CallChangeLaws
