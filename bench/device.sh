@@ -1,9 +1,10 @@
 #!/usr/bin/env bash
 # Measures the built program, outside the gate: bench/device.sh [PROGRAM]. It prints the load of the machine and then,
 # in processor time, the least of five runs: a key, a new device, loading images, each kind of event and of order, many
-# statements and many orders in one boot, and the boot after a power loss; with the number of an order's write calls,
-# which is found by cutting it; and beside each how many trees of a key take as long. An event's time is that of a run
-# with it less that of a run without it, so that reading and writing the files is no part of it.
+# statements and many orders in one boot, the boot after a power loss, and calls of few steps and of nearly 1,000,000,
+# which a program without calls cannot serve; with the number of an order's write calls, which is found by cutting it;
+# and beside each how many trees of a key take as long. An event's time is that of a run with it less that of a run
+# without it, so that reading and writing the files is no part of it.
 set -euo pipefail
 export LC_ALL=C
 

@@ -1,6 +1,7 @@
 """How much one has to read to know what a clause says, and whether the documents say so. For believed.sh and
 documents.sh."""
 
+import functools
 import pathlib
 import re
 import sys
@@ -12,7 +13,7 @@ DECLARED = re.compile(r"^use Rattle\.(\w+)\.specs\.declared\.(\w+)\.(?!TheConsta
 CONSTANTS = re.compile(r"^(?:ghost )?use Rattle\.(\w+)\.specs\.declared\.\w+\.TheConstants\.\{([^}]*)\}", re.M)
 TIED = re.compile(r": (\w+) ≡ ")
 CLAUSE = re.compile(r"^    ensures (\w+) \{(.*?)\}\n(?=    ensures|\{)", re.M | re.S)
-NAMED = re.compile(r"`(?:crates/(\w+)/specs/)?(\w+\.antt)`")
+NAMED = re.compile(r"`(?:crates/(\w+)/specs/)?((?:\w+/)?\w+\.antt)`")
 FOLDER = re.compile(r"`crates/(\w+)/specs`")
 COUNTED = re.compile(
     r"^\s*\| (?:.*\]\()?(?:([^)|]*\.(?:antt|rt))\)|\[([^\]]*)\]\(#[^)]*\)).*\| ([\d,]+) \| ([\d,]+) \|$")
@@ -30,10 +31,16 @@ def constants_in(text):
     return {(crate, name.strip()) for crate, names in CONSTANTS.findall(text) for name in names.split(",")}
 
 
-def numbers_of(crate):
-    """The file that ties constants of a crate to their numbers, if there is one, and these constants."""
-    file = file_of(crate, "NumberLaws")
-    return file, set(TIED.findall(file.read_text())) if file else set()
+@functools.lru_cache(None)
+def tied_constants():
+    """The constants that a file ties to their numbers, each with its crate, and that file: of its own crate, or of one
+    above."""
+    found = {}
+    for file in sorted(pathlib.Path("crates").glob("*/specs/NumberLaws.antt")):
+        text = file.read_text()
+        tied = set(TIED.findall(text))
+        found |= {(crate, name): file for crate, name in constants_in(text) if name in tied}
+    return found
 
 
 def used_by(text, words=None):
@@ -47,8 +54,8 @@ def used_by(text, words=None):
         if file and (words is None or imported & words):
             found.add(file)
     for crate, name in constants_in(text):
-        file, tied = numbers_of(crate)
-        if name in tied and (words is None or name in words):
+        file = tied_constants().get((crate, name))
+        if file and (words is None or name in words):
             found.add(file)
     return found
 
@@ -75,7 +82,7 @@ def declared_by(files):
 def untied_in(files):
     """The constants of the code that files of definitions import, and that no file ties to their numbers."""
     found = set().union(*(constants_in(file.read_text()) for file in files))
-    return sorted(name for crate, name in found if name not in numbers_of(crate)[1])
+    return sorted(name for crate, name in found if (crate, name) not in tied_constants())
 
 
 def clauses_of_top():
@@ -121,7 +128,8 @@ def main(words):
 def sections_of(page):
     """The sections of a page that leads through definitions, each with the files that it names.
 
-    A file stands in the folder that its item names, or in one that the section's text names, or in one of MODEL."""
+    A file stands in the folder that its item names, or in one that the section's text names, or in one of MODEL. If two
+    files there have one name, the item names its folder too, as in `machine/Runs.antt`."""
     sections = {}
     for title, text in re.findall(r"^## ([^\n]*)\n(.*?)(?=^## |\Z)", page.read_text(), re.M | re.S):
         parts = re.split(r"\n(?=- |\n)", text)

@@ -1,6 +1,6 @@
 #!/usr/bin/env bash
 # Gives the built program spoilt files for some seconds, outside the gate: checks/fuzz.sh SECONDS [SEED [PROGRAM]].
-# Images, scripts with orders and noise, chains, statements, drafts, order lines, key files, public keys, codes, makers'
+# Images, scripts with orders, calls and noise, chains, statements, drafts, order lines, key files, public keys, codes, makers'
 # files, endorsements, policies, assembler texts, registers and their items, for each command: mostly near what is
 # valid, with a field, a bit or a word changed, cut, repeated or exchanged, a body or an entry changed and signed anew,
 # numbers at their limits, devices with odd areas, slots, trusts and work left to be done, outputs that cannot be

@@ -61,7 +61,7 @@ def answers():
 
 def faults_of(text):
     """What is wrong in a tutorial: blocks that no example shows, and lines that are not listed with their status."""
-    examples = [shown_by(path) for end in ("sh", "txt") for path in sorted(pathlib.Path("examples").rglob(f"*.{end}"))]
+    examples = [shown_by(path) for end in ("sh", "txt", "asm") for path in sorted(pathlib.Path("examples").rglob(f"*.{end}"))]
     for number, block in blocks_of(text):
         if not any(stands_in(block, shown) for shown in examples):
             yield number, f"no example shows these lines, from: {block[0]}"

@@ -1,14 +1,22 @@
-"""Application code: its instructions, how a code runs, and its text, written from docs/use/formats.md alone.
+"""Application code: its instructions, how a code runs, what it asks for, and its text, written from docs/use/formats.md
+alone.
 
     run(code, input, secrets, steps)     how the code ends, in the words of `app`, and whether it halts
+    called(code, input, secrets)         the action that code which is called asks for, or NoAnswer
     assemble(text), disassemble(code)    what `asm` and `disasm` write
 """
 
+import functools
 import re
 
-from texts import BadLine
+from chains import LONGEST_SAID, Reader, Unformed
+from texts import BadLine, MOST_SECRETS
 
 MOST_CODE, MOST_VALUES, MOST_PLACES, MEMORY, MOST_OUTPUT = 32_768, 256, 64, 1_024, 4_096
+# how many steps a call may take
+CALL_STEPS = 1_000_000
+# the code that takes calls begins with `push 1296193585` and `pop`
+CALL_WORD = b"\1MBX1\2"
 WORD = 2**32
 # byte, name, bytes of the operand, values taken, values left
 TABLE = [
@@ -85,6 +93,10 @@ class Machine:
     def __init__(self, code, input_, secrets):
         self.code, self.input, self.secrets = code, input_, secrets
         self.values, self.places, self.memory, self.output, self.at = [], [], bytearray(MEMORY), bytearray(), 0
+
+    def state(self):
+        """All that its next steps depend on, with how much it has emitted."""
+        return self.at, self.values[:], self.places[:], bytes(self.memory), len(self.output)
 
     def step(self):
         """Executes an instruction; whether it is a `halt`."""
@@ -173,17 +185,85 @@ class Machine:
         return [len(secret)], after
 
 
-def run(code, input_, secrets, steps):
-    """How a code ends that runs for at most `steps` steps, in the words of `app`, and whether it halts."""
-    machine = Machine(code, input_, secrets)
+def ran(code, input_, secrets, steps):
+    """How a code ends that runs for at most `steps` steps: the words that `app` says before the output; the output; and
+    whether it halts."""
+    machine, kept = Machine(code, input_, secrets), None
     for number in range(1, steps + 1):
         at = machine.at
+        if number & (number - 1) == 0:
+            kept = machine.state()
+        elif at == kept[0] and machine.state() == kept:
+            # it goes round for ever
+            break
         try:
             if machine.step():
-                return f"halted {number} {machine.output.hex() or '-'}", True
+                return f"halted {number}", bytes(machine.output), True
         except Trap as trap:
-            return f"trap {trap.cause} {at} {machine.output.hex() or '-'}", False
-    return f"out of steps {machine.output.hex() or '-'}", False
+            return f"trap {trap.cause} {at}", bytes(machine.output), False
+    return "out of steps", bytes(machine.output), False
+
+
+def run(code, input_, secrets, steps):
+    """How a code ends that runs for at most `steps` steps, in the words of `app`, and whether it halts."""
+    words, output, is_halted = ran(code, input_, secrets, steps)
+    return f"{words} {output.hex() or '-'}", is_halted
+
+
+# ---- what is asked for
+
+
+class NoAnswer(Exception):
+    """A call that is not answered, and why."""
+
+
+def takes_calls(code):
+    return code is not None and code.startswith(CALL_WORD)
+
+
+def read_demand(reader):
+    """A name, and the value that is to be kept under it, or None if the name is to be dropped."""
+    is_kept, length = reader.number(1, 0, 1), reader.number(1, 1, 32)
+    at, name = reader.at, reader.take(length)
+    if not re.fullmatch(rb"[\x21-\x7e]+", name):
+        raise Unformed(at)
+    return name, reader.take(reader.number(1, 0, LONGEST_SAID)) if is_kept else None
+
+
+def read_action(reader):
+    """What an output asks for: its demands in their order, and the answer."""
+    demands = [read_demand(reader) for _ in range(reader.number(1))]
+    return tuple(demands), reader.take(reader.number(1, 0, LONGEST_SAID))
+
+
+def called(code, input_, secrets):
+    """The demands and the answer of a code that is called, or NoAnswer."""
+    frozen = tuple((region, tuple(sorted(known.items()))) for region, known in secrets.items())
+    words, output, is_halted = run_once(code, input_, frozen)
+    if not is_halted:
+        raise NoAnswer(f"{words} {output.hex() or '-'}")
+    try:
+        return Reader(output).whole(read_action)
+    except Unformed as unformed:
+        raise NoAnswer(f"no action at {unformed.at}") from None
+
+
+@functools.lru_cache(4_096)
+def run_once(code, input_, frozen):
+    """A run for as many steps as a call may take. `frozen` has the secrets of each region as pairs."""
+    return ran(code, input_, {region: dict(known) for region, known in frozen}, CALL_STEPS)
+
+
+def after_demands(demands, secrets, number):
+    """The secrets of a region after demands at this configuration number, or NoAnswer if one finds no room. A name that
+    is known keeps its place."""
+    left = list(secrets)
+    for name, value in demands:
+        at = next((at for at, secret in enumerate(left) if secret[0] == name), len(left))
+        if value is not None and at == MOST_SECRETS:
+            raise NoAnswer("full")
+        left[at : at + 1] = [] if value is None else [(name, value, number)]
+    return tuple(left)
 
 
 # ---- texts

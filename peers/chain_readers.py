@@ -9,6 +9,7 @@ import functools
 import re
 import types
 
+import applications
 import chains
 import devices_shown  # noqa: F401, among the commands of chains.py from here on
 import fleet
@@ -28,6 +29,8 @@ FLEET = "crates/mb_test_commands/src/tests/fleet.rt"
 # the tables that lead to a new device with its first orders, and to one whose layers have code
 A_NEW_DEVICE = "MADE", "FIRST_ORDERS"
 LAYERS_OWNED = *A_NEW_DEVICE, "ORDERS_OF_A_LIFE", "LAYERS_ARE_GIVEN"
+# how often a key signs
+USES = 32
 # what is answered by the formats alone
 COMMANDS = chains.COMMANDS | fleet.COMMANDS
 LENGTHS = {"FLASH_LENGTH": chains.FLASH, "IMAGE_LENGTH": chains.FLASH + chains.BBRAM}
@@ -215,7 +218,8 @@ def given_bytes(kind, what):
 
 
 class Served:
-    """A device that serves a script, in which it is given nothing that it refuses but for want of a key."""
+    """A device that serves a script, in which it is given nothing that it refuses but for want of a key, or because of
+    whether a layer's code takes calls."""
 
     def __init__(self, world, device, draws):
         self.world, self.device, self.draws, self.level = world, device, draws, 0
@@ -243,22 +247,49 @@ class Served:
         draft, cosigned = self.world.order_of(line)
         return self.device.obey(draft, draw, cosigned)
 
+    def is_sealed(self, layer):
+        return applications.takes_calls(self.device.codes[int(layer)])
+
     def put(self, line, layer, name, value):
+        if self.is_sealed(layer):
+            return "refused 8 code"
         self.device.put(int(layer), name.encode(), unhex(value))
         return "kept"
+
+    def call(self, line, layer, number, given):
+        if self.stand(int(layer)) != "runnable":
+            return "refused 4 layer"
+        if not self.is_sealed(layer):
+            return "refused 8 code"
+        key = None if number == "-" else self.device.key_of(int(layer), int(number))
+        if number != "-" and (key is None or key.uses == USES):
+            return "refused 6 key" if key is None else "refused 7 spent"
+        try:
+            answer, signed = self.device.call(int(layer), key and key.number, unhex(given))
+        except applications.NoAnswer:
+            return "refused 9 run"
+        if signed is None:
+            return f"called {answer.hex() or '-'}"
+        return self.told_statement(number, signed)
 
     def get(self, line, layer, name):
         if self.stand(int(layer)) != "runnable":
             return "refused 4 layer"
+        if self.is_sealed(layer):
+            return "refused 8 code"
         secrets = {known: value for known, value, _ in self.device.regions[int(layer)]["secrets"]}
         return f"value {secrets[name.encode()].hex()}"
 
     def sign(self, line, layer, number, message):
+        if self.is_sealed(layer):
+            return "refused 8 code"
         signed = self.device.sign(int(layer), int(number), unhex(message))
-        if signed is None:
-            return "refused 6 key"
-        self.world.statement = signed[1].hex().encode()
-        return f"signed {number} {signed[0]} {signed[1].hex()}"
+        return "refused 6 key" if signed is None else self.told_statement(number, signed)
+
+    def told_statement(self, number, signed):
+        index, statement = signed
+        self.world.statement = statement.hex().encode()
+        return f"signed {number} {index} {statement.hex()}"
 
     def status(self, line):
         device = self.device
@@ -384,7 +415,7 @@ def enrolments_tests(source):
     steps, start = tables(Source(source.root, LIFE), {}) | tables(source, {}), born(source)
     rows = (u32(0) * 3 + u32(at) + bytes(8) + b"\1" + b"\7" * 32 for at in range(fleet.DEVICES))
     start.files["full"] = b"MBF1" + u16(fleet.DEVICES) + b"".join(rows)
-    for names in ("A_NEW_DEVICE", "A_WHOLE_LIFE", "EXTENDED_AND_OLDER"), ("A_COPY_IS_CAUGHT",), ("NO_ROOM",):
+    for names in ("A_NEW_DEVICE", "A_WHOLE_LIFE", "EXTENDED_AND_OLDER"), ("ANOTHER_DEVICE", "A_COPY_IS_CAUGHT"), ("NO_ROOM",):
         world = copy.deepcopy(start)
         for name in names:
             for step in steps[name]:

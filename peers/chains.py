@@ -27,6 +27,8 @@ BIRTH, CHANGE, NEW_KEY, SUCCESSION = 0, 1, 2, 3
 # what an entry's first byte says: what it is, and the version of a birth or change
 TAGS = {0: (BIRTH, 1), 1: (CHANGE, 1), 2: (NEW_KEY, None), 3: (SUCCESSION, None), 16: (BIRTH, 2), 17: (CHANGE, 2)}
 SIGNATURE = 2_348
+# the longest message or answer, and what stands in the place of a message's length if a call was answered
+LONGEST_SAID, CALLED = 128, 129
 LONGEST_FILE = 4_194_304
 LAST_INDEX = 31
 TRUSTS = "always", "never", "countersigned"
@@ -85,9 +87,24 @@ class Entry:
 
 @dataclasses.dataclass(frozen=True)
 class Statement:
+    """A statement of a region's key. `said` is a message; or, if `input` is the hash of a call's input, its answer."""
+
     number: int
-    message: bytes
+    said: bytes
     signature: bytes
+    input: bytes | None = None
+
+    def spelled(self):
+        size = u8(len(self.said)) if self.input is None else u8(CALLED) + self.input + u8(len(self.said))
+        return u32(self.number) + size + self.said + self.signature
+
+    @property
+    def word(self):
+        return "statement" if self.input is None else "called"
+
+    def words(self):
+        """What is listed of it behind the word for its kind."""
+        return [*([] if self.input is None else [self.input.hex()]), self.said.hex() or "-"]
 
 
 # ---- reading
@@ -176,8 +193,11 @@ class Reader:
         return self.entry(), self.take(SIGNATURE)
 
     def statement(self):
-        number = self.number(4)
-        return Statement(number, self.take(self.number(1, 0, 128)), self.take(SIGNATURE))
+        number, size = self.number(4), self.number(1, 0, CALLED)
+        input_ = None
+        if size == CALLED:
+            input_, size = self.take(32), self.number(1, 0, LONGEST_SAID)
+        return Statement(number, self.take(size), self.take(SIGNATURE), input_)
 
     def chain(self):
         if self.take(4) != b"MBC1":
@@ -200,9 +220,7 @@ def read_chain(bytes_):
 def spelled(entries, statement=None):
     """The bytes of a chain."""
     signed = b"".join(entry.text + signature for entry, signature in entries)
-    end = u8(0)
-    if statement:
-        end = u8(1) + u32(statement.number) + u8(len(statement.message)) + statement.message + statement.signature
+    end = u8(1) + statement.spelled() if statement else u8(0)
     return b"MBC1" + u16(len(entries)) + signed + end
 
 
@@ -383,7 +401,8 @@ def lived(key, born, later):
 
 def stated_text(serial, n, statement):
     """What the device with this serial signs of a statement, by the key with this number."""
-    return u8(4) + serial + u32(n) + u32(statement.number) + statement.message
+    begins = u8(4) if statement.input is None else u8(6)
+    return begins + serial + u32(n) + u32(statement.number) + (statement.input or b"") + statement.said
 
 
 def accepted(maker, bytes_, n):
@@ -425,7 +444,7 @@ def listing(n, life, statement):
         for m, layer in enumerate(layers, 1):
             yield layer_line(m, layer)
     if statement:
-        yield f"statement {statement.message.hex() or '-'}"
+        yield " ".join([statement.word, *statement.words()])
 
 
 # ---- the commands

@@ -415,9 +415,7 @@ def app(call, image, layer, input_, steps):
         raise Ended(7, "zeroised")
     if machine.standing(state.judged, at) != "runnable":
         raise Ended(7, "refused 4 layer")
-    regions = [m for m in range(at, 4) if machine.standing(state.judged, m) == "runnable"]
-    secrets = {m: {name: value for name, value, _ in state.region(m).secrets} for m in regions}
-    return told_end(state.codes[at - 1], given, secrets, most)
+    return told_end(state.codes[at - 1], given, machine.readable(state, at), most)
 
 
 def appcode(call, code, input_, steps):

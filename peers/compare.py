@@ -14,6 +14,7 @@ import pathlib
 import sys
 
 import app_readers
+import call_readers
 import chain_readers
 import examples
 import order_readers
@@ -52,6 +53,9 @@ READERS = {
     chain_readers.CHAINS: chain_readers.chains_tests,
     "crates/mb_test_commands/src/tests/policies.rt": chain_readers.policies_tests,
     "crates/mb_test_lives/src/tests/trusts.rt": chain_readers.chains_tests,
+    "crates/mb_test_lives/src/tests/calls.rt": call_readers.calls,
+    "crates/mb_test_rules/src/tests/statements.rt": call_readers.statements_in_chains,
+    "crates/mb_test_bytes/src/tests/statements.rt": call_readers.wrong_statements,
     chain_readers.FLEET: chain_readers.fleet_tests,
     "crates/mb_test_commands/src/tests/enrolments.rt": chain_readers.enrolments_tests,
     "crates/mb_test_commands/src/tests/trials.rt": app_readers.app_trials,
@@ -72,6 +76,7 @@ READERS = {
     "examples/policy/expected.txt": examples.policy,
     "examples/orders/expected.txt": examples.orders,
     "examples/endorsement/expected.txt": examples.endorsement,
+    "examples/calls/expected.txt": examples.calls,
 }
 
 

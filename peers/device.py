@@ -14,6 +14,8 @@ the log, one after another.
 
 import sys
 
+import applications
+from chains import Statement, stated_text
 from lms import PrivateKey, sha256, u8, u16, u32
 from officer import Officer
 
@@ -203,12 +205,29 @@ class Device:
 
     def sign(self, layer, number, message):
         """The index and the statement of the region's key with this number, or None if it has no such key."""
-        keys = [key for _, key in self.regions[layer]["keys"] if key.number == number]
-        if not keys:
-            return None
-        key = keys[0]
-        text = u8(4) + self.serial + u32(number) + u32(self.number) + message
-        return key.uses, u32(self.number) + u8(len(message)) + message + key.sign(text)
+        key = self.key_of(layer, number)
+        return key and self.stated(key, message)
+
+    def key_of(self, layer, number):
+        """The region's key with this number, or None."""
+        return next((key for _, key in self.regions[layer]["keys"] if key.number == number), None)
+
+    def stated(self, key, said, input_=None):
+        """The next index of a region's key and its statement: of a message, or of the answer to a call's input, of which
+        the hash is given."""
+        index, unsigned = key.uses, Statement(self.number, said, b"", input_)
+        signature = key.sign(stated_text(self.serial, key.number, unsigned))
+        return index, Statement(self.number, said, signature, input_).spelled()
+
+    def call(self, layer, number, given):
+        """Does what the code of a layer asks for that is called, or NoAnswer: its answer, and the index and the statement
+        of the region's key with this number, if one is named."""
+        runs = [m for m in range(layer, 4) if all(self.layers[n]["reliable"] for n in range(1, m + 1))]
+        secrets = {m: {name: value for name, value, _ in self.regions[m]["secrets"]} for m in runs}
+        demands, answer = applications.called(self.codes[layer], given, secrets)
+        kept = applications.after_demands(demands, self.regions[layer]["secrets"], self.number)
+        self.regions[layer]["secrets"] = list(kept)
+        return answer, None if number is None else self.stated(self.key_of(layer, number), answer, sha256(given))
 
     def chain(self):
         """Its chain without a statement."""

@@ -84,9 +84,9 @@ def rehearsed(files, image, script, noise):
 
 
 def veiled(reply):
-    """A reply without the value of a secret, and without a statement."""
+    """A reply without the value of a secret, without a statement, and without what code answered."""
     words = reply.split(" ")
-    return " ".join([*words[:-1], "-"]) if words[0] in ("value", "signed") else reply
+    return " ".join([*words[:-1], "-"]) if words[0] in ("value", "signed", "called") else reply
 
 
 def is_unobeyed(reply):
@@ -177,7 +177,7 @@ def history_lines(maker, bytes_):
     for n, life in sorted(lives.items()):
         yield f"key {n} {KINDS[life.kind]} layer {life.layer} {'alive' if life.alive else 'ended'}"
     if statement:
-        yield f"statement {signer} {statement.number} {statement.message.hex() or '-'}"
+        yield " ".join(map(str, [statement.word, signer, statement.number, *statement.words()]))
 
 
 def history(files, root, chain):

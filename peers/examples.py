@@ -1,7 +1,7 @@
 #!/usr/bin/env python3
 """What examples/device-life, examples/rehearsal, examples/outbound, examples/policy, examples/fleet, examples/operator,
-examples/orders and examples/endorsement show: their scripts are followed line by line, over files that are all made
-here.
+examples/orders, examples/endorsement and examples/calls show: their scripts are followed line by line, over files that
+are all made here.
 
     examples.py device-life >examples/device-life/expected.txt
     examples.py rehearsal >examples/rehearsal/expected.txt
@@ -11,6 +11,7 @@ here.
     examples.py policy >examples/policy/expected.txt
     examples.py orders >examples/orders/expected.txt
     examples.py endorsement >examples/endorsement/expected.txt
+    examples.py calls >examples/calls/expected.txt
 
 Each line of a script's steps has one of a few forms.
 """
@@ -21,8 +22,12 @@ import re
 import shlex
 import sys
 
+import chains
 import commands
 import fleet
+import images
+import machine
+import texts
 from chain_readers import Served, World
 from lms import sha256, verify
 from officer import signed_text
@@ -258,6 +263,13 @@ class Steps(World):
         self.ask(f"keygen noise {name}.key {name}.public")
 
 
+    def lines_of(self, name):
+        self.show("    ", self.files[name].decode())
+
+    def write_script(self, text):
+        self.files["script"] = self.script_of(self.words(text)).encode()
+
+
 class Predicted(Steps):
     """The files of an example of commands that serve no device, which `commands.py` predicts."""
 
@@ -267,10 +279,54 @@ class Predicted(Steps):
         return answer.status, answer.text
 
 
+class Called(Predicted):
+    """The files of an example of calls, with a device that machine.py serves. A call that is answered writes its region,
+    the selector and the wiped area: so a power loss in its first write leaves what was before it, and one in its third
+    what is after it."""
+
+    def __init__(self):
+        super().__init__()
+        self.orders = ()
+
+    def answer(self, words):
+        if words[0] == "run":
+            return 0, self.run(*words[1:])
+        if words[0] == "rehearse":
+            return chains.answer(words, self.files.get)[:2]
+        if words[0] == "cutat":
+            return 0, {"1": "old\n", "3": "new\n", "4": "unstopped\n"}[words[4]]
+        return super().answer(words)
+
+    def run(self, image, script, noise):
+        state = images.meaning(self.files[image])
+        events = machine.with_draws(texts.read_script(self.files[script]), self.files[noise])
+        world, replies = machine.World(state), []
+        for event in events:
+            ends = list(machine.outcomes(world, event))
+            if world.cut and event.word == "call":
+                ends = [(reply, after) for reply, after in ends if reply == "stopped"]
+                ends = ends[{1: 0, 3: 1}[world.cut.count] :]
+            reply, world = ends[0]
+            replies.append(reply)
+        self.files[image] = images.image_of(world.state)
+        return "".join(reply + "\n" for reply in replies)
+
+    def script_of(self, events):
+        return "".join(self.files[each].decode() if each in self.files else f"{each}\n" for each in events)
+
+    def copy(self, name, other):
+        self.files[other] = self.files[name]
+
+    def order(self, text):
+        name, officer, draft = self.words(text)
+        self.files["draft"] = unescaped(draft)
+        self.miniboot(f"sign {officer}.key draft {name}")
+
+
 FORMS = [
     (r"echo(?: \"(.*)\")?", lambda steps, text: steps.shown.append(text or "")),
     (r"make_key (\w+) ([0-9a-f]+)", Steps.make_key),
-    (r"order (.*)", Steps.order),
+    (r"order (.*)", lambda steps, text: steps.order(text)),
     (r"born ([\d ]+)", Steps.born),
     (r'live "([^"]*)" (.*)', Steps.live),
     (r"draft (.*)", Steps.draft),
@@ -284,21 +340,24 @@ FORMS = [
     (r"enrolled ([\w ]+)", Steps.enrolled),
     (r"table_of_codes", Steps.table_of_codes),
     (r"hash_of ([\w.]+) ([\w.]+)", Steps.hash_of),
+    (r"lines_of (\w+)", Steps.lines_of),
+    (r"write_script (.*)", Steps.write_script),
     (r"ask (.*)", Steps.ask),
     (r"miniboot (.*)", Steps.miniboot),
-    (r"cp (\w+) (\w+)", Steps.copy),
+    (r"cp (\w+) (\w+)", lambda steps, name, other: steps.copy(name, other)),
     (r"head -c (\d+) /dev/zero >(\w+)", Steps.zeros),
     (r"factory_key (\w+) (\d)", Steps.factory_key),
     (r"\{ (.*) \} >(\w+)", Steps.write),
     (r"((?:bytes|printf|sevens|part|head) .*) >([\w.]+)", Steps.write),
 ]
 
-# how the steps of an example are followed that makes no device
-WITHOUT_DEVICE = {"orders": Predicted, "endorsement": Predicted}
+# how the steps of an example are followed whose devices are not those of life.py
+OTHERS = {"orders": Predicted, "endorsement": Predicted, "calls": Called}
 
 
 def followed(root, example):
-    steps = WITHOUT_DEVICE.get(example, Steps)()
+    steps = OTHERS.get(example, Steps)()
+    steps.files |= {path.name: path.read_bytes() for path in (root / "examples" / example).glob("*.asm")}
     for statement in statements((root / "examples" / example / "run.sh").read_text()):
         steps.follow(statement)
     return steps
@@ -336,6 +395,10 @@ def orders(source):
 
 def endorsement(source):
     compare_shown(source, followed(source.root, "endorsement"))
+
+
+def calls(source):
+    compare_shown(source, followed(source.root, "calls"))
 
 
 def policy(source):

@@ -7,14 +7,16 @@ several, each with a reply, and the replies that a device gave say which of them
 import copy
 import dataclasses
 
+import applications
 import chains
 from chains import CHANGE, COUNTERSIGNED, EPOCH, ESTABLISH, LAST_INDEX, LOAD, SURRENDER, Layer
 from images import KEYS, Key, Region, State
 from keys import born, key_of, signed
 from lms import sha256, u8, u32
 from orders import NEW_KEY, NoOrder, read_order
+from texts import MOST_SECRETS
 
-LONGEST_LOG, MOST_SECRETS = 128, 22
+LONGEST_LOG = 128
 # the most write calls of an event
 MOST_WRITES = 600
 OFF, ON, DEAD = "off", "on", "dead"
@@ -27,6 +29,8 @@ REFUSALS = {
     5: "full",
     6: "key",
     7: "spent",
+    8: "code",
+    9: "run",
     10: "text",
     11: "target",
     12: "state",
@@ -268,8 +272,11 @@ def command(world, event):
 
 
 def region_of(world, event):
+    """The region of a layer that may run. Code that takes calls has its region for itself."""
     if world.level > event.layer or standing(world.state.judged, event.layer) != "runnable":
         raise Refused(4)
+    if applications.takes_calls(world.state.codes[event.layer - 1]) != (event.word == "call"):
+        raise Refused(8)
     return world.state.region(event.layer)
 
 
@@ -301,24 +308,56 @@ def drop(world, event):
     return "dropped", MUST, with_region(world, event, dataclasses.replace(region, secrets=left))
 
 
-def sign(world, event):
-    region = region_of(world, event)
-    at = next((at for at, key in enumerate(region.keys) if key.number == event.number), None)
+def key_at(region, number):
+    """Where the key with this number stands in a region, which has an index left."""
+    at = next((at for at, key in enumerate(region.keys) if key.number == number), None)
     if at is None:
         raise Refused(6)
-    key = region.keys[at]
-    if key.uses == LAST_INDEX + 1:
+    if region.keys[at].uses == LAST_INDEX + 1:
         raise Refused(7)
-    number = u32(world.state.judged.number)
-    text = u8(4) + world.state.serial + u32(key.number) + number + event.bytes
-    signature = signed(key.identifier, key.seed, key.uses, text)
-    statement = number + u8(len(event.bytes)) + event.bytes + signature
+    return at
+
+
+def signed_by(state, region, at, said, input_=None):
+    """The reply with a statement of the key at this place of a region, and the region after it."""
+    key = region.keys[at]
+    statement = chains.Statement(state.judged.number, said, b"", input_)
+    signature = signed(key.identifier, key.seed, key.uses, chains.stated_text(state.serial, key.number, statement))
+    statement = dataclasses.replace(statement, signature=signature)
     used = dataclasses.replace(key, uses=key.uses + 1)
     after = dataclasses.replace(region, keys=(*region.keys[:at], used, *region.keys[at + 1 :]))
-    return f"signed {key.number} {key.uses} {statement.hex()}", MUST, with_region(world, event, after)
+    return f"signed {key.number} {key.uses} {statement.spelled().hex()}", after
 
 
-ASKED = {"status": status, "go": go, "command": command, "put": put, "get": get, "drop": drop, "sign": sign}
+def sign(world, event):
+    region = region_of(world, event)
+    reply, after = signed_by(world.state, region, key_at(region, event.number), event.bytes)
+    return reply, MUST, with_region(world, event, after)
+
+
+def readable(state, layer):
+    """The secrets that the code of a layer may read: its own, and those of each layer above that may run."""
+    regions = [m for m in range(layer, 4) if standing(state.judged, m) == "runnable"]
+    return {m: {name: value for name, value, _ in state.region(m).secrets} for m in regions}
+
+
+def call(world, event):
+    """A call that is answered writes in any case, so that its writes tell nothing of the run."""
+    region, state = region_of(world, event), world.state
+    at = None if event.number is None else key_at(region, event.number)
+    code = state.codes[event.layer - 1]
+    try:
+        demands, answer = applications.called(code, event.bytes, readable(state, event.layer))
+        secrets = applications.after_demands(demands, region.secrets, state.judged.number)
+    except applications.NoAnswer:
+        raise Refused(9) from None
+    reply, after = f"called {word(answer)}", dataclasses.replace(region, secrets=secrets)
+    if at is not None:
+        reply, after = signed_by(state, after, at, answer, sha256(event.bytes))
+    return reply, MUST, with_region(world, event, after)
+
+
+ASKED = {"status": status, "go": go, "command": command, "put": put, "get": get, "drop": drop, "sign": sign, "call": call}
 
 
 def answered(world, event):

@@ -10,7 +10,7 @@ import fleet
 from chain_readers import unescaped, values
 from chains import ALWAYS, CONFIGURATION, COUNTERSIGNED, EPOCH, Ended, Layer
 from keys import signed
-from lms import u8, u16
+from lms import sha256, u8, u16
 from policies import Situation, read_policy, ruling
 from sources import HEX, TEXT, Source
 
@@ -24,7 +24,7 @@ UNRELIABLE = 3
 
 
 def reports_of(reports):
-    """The keys of the reports, each with the message of its chain's statement or none."""
+    """The keys of the reports, each with its chain's statement or none."""
     owners = [bytes.fromhex(word) for (word,) in reports.rows(r'"(0{7}5[0-9a-f]{104})"')]
     first_code, code = (bytes.fromhex(reports.constant(name)) for name in ("FIRST_CODE", "CODE"))
     first = Layer(owners[0], first_code, 1, True, (ALWAYS,) * 2)
@@ -38,7 +38,11 @@ def reports_of(reports):
     living = life(EPOCH, True, (4, (first, two, three)), (5, (one, two, three)), (6, (one, two, three)))
     ended = life(EPOCH, False, *((at, (one, m, three)) for at, m in zip((7, 8, 9), (unreliable, bare, Layer()))))
     configured = life(CONFIGURATION, True, (5, (one, two)))
-    return {"Living": (living, None), "Ended": (ended, None), "Configured": (configured, b"today")}
+    input_ = sha256(b"an input")
+    said = {"Living": None, "Ended": None, "Configured": chains.Statement(5, b"today", b"")}
+    said |= {"Called": chains.Statement(5, b"abc", b"", input_), "Hashed": chains.Statement(5, input_, b"")}
+    lives = {"Living": living, "Ended": ended}
+    return {name: (lives.get(name, configured), statement) for name, statement in said.items()}
 
 
 def come_to(report, text):

@@ -101,11 +101,11 @@ def answer(text):
 def rows_of(source, name):
     """The rows of a table, as their bytes and the numbers after them."""
     ((table,),) = source.rows(rf"const {name}: [^=]*= &\[(.*?)\n\];")
-    for pieces, numbers in re.findall(r"\(\s*&\[(.*?)\],\s*([\d, \n]+?),?\s*\)", table, re.DOTALL):
+    for pieces, numbers in re.findall(r"\(\s*&\[(.*?)\],\s*([\d_, \n]+?),?\s*\)", table, re.DOTALL):
         words = re.findall(r'\("([0-9a-f]*)",\s*([\d_]+)\)', pieces)
         source.seen.update(word for word, _ in words)
         text = b"".join(bytes.fromhex(word) * int(times) for word, times in words)
-        yield text, tuple(int(number) for number in numbers.replace(",", " ").split())
+        yield text, tuple(int(number) for number in numbers.replace(",", " ").replace("_", "").split())
 
 
 def orders_in_pieces(source):

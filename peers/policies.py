@@ -109,6 +109,20 @@ def number_between(words):
     return lambda s: least <= s.number <= most
 
 
+def input_in(words):
+    hashes = words.one_of(words.sets)
+    return lambda s: is_called(s) and s.statement.input in hashes
+
+
+def answer_in(words):
+    hashes = words.one_of(words.sets)
+    return lambda s: is_called(s) and sha256(s.statement.said) in hashes
+
+
+def is_called(situation):
+    return situation.statement is not None and situation.statement.input is not None
+
+
 def kind_is(words):
     kind = words.one_of(KINDS)
     return lambda s: s.life.kind == kind
@@ -126,6 +140,9 @@ TESTS = {
     b"kind": kind_is,
     b"alive": lambda _: lambda s: s.life.alive,
     b"statement": lambda _: lambda s: s.statement is not None,
+    b"called": lambda _: is_called,
+    b"input": input_in,
+    b"answer": answer_in,
 }
 
 

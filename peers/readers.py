@@ -167,13 +167,13 @@ def pending_images(source):
 
 
 def replaced_regions(source):
-    """The regions of a device in version 1, after one more use of each key, and with another secret in each."""
+    """The regions of a device in version 1, after one more use of each key, with another secret in each, and both."""
     found = []
-    for name in ("", "_USED", "_PUT"):
+    for name in ("", "_USED", "_PUT", "_PUT_USED"):
         owned, _, _ = device.left_to_do("entry", signed=False, version=2 if name else 1)
-        for layer in (2, 3) if name == "_USED" else ():
+        for layer in (2, 3) if "_USED" in name else ():
             owned.regions[layer]["keys"][0][1].uses += 1
-        if name == "_PUT":
+        if "_PUT" in name:
             pin, _, born = owned.regions[2]["secrets"][0]
             owned.regions[3]["secrets"] = owned.regions[2]["secrets"]
             owned.regions[2]["secrets"] = [(pin, b"5678", born)]

@@ -14,6 +14,8 @@ MOST_EVENTS = 65_536
 # how many more events `cutat` serves than a script has
 EVENTS_OF_A_CUT = 3
 MOST_TARGETS = 8
+# of a call's input, and of a region
+LONGEST_INPUT, MOST_SECRETS = 4_096, 22
 KINDS = {b"establish": ESTABLISH, b"surrender": SURRENDER, b"load": LOAD, b"emergency": EMERGENCY, b"newkey": NEW_KEY}
 TRUSTS = {b"always": 0, b"never": 1, b"countersigned": COUNTERSIGNED}
 KEY_KINDS = {b"epoch": 0, b"configuration": 1}
@@ -201,13 +203,13 @@ def read_statement_line(text):
 
 @dataclasses.dataclass(frozen=True)
 class Event:
-    """An event of a script: its word, and what stands after it."""
+    """An event of a script: its word, and what stands after it. The number is None of a call that names no key."""
 
     word: str
     layer: int = 0
     name: bytes = b""
     bytes: bytes = b""
-    number: int = 0
+    number: int | None = 0
 
 
 def region(word):
@@ -250,6 +252,10 @@ def read_event(line):
     if word == b"sign":
         layer, key, message = several(words, 3)
         return Event("sign", region(layer), b"", hexadecimal(message, 0, 128), number(key))
+    if word == b"call":
+        layer, key, input_ = several(words, 3)
+        named = None if key == b"-" else number(key)
+        return Event("call", region(layer), b"", hexadecimal(input_, 0, LONGEST_INPUT), named)
     raise Wrong
 
 

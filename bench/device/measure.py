@@ -11,7 +11,9 @@ import tempfile
 HERE = pathlib.Path(__file__).resolve().parents[2]
 sys.path[:0] = [str(HERE / "checks" / "cuts"), str(HERE / "peers")]
 
+import applications  # noqa: E402
 import device  # noqa: E402
+import random_calls  # noqa: E402
 from lives import Event, first_life, late_life, opening  # noqa: E402
 from program import Program, Script, Wrong  # noqa: E402
 
@@ -125,9 +127,37 @@ def measure_many(table, bench, image):
         table.row(what, bench.more(image, ["boot"], [line] * count, wanted), count, f"of {count}")
     puts = ["put 2 pin 31323334", "put 2 pin 35363738"] * 1000
     table.row("put of a known name", bench.more(image, ["boot"], puts, "kept"), len(puts), "of 2000")
+    # each value that is dropped is put first, which takes as long as the puts above
+    drops = ["put 2 other 00", "drop 2 other"] * 1000
+    table.row("put of a new name, and drop", bench.more(image, ["boot"], drops, ("kept", "dropped")), 1000, "of 1000")
     table.row("put of what stands there", bench.more(image, ["boot"], puts[1:2] * 2000, "kept"), 2000, "of 2000")
     boots = ["boot", "off"] * 2000
     table.row("boot of a clean memory, and off", bench.more(image, [], boots, ("booted", "off")), 2000, "of 2000")
+
+
+def counting_down(count):
+    """Code that takes calls: it counts down, five steps each time, and answers nothing."""
+    code = f"push 1296193585\npop\npush {count}\nlabel a\npush 1\nsub\ndup\njumpzero b\njump a\nlabel b\n"
+    return applications.assemble(f"{code}push 0\nemit\npush 0\nemit\nhalt\n".encode())
+
+
+def measure_calls(table, bench):
+    """Calls of few steps and of nearly 1,000,000, without a key and with one, beside the signature of a message."""
+    for what, count, often in ("few steps", 1, 400), ("999,957 steps", 199_990, 40):
+        made = random_calls.Made()
+        for layer in (2, 3):
+            made.establish(layer)
+        for layer, code in (2, b"code"), (3, counting_down(count)):
+            made.load_code(layer, device.EMERGENCY, code)
+        for layer in (2, 3):
+            made.make_key(layer)
+        image = made.image()
+        calls = ["call 3 - -"] * often
+        table.row(f"call of {what}", bench.more(image, ["boot"], calls, "called -"), often, f"of {often}")
+        calls = ["call 3 2 -"] * 29
+        table.row("  signed", bench.more(image, ["boot", calls[0]], calls, "signed "), 29, "each later one, of 29")
+    signs = ["sign 2 1 -"] * 29
+    table.row("sign beside them", bench.more(image, ["boot", signs[0]], signs, "signed "), 29, "each later one, of 29")
 
 
 def measure_one_boot(table, bench, life, image):
@@ -201,6 +231,7 @@ def main():
         measure_one_boot(table, bench, life, used)
         measure_refused(table, bench, life.events[0])
         measure_orders(table, bench, [*orders(life), *orders(late), *orders(other)])
+        measure_calls(table, bench)
     except Wrong as wrong:
         print(wrong)
         return 1

@@ -17,13 +17,16 @@ sys.path[:0] = [str(CHECKS.parent / "peers"), str(CHECKS / "hostile"), str(CHECK
 
 import commands  # noqa: E402
 import hostile  # noqa: E402
+import random_calls  # noqa: E402
 from lms import sha256  # noqa: E402
 from officer import Officer, body, countersigned_text, order, order_line, signed_text  # noqa: E402
 
 NO_MEMORY = 6, "no memory\n"
 LIKE_OTHERS, LACKS = "as without a failure", "status 6"
 # the events that may be answered `no memory`, as each is at some allocation
-EVENTS = "boot", "command", "put", "get", "sign"
+EVENTS = "boot", "command", "put", "get", "sign", "call"
+# inputs for the PIN check of examples/calls
+SETUP, WRONG, RIGHT = (input_.hex() for input_ in (b"\0004071SECRET!!", b"\0011111", b"\0014071"))
 GIVEN_UP = 600
 
 
@@ -67,7 +70,11 @@ class Life:
             self.events.append((line, b""))
         self.order(1, "load 1\nversion 2\ntrust always\ncode 6f6e65", (2, 3))
         self.order(3, "load 3\nversion 2\ntrust countersigned\ncode 676869")
-        for line in "get 2 pin", "get 3 token", "put 2 pin 35", "drop 3 token", "status", "off":
+        for line in "get 2 pin", "get 3 token", "put 2 pin 35", "drop 3 token", "status", "off", "boot":
+            self.events.append((line, b""))
+        self.order(2, f"emergency 3\nversion 3\ntrust countersigned\ncode {random_calls.PIN.hex()}")
+        self.order(3, "newkey 3 epoch")
+        for line in f"call 3 - {SETUP}", f"call 3 - {WRONG}", f"call 3 3 {WRONG}", f"call 3 3 {RIGHT}", "off":
             self.events.append((line, b""))
 
     def order(self, owner, draft, beside=()):
@@ -197,12 +204,39 @@ def try_life(runner, pool):
     if wrong or missing:
         print(f"run: {wrong or 'right where none fails'}; no allocation was that of an event {', '.join(missing)}")
         kinds["WRONG"] += 1
-    return kinds
+    return kinds, usual.files["image"]
+
+
+def try_guesses(runner, pool, image):
+    """A wrong guess and the right one, each without a key and with one: both make as many allocations, and lack memory
+    at the same of them, so that neither tells which it was. Prints how many there were, and gives how many runs were
+    wrong."""
+    wrong = 0
+    for key in "-", "3":
+        scripts = [f"boot\ncall 3 {key} {guess}\noff\n".encode() for guess in (WRONG, RIGHT)]
+        tried = [answers_of(runner, pool, {"image": image, "script": script, "noise": b""}) for script in scripts]
+        lacking = [[number for number, answer in enumerate(each) if answer == "no memory"] for each in tried]
+        same = len(tried[0]) == len(tried[1]) and lacking[0] == lacking[1] and lacking[0]
+        counts = " and ".join(str(len(each) - 1) for each in tried)
+        print(f"{f'call 3 {key}':12} {counts} allocations, {len(lacking[0])} and {len(lacking[1])} `no memory`", flush=True)
+        if not same:
+            print(f"call 3 {key}: a wrong guess and the right one differ: {lacking}")
+            wrong += 1
+    return wrong
+
+
+def answers_of(runner, pool, files):
+    """What the call of a script is answered if no allocation fails, and if each fails in turn."""
+    usual, count = runner.run("run image script noise", files)
+    ends = pool.map(lambda number: runner.run("run image script noise", files, number)[0], range(1, count + 1))
+    # a run that ends with status 6 has answered nothing
+    return [(end.printed.splitlines()[1:2] or ["no run"])[0] for end in (usual, *ends)]
 
 
 def try_all(runner, pool):
     """For how many allocations, and in how many runs, something was wrong."""
-    found = [try_life(runner, pool)]
+    life, image = try_life(runner, pool)
+    found, guesses = [life], try_guesses(runner, pool, image)
     sample = hostile.sample()
     for command in hostile.COMMANDS:
         if command is not hostile.RUN:
@@ -212,7 +246,7 @@ def try_all(runner, pool):
     if not all(kinds[LACKS] for kinds in found):
         print("a command never ended with status 6")
         found[0]["WRONG"] += 1
-    return sum(sum(kinds.values()) for kinds in found), sum(kinds["WRONG"] for kinds in found)
+    return sum(sum(kinds.values()) for kinds in found), sum(kinds["WRONG"] for kinds in found) + guesses
 
 
 def main():

@@ -56,7 +56,7 @@ def offsets(files):
     """The offsets of the word, the count and the first two entries, and those of the statement."""
     whole = len(files["attached"])
     _, statement = chains.read_chain(files["attached"])
-    length = 1 + 4 + 1 + len(statement.message) + len(statement.signature)
+    length = 1 + len(statement.spelled())
     return [*range(first_entries(files)), *range(whole - length, whole)]
 
 

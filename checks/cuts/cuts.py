@@ -12,7 +12,7 @@ import tempfile
 import threading
 import time
 
-from lives import first_life, late_life, opening, trusting_life
+from lives import calling_life, first_life, late_life, opening, trusting_life
 from program import Program, Script, Wrong, is_dead, meaning
 
 FILLS = "00", "ff", "7e", "01"
@@ -318,6 +318,8 @@ def made_lives(program, peers):
     works = [(life, number, sparse[number]) for number in range(len(life.events))]
     trusting = trusting_life(program, peers)
     works += [(trusting, number, event.is_order()) for number, event in enumerate(trusting.events)]
+    calling = calling_life(program, peers)
+    works += [(calling, number, event.is_order()) for number, event in enumerate(calling.events)]
     late, other = late_life(program, peers)
     return works + [(late, 0, True), (late, 1, True), (other, 0, True)]
 

@@ -1,6 +1,7 @@
 """Lives of devices: what each event is, the image before it, and how it is answered if power holds."""
 
 import hashlib
+import pathlib
 import sys
 
 from program import Officer, Script, Wrong
@@ -130,6 +131,36 @@ def trusting_life(program, peers):
     life.say("get 3 token", 3, "value 00ff")
     life.load("load 2", 102, by=2)
     life.say("get 3 token", 1, "refused 4 ")
+    return life
+
+
+def calling_life(program, peers):
+    """A device whose layer 3 has code that takes calls, which `peers/device.py` makes without it: the PIN check of
+    examples/calls, and then the counter, whose answers a key signs. What the code keeps is seen in its answers alone."""
+    sys.path.insert(0, peers)
+    import device
+
+    made = device.owned()
+    life = Life(program, made.image(), made_officers(program, "calling"), len(made.log), [(2, "pin"), (3, "t")])
+    examples = pathlib.Path(peers).parent / "examples" / "calls"
+    codes = []
+    for name in "pin.asm", "counter.asm":
+        (program.folder / "text").write_bytes((examples / name).read_bytes())
+        program.run("asm", "text", "out")
+        codes.append((program.folder / "out").read_bytes().hex())
+    life.order("emergency 3", f"version 2\ntrust countersigned\ncode {codes[0]}\n", by=2)
+    wrong, right = "0131313131", "0134303731"
+    life.say("call 3 - 00343037315345435245542121", 1, "called 01")
+    life.say(f"call 3 - {wrong}", 2, "called 0202")
+    life.say(f"call 3 - {right}", 3, "called 015345435245542121")
+    life.say(f"call 3 - {right}", 1, "called 015345435245542121")
+    life.say("call 3 - 00343037315345435245542121", 1, "called ff")
+    life.say("get 3 t", 1, "refused 8 ")
+    life.order("emergency 3", f"version 3\ntrust countersigned\ncode {codes[1]}\n", by=2)
+    life.order("newkey 3 epoch", by=3)
+    life.say("call 3 1 -", 1, "signed 1 0 ")
+    life.say("call 3 - -", 3, "called 00000002")
+    life.say("call 3 1 6e6f6e6365", 2, "signed 1 1 ")
     return life
 
 

@@ -3,12 +3,14 @@
 import dataclasses
 import random
 
+import applications
 import chains
 import commands
 import images
 import keys
 import machine
 import orders
+import random_calls
 import sketches
 import spoil
 import texts
@@ -230,7 +232,7 @@ class Maker(Tools):
         lines = files["script"].split(b"\n")
         if chance(rng, 0.9):
             lines = [line for line in lines if not line.startswith(b"cut ")]
-        writes = b"command ", b"put ", b"drop ", b"sign "
+        writes = b"command ", b"put ", b"drop ", b"sign ", b"call "
         writing = [at for at, line in enumerate(lines, 1) if line.startswith(writes)]
         if writing and chance(rng, 0.7):
             lines = lines[: rng.choice(writing)]
@@ -272,6 +274,8 @@ class Maker(Tools):
             return b"boot"
         kinds = ["command"] * (10 if level == 1 else 2) + ["put", "put", "get", "drop", "sign", "sign", "go", "go"]
         kinds += ["status", "cut", "cut", "off"]
+        running = [m for m in (2, 3) if m >= level and world.state and runs(world.state, m)]
+        kinds += ["call"] * (8 if any(takes_calls(world.state, m) for m in running) else chance(rng, 0.3))
         kinds += [kind for kind, share in (("boot", 0.3), ("tamper", 0.15)) if chance(rng, share)]
         kind = rng.choice(kinds)
         if kind == "command":
@@ -280,7 +284,7 @@ class Maker(Tools):
             count = rng.choice((1, 1, 2, 3, *range(2, 22), 40, 100_000))
             keep = b" keep %d" % rng.choice((0, 1, 40, 4_096, 1_048_576)) if chance(rng, 0.3) else b""
             return b"cut %d%b fill %b" % (count, keep, rng.choice((b"00", b"ff", b"7e", b"01", b"A5" * 16)))
-        if kind in ("put", "get", "drop", "sign"):
+        if kind in ("put", "get", "drop", "sign", "call"):
             return self.region_line(world, kind)
         return kind.encode()
 
@@ -288,12 +292,16 @@ class Maker(Tools):
         rng, layer = self.rng, self.rng.choice((2, 3))
         if world.state and chance(rng, 0.8):
             running = [m for m in (2, 3) if m >= world.level and runs(world.state, m)]
-            layer = rng.choice(running or [layer])
+            fitting = [m for m in running if takes_calls(world.state, m) == (kind == "call")]
+            layer = rng.choice(fitting if fitting and chance(rng, 0.8) else running or [layer])
         region = world.state.region(layer) if world.state else images.Region()
         names = [name for name, _, _ in region.secrets] + [rng.choice(sketches.NAMES)]
         name = rng.choice(sketches.NAMES if kind == "put" and chance(rng, 0.7) else names)
+        number = rng.choice([key.number for key in region.keys] * 4 + [0, 1, 2**32 - 1])
+        if kind == "call":
+            key = b"-" if chance(rng, 0.6) else b"%d" % number
+            return b"call %d %b %b" % (layer, key, hexadecimal(random_calls.some_input(rng)))
         if kind == "sign":
-            number = rng.choice([key.number for key in region.keys] * 4 + [0, 1, 2**32 - 1])
             return b"sign %d %d %b" % (layer, number, hexadecimal(rng.choice(MESSAGES)))
         if kind == "put":
             value = rng.randbytes(rng.choice((0, 1, 4, 127, 128)))
@@ -348,7 +356,7 @@ class Maker(Tools):
     def statement(self, life, state, number):
         """A statement of a key, in most cases by the key itself and of the last configuration."""
         rng = self.rng
-        message = rng.choice(MESSAGES)
+        said, input_ = rng.choice(MESSAGES), rng.randbytes(32) if chance(rng, 0.4) else None
         held = [key for each in (*life.states, state) for key in (*each.two.keys, *each.three.keys)]
         seeds = [(key.identifier, key.seed) for key in held if key.number == number]
         by = seeds[-1] if seeds and chance(rng, 0.92) else (state.identifier, state.seed)
@@ -356,8 +364,12 @@ class Maker(Tools):
         stated = max(stated, 0)
         named = number if chance(rng, 0.95) else number ^ 1
         serial = state.serial if chance(rng, 0.97) else bytes(16)
-        signature = keys.signed(*by, rng.randrange(32), u8(4) + serial + u32(named) + u32(stated) + message)
-        return chains.Statement(stated, message, signature)
+        signed = chains.Statement(stated, said, b"", input_)
+        if chance(rng, 0.04):
+            # of the other kind, with the bytes of this one
+            signed = chains.Statement(stated, said if input_ is None else input_ + said, b"", bytes(32) if input_ is None else None)
+        signature = keys.signed(*by, rng.randrange(32), chains.stated_text(serial, named, signed))
+        return chains.Statement(stated, said, signature, input_)
 
     def forged(self, entries, maker):
         """Entries that are changed, exchanged, repeated or left out, each then signed where it stands."""
@@ -450,7 +462,7 @@ class Maker(Tools):
             entries = self.forged(entries, life.maker)
         chain = spelled_chain(entries, has_statement)
         chain = self.spoilt_chain(chain) if chance(rng, 0.25) else chain
-        line = spelled_statement(stated)
+        line = stated.spelled()
         if chance(rng, 0.2):
             line = spoil.spoilt_record(rng, line, Reader.statement)
         line = hexadecimal(line) + rng.choice((b"\n", b"\n", b""))
@@ -578,6 +590,10 @@ def runs_two(life):
     return runs(life.states[-1], 2)
 
 
+def takes_calls(state, layer):
+    return applications.takes_calls(state.codes[layer - 1])
+
+
 def has_keys(life):
     return any(entry.tag == NEW_KEY for entry, _ in life.states[-1].log)
 
@@ -594,10 +610,6 @@ def with_position(text, position):
     return text[:1] + u32(position) + text[5:] if text[:1] in (b"\1", b"\2", b"\3", b"\x11") else text
 
 
-def spelled_statement(statement):
-    return u32(statement.number) + u8(len(statement.message)) + statement.message + statement.signature
-
-
 def spelled_chain(entries, statement=None):
-    end = u8(0) if statement is None else u8(1) + spelled_statement(statement)
+    end = u8(0) if statement is None else u8(1) + statement.spelled()
     return b"MBC1" + u16(len(entries)) + b"".join(text + signature for text, signature in entries) + end

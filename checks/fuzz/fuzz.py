@@ -45,7 +45,7 @@ LINES = [
     *("zeroised", "differs", "has statement", "not countersignable", "spent"),
 ]
 REPLIES = ["booted", "off", "tampered", "armed", "at N", "done N N", "kept", "dropped", "value", "absent", "signed N N"]
-REPLIES += ["status", "stopped"] + [f"refused {number} {words}" for number, words in commands.machine.REFUSALS.items()]
+REPLIES += ["called", "status", "stopped"] + [f"refused {number} {words}" for number, words in commands.machine.REFUSALS.items()]
 ANSWERS = ["added", "same", "extended", *(f"refused {number}" for number in (20, 21, 22, 23, 30, 31, 32))]
 ANSWERS += ["found", "codes"]
 VERDICTS = "old", "new", "unstopped"
@@ -257,7 +257,7 @@ def kind_of_answer(line):
 
 def kind_of_reply(reply):
     words = reply.split(" ")
-    if words[0] in ("value", "status"):
+    if words[0] in ("value", "status", "called"):
         return words[0]
     if words[0] == "refused":
         return reply

@@ -11,6 +11,7 @@ import device
 import images
 import keys
 import machine
+import random_calls
 import workload
 from chains import EMERGENCY, ESTABLISH, LOAD, SURRENDER
 from lms import Chains, HEIGHTS, inner_node, leaf_node, sha256, take, u8, u16, u32
@@ -206,6 +207,8 @@ class Pool:
             return rng.choice(self.officers).public() + trusts
         if kind in (LOAD, EMERGENCY):
             code = rng.randbytes(rng.choice((0, 1, 3, 20, 33, 4_096, 4_097) if rng.random() < 0.97 else (32_768,)))
+            if rng.random() < 0.3:
+                code = random_calls.some_code(rng, layer)
             return u32(rng.choice((0, 1, 2, 2**32 - 1))) + trusts + u32(len(code)) + code
         return u8(rng.randrange(2)) if kind == NEW_KEY else b""
 

@@ -139,6 +139,9 @@ class Tools:
         found = [rng.choice(known) for _ in range(rng.choice((1, 1, 2, 3, 64 if rng.random() < 0.1 else 4)))]
         if rng.random() < 0.2:
             found.append(rng.randbytes(32))
+        if rng.random() < 0.3:
+            # of answers and inputs that are known
+            found.append(sha256(rng.choice((b"", b"a", b"hello"))))
         return [each.hex().encode() for each in found]
 
     def test(self, sets, depth):
@@ -152,8 +155,9 @@ class Tools:
         forms = [[b"version", layer, small(), small()], [b"reliable", layer], [b"number", small(), small()]]
         trust = rng.choice((b"always", b"never", b"countersigned"))
         forms += [[b"trust", layer, b"%d" % rng.randrange(1, 3), trust], [b"first"], [b"last"], [b"alive"]]
-        forms += [[b"kind", rng.choice((b"epoch", b"configuration"))], [b"statement"]]
+        forms += [[b"kind", rng.choice((b"epoch", b"configuration"))], [b"statement"], [b"called"]]
         if sets:
+            forms += [[rng.choice((b"input", b"answer")), rng.choice(sets)]]
             forms += [[rng.choice((b"owner", b"code")), layer, rng.choice(sets)]] * 3
         return rng.choice(forms)
 

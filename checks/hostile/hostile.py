@@ -25,6 +25,7 @@ import forged  # noqa: E402
 import hss  # noqa: E402
 import images  # noqa: E402
 import machine  # noqa: E402
+import random_calls  # noqa: E402
 from device import owned  # noqa: E402
 from lms import sha256  # noqa: E402
 from officer import Officer, body, order, order_line, signed_text  # noqa: E402
@@ -38,6 +39,7 @@ SECTOR, IMAGE = chains.SECTOR, chains.FLASH + chains.BBRAM
 KEY_FIELDS, PUBLIC_FIELDS = (0, 4, 20, 52), (0, 4, 8, 24)
 # the code `push 65`, `emit`, `halt`
 CODE = bytes.fromhex("01000000414200")
+MOST_INPUT = 4_096
 # how many trials a process gets at a time, and the seconds after which a call is given up
 CHUNK, GIVEN_UP = 100, 600
 
@@ -136,6 +138,10 @@ COMMANDS = (
 # chains of other files
 STATED, LAST, NO_KEY = Command("verify root attached 1"), Command("verify root full 1"), Command("verify root full 9")
 TOLD, TOLD_LAST = Command("history root attached"), Command("history root full")
+ANSWERED, TOLD_ANSWER = Command("verify root answered 1"), Command("history root answered")
+ATTACH_ANSWER = Command("attach chain answer out", (("chain", "chain"), ("statement", "answer")), (("out", "out"),))
+# of a device whose layer 2 has code that takes calls, and emits its input
+CALL = Command("run calling script noise", (("image", "calling"), ("script", "script"), ("noise", "noise")), (("image", "calling"),))
 BAD, BAD_AUDIT, BAD_HISTORY = Command("verify root bad 1"), Command("audit image root bad 1"), Command("history root bad")
 
 
@@ -147,6 +153,7 @@ def sample():
     device, officer = owned(), Officer(sha256(b"officer"))
     device.make_key(3)
     _, statement = device.sign(3, 1, b"a message")
+    _, answer = device.stated(device.key_of(3, 1), b"an answer", sha256(b"an input"))
     device.load(1)
     device.load(3)
     targets = f"target serial {device.serial.hex()}\ntarget length 9\n"
@@ -160,6 +167,7 @@ def sample():
         "root": device.maker.public(),
         "chain": device.chain(),
         "statement": statement.hex().encode() + b"\n",
+        "answer": answer.hex().encode() + b"\n",
         "key": officer.key_file(),
         "owner": officer.public(),
         "code": b"code of layer 1",
@@ -167,8 +175,9 @@ def sample():
         "order": order_line(order(text, officer.key.sign(0, signed_text(text)))).encode(),
         "full": forged.chain(longest().log),
     }
-    _, _, written = chains.answer(["attach", "chain", "statement", "attached"], files.get)
-    return files | written | tools_files(files)
+    for words in (["attach", "chain", "statement", "attached"], ["attach", "chain", "answer", "answered"]):
+        files |= chains.answer(words, files.get)[2]
+    return files | tools_files(files)
 
 
 def tools_files(files):
@@ -181,7 +190,8 @@ def tools_files(files):
         "hss": maker.public(),
         "endorsement": maker.endorse(32, root),
         "policy": f"# a policy\nset known {code} {code}\nallow all and kind epoch not code 1 known\n".encode(),
-        "coded": coded(files["image"]),
+        "coded": coded(files["image"], CODE),
+        "calling": coded(files["image"], random_calls.ECHOING),
         "halting": CODE,
         "input": b"what the code is given",
         "text": text.encode(),
@@ -191,9 +201,9 @@ def tools_files(files):
     return made | {"codes": commands.answer(["asm", "text", "codes"], commands.Folder(made)).written["codes"]}
 
 
-def coded(image):
-    """The image of the device after a load of layer 2 with code that halts."""
-    text = body(f"order load 2\nversion 7\ntrust always\ncode {CODE.hex()}\n")
+def coded(image, code):
+    """The image of the device after a load of layer 2 with this code."""
+    text = body(f"order load 2\nversion 7\ntrust always\ncode {code.hex()}\n")
     signature = Officer(sha256(b"owner", b"\2")).key.sign(1, signed_text(text))
     loaded = read_order(order(text, signature))
     return images.image_of(machine.obey(images.meaning(image), loaded, bytes(32)))
@@ -274,6 +284,12 @@ def short_inputs(files):
     for at in range(len(files["attached"]) - chains.SIGNATURE - 20, len(files["attached"]), 7):
         yield Trial(STATED, (("attached", "cut", at),))
         yield Trial(TOLD, (("attached", "turn", at, at % 8),))
+    for at in range(len(files["answered"]) - chains.SIGNATURE - 60, len(files["answered"]), 7):
+        yield Trial(ANSWERED, (("answered", "cut", at),))
+        yield Trial(ANSWERED, (("answered", "turn", at, at % 8),))
+        yield Trial(TOLD_ANSWER, (("answered", "turn", at, at % 8),))
+    for at in range(0, len(files["answer"]), 7):
+        yield Trial(ATTACH_ANSWER, (("answer", "cut", at),))
 
 
 # the steps at which inputs of long roles end, in bytes
@@ -352,6 +368,13 @@ def limits(files):
     head = b"order load 2\nversion 7\ntrust always\ncode "
     yield Trial(SIGN, (("draft", "is", head + b"07" * MOST_CODE + b"\n"),), (0, "index 0\n"), 2)
     yield Trial(SIGN, (("draft", "is", head + b"07" * (MOST_CODE + 1) + b"\n"),), (3, "input draft line 4\n"))
+    # the longest input, which is an action of as many demands as there is room for; and one that has a byte more
+    action = b"\37" + (b"\1\1k\200" + bytes(128)) * 31 + b"\2ok"
+    for given, reply in (action, "called 6f6b"), (action[:-1], "refused 9 run"), (bytes(MOST_INPUT), "refused 9 run"):
+        script = f"boot\ncall 2 - {given.hex()}\noff\n".encode()
+        yield Trial(CALL, (("script", "is", script),), (0, f"booted\n{reply}\noff\n"), 1)
+    script = f"boot\ncall 2 - {bytes(MOST_INPUT + 1).hex()}\noff\n".encode()
+    yield Trial(CALL, (("script", "is", script),), (3, "input script line 2\n"))
     for more, reply in (0, "done 7 9"), (1, "refused 10 text"):
         script = f"boot\n{largest(MOST_CODE + more)}off\n".encode()
         yield Trial(RUN, (("script", "is", script),), (0, f"booted\n{reply}\noff\n"), 1)
@@ -437,7 +460,7 @@ class Worker:
         if key not in self.known:
             before = self.before(key[1])
             seen = before | predicted(trial.command, before).written
-            if trial.command == RUN:
+            if trial.command in (RUN, CALL):
                 self.run(dataclasses.replace(trial, limit=None, is_full=False))
                 seen = self.seen()
             self.known[key] = {name: seen.get(name) for _, name in trial.command.writes}

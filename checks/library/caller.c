@@ -9,6 +9,7 @@
 #include <stdlib.h>
 #include <string.h>
 
+_Static_assert(sizeof(struct mb_stated) == 168 && offsetof(struct mb_stated, bytes) == 40, "as crates/mb_library has it");
 _Static_assert(sizeof(struct mb_details) == 32 && offsetof(struct mb_details, offset) == 8, "as crates/mb_library has it");
 
 static const char *folder;
@@ -220,6 +221,79 @@ static void try_chains(void)
     tell("chains");
 }
 
+/* Whether all of the bytes are 0. */
+static bool are_zeros(const uint8_t *bytes, size_t length)
+{
+    for (size_t i = 0; i < length; i++) {
+        if (bytes[i]) {
+            return false;
+        }
+    }
+    return true;
+}
+
+/* Whether a statement says nothing, in any field. */
+static bool says_nothing(const struct mb_stated *stated)
+{
+    return stated->kind == MB_SAYS_NOTHING && !stated->length && are_zeros(stated->input, sizeof stated->input)
+        && are_zeros(stated->bytes, sizeof stated->bytes);
+}
+
+/* Whether a statement says these bytes, which zeros follow. */
+static bool says(const struct mb_stated *stated, uint32_t kind, const char *bytes)
+{
+    size_t length = strlen(bytes);
+    return stated->kind == kind && stated->length == length && memcmp(stated->bytes, bytes, length) == 0
+        && are_zeros(stated->bytes + length, sizeof stated->bytes - length);
+}
+
+static uint32_t said(const uint8_t *maker, const uint8_t *chain, size_t length, uint32_t key, struct mb_stated *stated)
+{
+    struct mb_details details;
+    memset(&details, 0xEE, sizeof details);
+    memset(stated, 0xEE, sizeof *stated);
+    uint32_t code = mb_chain_said(maker, chain, length, key, stated, &details);
+    expect("what is told of the listing", (int)code, !details.listing && !details.line && !details.configuration);
+    return code;
+}
+
+static void try_statements(void)
+{
+    static const char input[] = "4fddb6e92a8333684779335007eda9426ddd8ea849ce4ab7c8340016d9d9d89a";
+    size_t ignored, length, message_length, answer_length, input_length;
+    uint8_t *plain_maker = whole("maker", &ignored), *chain = whole("chain", &length);
+    uint8_t *maker = whole("said_maker", &ignored), *message = whole("said_message", &message_length);
+    uint8_t *answer = whole("said_answer", &answer_length), *hash = bytes_of(input, &input_length);
+    struct mb_stated stated;
+
+    expect("no statement", 0, said(plain_maker, chain, length, 1, &stated) == MB_ACCEPTED && says_nothing(&stated));
+    expect("a message", 0, said(maker, message, message_length, 1, &stated) == MB_ACCEPTED);
+    expect("its bytes", 0, says(&stated, MB_SAYS_MESSAGE, "hello") && are_zeros(stated.input, sizeof stated.input));
+    expect("an answer", 0, said(maker, answer, answer_length, 1, &stated) == MB_ACCEPTED);
+    expect("its bytes", 0, says(&stated, MB_SAYS_ANSWER, "abc") && memcmp(stated.input, hash, sizeof stated.input) == 0);
+    expect("another key", 0, said(maker, answer, answer_length, 2, &stated) == MB_CHAIN_KEY_UNKNOWN && says_nothing(&stated));
+    expect("no chain", 0, said(maker, answer, 0, 1, &stated) == MB_CHAIN_FORM && says_nothing(&stated));
+    expect("another maker", 0, said(plain_maker, answer, answer_length, 1, &stated) == MB_CHAIN_SIGNATURE);
+    expect("nothing of it", 0, says_nothing(&stated));
+    maker[7] ^= 64;
+    expect("no maker's key", 0, said(maker, answer, answer_length, 1, &stated) == MB_NO_KEY && says_nothing(&stated));
+    maker[7] ^= 64;
+    for (size_t i = answer_length - 2385; i < answer_length; i += 37) {
+        answer[i] ^= (uint8_t)(1 << i % 8);
+        uint32_t code = said(maker, answer, answer_length, 1, &stated);
+        expect("a bit of a statement", (int)i,
+               (code == MB_CHAIN_FORM || code == MB_CHAIN_STATEMENT) && says_nothing(&stated));
+        answer[i] ^= (uint8_t)(1 << i % 8);
+    }
+    free(hash);
+    free(answer);
+    free(message);
+    free(maker);
+    free(chain);
+    free(plain_maker);
+    tell("statements");
+}
+
 static void try_policy(const uint8_t *maker, uint8_t *chain, size_t length, const char *policy, uint32_t code, uint32_t place,
                        int line)
 {
@@ -282,6 +356,7 @@ int main(int count, char **words)
     try_lms();
     try_hss();
     try_chains();
+    try_statements();
     try_policies();
     printf("%ld right, %ld wrong\n", right, wrong);
     return wrong != 0;

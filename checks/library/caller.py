@@ -4,6 +4,7 @@ archive, and the folder of vectors. Prints how many answers were as they should 
 status 1 if there is one."""
 
 import ctypes
+import hashlib
 import pathlib
 import sys
 
@@ -17,6 +18,12 @@ class Details(ctypes.Structure):
         (name, Number) for name in ("offset", "entry", "named", "last", "line", "configuration")]
 
 
+class Stated(ctypes.Structure):
+    """What is told of a statement, as mb_library.h declares it."""
+
+    _fields_ = [("kind", Number), ("length", Number), ("input", ctypes.c_uint8 * 32), ("bytes", ctypes.c_uint8 * 128)]
+
+
 class Library:
     """The calls of the library over bytes."""
 
@@ -24,11 +31,12 @@ class Library:
         self.calls = ctypes.CDLL(path)
         self.calls.mb_lms_verify.restype = self.calls.mb_hss_verify.restype = ctypes.c_bool
         self.calls.mb_lms_verify.argtypes = self.calls.mb_hss_verify.argtypes = [Bytes, Bytes, Length, Bytes, Length]
-        for call in (self.calls.mb_lms_verdict, self.calls.mb_chain_verify, self.calls.mb_trust):
+        for call in (self.calls.mb_lms_verdict, self.calls.mb_chain_verify, self.calls.mb_chain_said, self.calls.mb_trust):
             call.restype = Number
         details = ctypes.POINTER(Details)
         self.calls.mb_lms_verdict.argtypes = [Bytes, Length, Bytes, Length, Bytes, Length]
         self.calls.mb_chain_verify.argtypes = [Bytes, Bytes, Length, Number, Bytes, Length, details]
+        self.calls.mb_chain_said.argtypes = [Bytes, Bytes, Length, Number, ctypes.POINTER(Stated), details]
         self.calls.mb_trust.argtypes = [Bytes, Bytes, Length, Number, Bytes, Length, details]
 
     def lms_verify(self, key, text, signature):
@@ -45,6 +53,12 @@ class Library:
         listing, details = ctypes.create_string_buffer(max(room, 1)), Details()
         code = self.calls.mb_chain_verify(maker, chain, len(chain), key, listing, room, ctypes.byref(details))
         return code, listing.raw[: details.listing] if code == 0 else b"", details
+
+    def chain_said(self, maker, chain, key):
+        """The code, the kind of the statement, the hash of its input, and its bytes."""
+        stated, details = Stated(), Details()
+        code = self.calls.mb_chain_said(maker, chain, len(chain), key, ctypes.byref(stated), ctypes.byref(details))
+        return code, stated.kind, bytes(stated.input), bytes(stated.bytes[: stated.length])
 
     def trust(self, maker, chain, key, policy):
         details = Details()
@@ -83,6 +97,15 @@ def answers(library, folder):
     yield "a chain", library.chain_verify(maker, chain, 1, details.listing)[:2] == (0, listing)
     code, _, details = library.chain_verify(maker, chain[:-1], 1, 4096)
     yield "a shorter chain", code == 20 and 0 < details.offset < len(chain)
+    hashed, none = hashlib.sha256(b"an input").digest(), bytes(32)
+    said, message, answer = ((folder / f"said_{name}").read_bytes() for name in ("maker", "message", "answer"))
+    yield "no statement", library.chain_said(maker, chain, 1) == (0, 0, none, b"")
+    yield "a message", library.chain_said(said, message, 1) == (0, 1, none, b"hello")
+    yield "an answer", library.chain_said(said, answer, 1) == (0, 2, hashed, b"abc")
+    yield "an answer of no key", library.chain_said(said, answer, 9) == (24, 0, none, b"")
+    fresh = b"set now " + hashed.hex().encode() + b"\nallow fresh and called and last input now\n"
+    yield "a fresh answer", library.trust(said, answer, 1, fresh)[0] == 0
+    yield "no fresh answer", library.trust(said, message, 1, fresh)[0] == 7
     for number, (wanted, place, policy) in enumerate(policies(folder / "policies.txt")):
         code, details = library.trust(maker, chain, 1, policy)
         told = {6: details.line, 7: details.configuration}.get(code, 0)

@@ -8,17 +8,17 @@
  *   can be read, and those that are not const written; nobody else writes them during the call, not even a device. No
  *   pointer is null, not even with length 0, and no length reaches 2^63. What is written overlaps nothing else that the
  *   call is given. Bytes may stand at any address, and a struct is aligned.
- * - Stack. 8 KiB for signatures, and 64 KiB for mb_chain_verify and mb_trust. Nothing checks that it is there.
+ * - Stack. 8 KiB for signatures, and 64 KiB for those of chains. Nothing checks that it is there.
  * - Calling convention. That of the System V ABI for x86-64: so the stack is aligned to 16 bytes, and the code may keep
  *   values in the 128 bytes below the stack pointer, the red zone. A system that serves interrupts on the stack which
  *   they interrupt must not serve any during a call. Code that is built with `--backend rattle` keeps nothing there.
  * - Processor. The archive mb_library is built for x86-64-v2 (SSE4.2), and mb_library_v3, which is faster, for x86-64-v3
  *   (AVX2, BMI2). Neither checks for it. Built with `--cpu x86-64`, mb_library runs on any x86-64. All use SSE registers,
  *   and mb_library_v3 AVX registers, so what has no operating system enables them first.
- * - Memory. mb_chain_verify and mb_trust take memory by rattle_alloc, rattle_realloc and rattle_dealloc, and have given
- *   all of it back when they return. The archive has these three over malloc, realloc and free, which come from one
+ * - Memory. Calls for chains take memory by rattle_alloc, rattle_realloc and rattle_dealloc, and have given all of it
+ *   back when they return. The archive has these three over malloc, realloc and free, which come from one
  *   allocator and align to 16. A program without malloc defines the three itself: examples/library has them. So these
- *   two calls stand in no signal handler, and in no forked child of a process with threads.
+ *   calls stand in no signal handler, and in no forked child of a process with threads.
  * - Threads. Nothing is kept from one call to the next, so any number of calls may run at once.
  *
  * Of a C library the calls need memcpy, memmove and memset alone, beside that heap. Calls for signatures take no memory:
@@ -84,6 +84,21 @@ struct mb_details {
     uint32_t configuration; /* MB_DENIED: the number of the first configuration that is denied */
 };
 
+/* What the statement of a chain says. */
+enum mb_saying {
+    MB_SAYS_NOTHING = 0, /* the chain has no statement, or is not accepted */
+    MB_SAYS_MESSAGE = 1, /* a message, which the host of the device chose */
+    MB_SAYS_ANSWER = 2   /* what the code of the key's layer answered to an input, in a call */
+};
+
+/* What mb_chain_said tells of the statement. It writes every field: 0 where none is named. */
+struct mb_stated {
+    uint32_t kind;      /* an mb_saying */
+    uint32_t length;    /* of the message or the answer */
+    uint8_t input[32];  /* MB_SAYS_ANSWER: the SHA-256 of the input */
+    uint8_t bytes[128]; /* the message or the answer, and zeros */
+};
+
 /*
  * Whether the signature is one of the text under the LMS key that the 56 bytes spell (RFC 8554, section 5.4.2), for all
  * twenty pairs of types. Bytes that spell no key have no signatures.
@@ -108,14 +123,24 @@ MB_MUST_USE bool mb_hss_verify(const uint8_t key[MB_HSS_KEY_LENGTH], const uint8
  * Whether the chain is accepted under the maker's key, and what it says of the key with the number `key`: at MB_ACCEPTED
  * the listing stands at the front of `listing`, and its length in details->listing; at any other code nothing is written
  * there. MB_NO_ROOM tells the length that is needed. The other codes are 1, 3, 4 and 20 to 27.
+ *
+ * Its last line is `statement MESSAGE` for a message, and `called INPUT ANSWER` for the answer of a call: so a program
+ * that looks for `statement` takes no answer for a message, and finds no statement in a chain with an answer.
  */
 MB_MUST_USE uint32_t mb_chain_verify(const uint8_t maker[MB_LMS_KEY_LENGTH], const uint8_t *chain, size_t chain_length,
                                      uint32_t key, uint8_t *listing, size_t listing_room, struct mb_details *details);
 
 /*
+ * Whether the chain is accepted under the maker's key for the key with the number `key`, and what its statement says:
+ * MB_ACCEPTED, and it is told in `stated`. At any other code nothing is said there. They are 1, 3, 4 and 20 to 27.
+ */
+MB_MUST_USE uint32_t mb_chain_said(const uint8_t maker[MB_LMS_KEY_LENGTH], const uint8_t *chain, size_t chain_length,
+                                   uint32_t key, struct mb_stated *stated, struct mb_details *details);
+
+/*
  * Whether the chain is accepted under the maker's key, and the policy allows each configuration in which the key with
  * the number `key` lived: MB_ACCEPTED. The other codes are 1, 3, 4, 6, 7 and 20 to 27. The policy is read before the
- * chain is verified.
+ * chain is verified. The test `statement` holds of a message and of an answer; `called` tells them apart.
  */
 MB_MUST_USE uint32_t mb_trust(const uint8_t maker[MB_LMS_KEY_LENGTH], const uint8_t *chain, size_t chain_length,
                               uint32_t key, const uint8_t *policy, size_t policy_length, struct mb_details *details);

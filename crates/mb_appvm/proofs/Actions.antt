@@ -1,15 +1,15 @@
 -- What acting comes to where no value is taken, and how a step follows from what its instruction does.
 use Rattle.std.proofs.Common.{◌≡◌, ℕ, ◌+◌, ◌<◌, ◌≤◌, inl, inr, List, [], ◌∷◌, ◌++◌, length, refl, sym, ap, subst, ◌∙◌, arith, append-nil, length-append}
 use Rattle.arrayvec.specs.ArrayVec.{ArrayVec}
-use Rattle.mb_appvm.specs.declared.instruction.Instruction.{Instruction}
-use Rattle.mb_appvm.specs.declared.instruction.Instruction.TheVariants as instruction
-use Rattle.mb_appvm.specs.declared.instruction.Plain.TheVariants as plain
+use Rattle.mb_model.specs.declared.instruction.Instruction.{Instruction}
+use Rattle.mb_model.specs.declared.instruction.Instruction.TheVariants as instruction
+use Rattle.mb_model.specs.declared.instruction.Plain.TheVariants as plain
 use Rattle.mb_appvm.specs.declared.machine.Machine.{Machine}
 use Rattle.mb_appvm.specs.declared.machine.Step.{Step}
 use Rattle.mb_appvm.specs.declared.machine.Step.TheVariants as step
-use Rattle.mb_appvm.specs.declared.trap.Trap.TheVariants as trap
-use Rattle.mb_appvm.specs.Instructions.{Stands}
-use Rattle.mb_appvm.specs.Application.{Surroundings, goes, takes, leaves, does, lacks_operands, overflows}
+use Rattle.mb_model.specs.declared.trap.Trap.TheVariants as trap
+use Rattle.mb_model.specs.application.Instructions.{Stands}
+use Rattle.mb_model.specs.application.Application.{Surroundings, goes, takes, leaves, does, lacks_operands, overflows}
 use Rattle.mb_appvm.specs.Acting.{state_of, DoesStep, DoesOn, DoesPlainOn}
 
 -- no value is taken and none is left

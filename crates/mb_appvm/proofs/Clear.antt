@@ -10,7 +10,7 @@ use Rattle.mb_format.proofs.Fields.{same_bytes-refl}
 use Rattle.mb_model_lemmas.proofs.LineLemmas.{HasLines-same, front_in}
 use Rattle.mb_appvm.specs.declared.lines.Said.{Said}
 use Rattle.mb_appvm.specs.declared.lines.Said.TheVariants as says
-use Rattle.mb_appvm.specs.Instructions.{instruction_format}
+use Rattle.mb_model.specs.application.Instructions.{instruction_format}
 use Rattle.mb_appvm.specs.Assembly.{SaysAssemblyLine, jump_to, size_of, is_label, IsNew, LabelsDiffer, HasTarget, AreRight, FailsAssembly, IsPlaced, Makes, piece, IsAssembly}
 use Rattle.mb_appvm.specs.Listing.{AssembliesAreClear, ListingsAssemble}
 use Rattle.mb_appvm.proofs.Soundness.{or_parts}

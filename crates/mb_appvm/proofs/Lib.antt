@@ -1,5 +1,7 @@
-pub mod Instructions
+pub mod SecretReading
+pub mod Readables
 pub mod Fetches
+pub mod Asking
 pub mod Actions
 pub mod Names
 pub mod RunSteps
@@ -14,4 +16,3 @@ pub mod Tables
 pub mod Assemblies
 pub mod Listings
 pub mod Clear
-pub mod Determined

@@ -9,12 +9,12 @@ use Rattle.std.proofs.lemmas.List.Concat.{flat_map-cons}
 use Rattle.std.proofs.lemmas.List.Sums.{sum_by-cons}
 use Rattle.mb_model.specs.outside.Texts.{line_with_lf}
 use Rattle.mb_model.specs.chains.Lines.{IsLine, text_of}
-use Rattle.mb_appvm.specs.declared.instruction.Instruction.{Instruction}
-use Rattle.mb_appvm.specs.declared.instruction.Instruction.TheVariants as instruction
+use Rattle.mb_model.specs.declared.instruction.Instruction.{Instruction}
+use Rattle.mb_model.specs.declared.instruction.Instruction.TheVariants as instruction
 use Rattle.mb_appvm.specs.declared.keyword.Jump.TheVariants as jump
 use Rattle.mb_appvm.specs.declared.lines.Said.{Said}
 use Rattle.mb_appvm.specs.declared.lines.Said.TheVariants as says
-use Rattle.mb_appvm.specs.Instructions.{instruction_format, Stands}
+use Rattle.mb_model.specs.application.Instructions.{instruction_format, Stands}
 use Rattle.mb_appvm.specs.Assembly.{keyword_word, keyword_of_instruction, SaysAssemblyLine, size_of, HasTarget, LabelsDiffer, Makes, piece, Assembles}
 use Rattle.mb_appvm.specs.Listing.{instruction_line, listing_bytes, IsListing, LacksInstruction}
 use Rattle.mb_appvm.proofs.Sizes.{size_plain, size_push, size_jump, size_get}

@@ -2,11 +2,11 @@
 use Rattle.std.proofs.Common.{◌≡◌, ℕ, zero, suc, ◌+◌, ◌-◌, ◌<◌, refl, sym, subst, arith}
 use Rattle.mb_appvm.specs.declared.machine.Machine.{Machine}
 use Rattle.mb_appvm.specs.declared.machine.Step.TheVariants as step
-use Rattle.mb_appvm.specs.declared.trap.Trap.{Trap}
-use Rattle.mb_appvm.specs.declared.running.AppEnd.{AppEnd}
-use Rattle.mb_appvm.specs.declared.running.AppEnd.TheVariants as end
-use Rattle.mb_appvm.specs.Application.{AppState, Surroundings, StepOutcome, goes, run_halts, traps, AppStep}
-use Rattle.mb_appvm.specs.Runs.{RunsTo, LeadsOn}
+use Rattle.mb_model.specs.declared.trap.Trap.{Trap}
+use Rattle.mb_model.specs.declared.running.AppEnd.{AppEnd}
+use Rattle.mb_model.specs.declared.running.AppEnd.TheVariants as end
+use Rattle.mb_model.specs.application.Application.{AppState, Surroundings, StepOutcome, goes, run_halts, traps, AppStep}
+use Rattle.mb_model.specs.application.Runs.{RunsTo, LeadsOn}
 use Rattle.mb_appvm.specs.Acting.{state_of, DoesStep}
 
 -- each end to which the rest of the run comes is one of the whole

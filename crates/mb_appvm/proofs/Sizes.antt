@@ -1,11 +1,11 @@
 -- How many bytes instructions have.
 use Rattle.std.proofs.Common.{◌≡◌, ℕ, ◌+◌, List, length, refl, arith}
 use Rattle.mb_format.specs.Combinators.{number_bytes}
-use Rattle.mb_appvm.specs.declared.instruction.Plain.{Plain}
-use Rattle.mb_appvm.specs.declared.instruction.Instruction.TheVariants as instruction
+use Rattle.mb_model.specs.declared.instruction.Plain.{Plain}
+use Rattle.mb_model.specs.declared.instruction.Instruction.TheVariants as instruction
 use Rattle.mb_appvm.specs.declared.keyword.Jump.{Jump}
 use Rattle.mb_appvm.specs.declared.keyword.Jump.TheVariants as jump
-use Rattle.mb_appvm.specs.Instructions.{instruction_format}
+use Rattle.mb_model.specs.application.Instructions.{instruction_format}
 use Rattle.mb_appvm.specs.Assembly.{jump_to}
 
 pub size_plain : (p : Plain) → 1 ≡ length (instruction_format.spelling (instruction.Plain p))

@@ -11,11 +11,11 @@ use Rattle.mb_model.specs.records.RegionFormat.{is_name, is_name_byte}
 use Rattle.mb_model.specs.chains.Script.{IsName}
 use Rattle.mb_model.specs.chains.Lines.{IsNumber, number_limit}
 use Rattle.mb_model_lemmas.proofs.LineLemmas.{Without, isnt, first_same, first_none}
-use Rattle.mb_appvm.specs.declared.instruction.Operation.TheVariants as op
-use Rattle.mb_appvm.specs.declared.instruction.Plain.{Plain}
-use Rattle.mb_appvm.specs.declared.instruction.Plain.TheVariants as plain
-use Rattle.mb_appvm.specs.declared.instruction.Instruction.{Instruction}
-use Rattle.mb_appvm.specs.declared.instruction.Instruction.TheVariants as instruction
+use Rattle.mb_model.specs.declared.instruction.Operation.TheVariants as op
+use Rattle.mb_model.specs.declared.instruction.Plain.{Plain}
+use Rattle.mb_model.specs.declared.instruction.Plain.TheVariants as plain
+use Rattle.mb_model.specs.declared.instruction.Instruction.{Instruction}
+use Rattle.mb_model.specs.declared.instruction.Instruction.TheVariants as instruction
 use Rattle.mb_appvm.specs.declared.keyword.Jump.{Jump}
 use Rattle.mb_appvm.specs.declared.keyword.Jump.TheVariants as jump
 use Rattle.mb_appvm.specs.declared.keyword.Keyword.{Keyword}
@@ -23,7 +23,7 @@ use Rattle.mb_appvm.specs.declared.keyword.Keyword.TheVariants as key
 use Rattle.mb_appvm.specs.declared.lines.Said.{Said}
 use Rattle.mb_appvm.specs.declared.lines.Said.TheVariants as says
 use Rattle.mb_words.specs.Words.{FindsSome}
-use Rattle.mb_appvm.specs.Instructions.{instruction_format}
+use Rattle.mb_model.specs.application.Instructions.{instruction_format}
 use Rattle.mb_appvm.specs.Reading.{SaysWords}
 use Rattle.mb_appvm.specs.Assembly.{keyword_word, jump_to, keyword_of, operand_of, line_of_words, IsLabelName, IsSayable, SaysAssemblyLine}
 

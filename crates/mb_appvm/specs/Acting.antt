@@ -1,31 +1,40 @@
 -- What the code's machine means, and what acting on its stack leaves.
-use Rattle.std.specs.Prelude.{◌≡◌, ℕ, List, ◌++◌, length, find, Option, Some, None}
+use Rattle.std.specs.Prelude.{◌≡◌, ℕ, ◌==◌, List, ◌++◌, length, find, Option, Some, None, if◌then◌else◌}
+use Rattle.std.specs.Option.{option_copied}
 use Rattle.mb_model.specs.declared.region.Secret.{Secret}
 use Rattle.mb_model.specs.machine.LayerEvents.{has_name}
-use Rattle.mb_appvm.specs.declared.instruction.Instruction.{Instruction}
-use Rattle.mb_appvm.specs.declared.instruction.Plain.{Plain}
+use Rattle.mb_model.specs.declared.instruction.Instruction.{Instruction}
+use Rattle.mb_model.specs.declared.instruction.Plain.{Plain}
 use Rattle.mb_appvm.specs.declared.environment.Environment.{Environment}
+use Rattle.mb_appvm.specs.declared.environment.Readable.{Readable}
 use Rattle.mb_appvm.specs.declared.machine.Machine.{Machine}
 use Rattle.mb_appvm.specs.declared.machine.Step.{Step}
 use Rattle.mb_appvm.specs.declared.machine.Step.TheVariants as step
-use Rattle.mb_appvm.specs.declared.running.Stop.{Stop}
-use Rattle.mb_appvm.specs.declared.running.Stop.TheVariants as stop
-use Rattle.mb_appvm.specs.declared.running.AppEnd.{AppEnd}
-use Rattle.mb_appvm.specs.declared.running.AppEnd.TheVariants as end
-use Rattle.mb_appvm.specs.Instructions.{Stands}
-use Rattle.mb_appvm.specs.Application.{AppState, Surroundings, StepOutcome, goes, run_halts, traps, takes, plain_takes}
-use Rattle.mb_appvm.specs.Application.{Does, DoesPlain, AppStep}
-use Rattle.mb_appvm.specs.Runs.{readable_secrets}
+use Rattle.mb_appvm.specs.declared.running.CodeEnd.{CodeEnd}
+use Rattle.mb_appvm.specs.declared.running.CodeEnd.TheVariants as code_end
+use Rattle.mb_model.specs.declared.running.AppEnd.{AppEnd}
+use Rattle.mb_model.specs.declared.running.AppEnd.TheVariants as end
+use Rattle.mb_model.specs.application.Instructions.{Stands}
+use Rattle.mb_model.specs.application.Application.{AppState, Surroundings, StepOutcome, goes, run_halts, traps}
+use Rattle.mb_model.specs.application.Application.{takes, plain_takes, Does, DoesPlain, AppStep}
+
+-- the secrets of a region, if those of regions 2 and 3 may be read that are given
+abbrev pub secrets_among : Option (List Secret) → Option (List Secret) → ℕ → Option (List Secret)
+secrets_among two three region = if region == 2 then two else if region == 3 then three else None
+
+-- the secrets of a region that the code's value lets a run read
+abbrev pub secrets_of : Readable → ℕ → Option (List Secret)
+secrets_of readable = secrets_among (option_copied readable.two) (option_copied readable.three)
 
 -- what the code's environment means
 abbrev pub surroundings_of : Environment → Surroundings
 surroundings_of environment = record {
   code = environment.code.now;
   input = environment.input.now;
-  secrets = readable_secrets environment.layers.now environment.layer environment.two.now environment.three.now;
+  secrets = secrets_of environment.readable;
 }
 
--- the running layer may not read a region, or may read these secrets of it
+-- the run may not read a region, or may read these secrets of it
 abbrev pub MayNotRead : Environment → ℕ → Type 0
 MayNotRead environment region = (surroundings_of environment).secrets region ≡ None
 
@@ -99,8 +108,8 @@ pub record DoesPlainOn (input : List ℕ) (kind : Plain) (next : ℕ) (old : Mac
   pub does : DoesPlain input kind next values (without_values old rest) (outcome_of result new)
   pub kept : KeepsMachine result old new
 
--- the end of a run that stops for this reason with this machine
-abbrev pub run_end : Stop → Machine → AppEnd
-run_end (stop.Halted steps) machine = end.Halted steps machine.output.items
-run_end (stop.Trap cause) machine = end.Trap cause machine.place machine.output.items
-run_end stop.OutOfSteps machine = end.OutOfSteps machine.output.items
+-- the end of a run that ends so and emitted these bytes
+abbrev pub end_with : CodeEnd → List ℕ → AppEnd
+end_with (code_end.Halted steps) output = end.Halted steps output
+end_with (code_end.Trap cause place) output = end.Trap cause place output
+end_with code_end.OutOfSteps output = end.OutOfSteps output

@@ -7,19 +7,19 @@ use Rattle.mb_model.specs.declared.limits.TheConstants.{CODE_LIMIT}
 use Rattle.mb_format.specs.Combinators.{same_bytes}
 use Rattle.mb_model.specs.chains.Lines.{HasLines}
 use Rattle.mb_model.specs.chains.Script.{IsName}
-use Rattle.mb_appvm.specs.declared.instruction.Operation.{Operation}
-use Rattle.mb_appvm.specs.declared.instruction.Operation.TheVariants as op
-use Rattle.mb_appvm.specs.declared.instruction.Plain.{Plain}
-use Rattle.mb_appvm.specs.declared.instruction.Plain.TheVariants as plain
-use Rattle.mb_appvm.specs.declared.instruction.Instruction.{Instruction}
-use Rattle.mb_appvm.specs.declared.instruction.Instruction.TheVariants as instruction
+use Rattle.mb_model.specs.declared.instruction.Operation.{Operation}
+use Rattle.mb_model.specs.declared.instruction.Operation.TheVariants as op
+use Rattle.mb_model.specs.declared.instruction.Plain.{Plain}
+use Rattle.mb_model.specs.declared.instruction.Plain.TheVariants as plain
+use Rattle.mb_model.specs.declared.instruction.Instruction.{Instruction}
+use Rattle.mb_model.specs.declared.instruction.Instruction.TheVariants as instruction
 use Rattle.mb_appvm.specs.declared.keyword.Jump.{Jump}
 use Rattle.mb_appvm.specs.declared.keyword.Jump.TheVariants as jump
 use Rattle.mb_appvm.specs.declared.keyword.Keyword.{Keyword}
 use Rattle.mb_appvm.specs.declared.keyword.Keyword.TheVariants as key
 use Rattle.mb_appvm.specs.declared.lines.Said.{Said}
 use Rattle.mb_appvm.specs.declared.lines.Said.TheVariants as says
-use Rattle.mb_appvm.specs.Instructions.{instruction_format}
+use Rattle.mb_model.specs.application.Instructions.{instruction_format}
 
 -- ---- words
 

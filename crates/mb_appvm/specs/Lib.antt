@@ -1,10 +1,9 @@
-pub mod Instructions
-pub mod Application
-pub mod Runs
 pub mod Acting
+pub mod Asking
 pub mod Assembly
 pub mod Reading
 pub mod Checking
 pub mod Labels
 pub mod Listing
+pub mod SecretTexts
 pub mod NumberLaws

@@ -4,9 +4,9 @@ use Rattle.mb_model.specs.declared.limits.TheConstants.{CODE_LIMIT}
 use Rattle.mb_model.specs.chains.Lines.{text_of}
 use Rattle.mb_appvm.specs.declared.disassembling.DisasmEnd.{DisasmEnd}
 use Rattle.mb_appvm.specs.declared.disassembling.DisasmEnd.TheVariants as end
-use Rattle.mb_appvm.specs.declared.instruction.Instruction.{Instruction}
+use Rattle.mb_model.specs.declared.instruction.Instruction.{Instruction}
 use Rattle.mb_appvm.specs.declared.lines.Said.TheVariants as says
-use Rattle.mb_appvm.specs.Instructions.{instruction_format, Stands}
+use Rattle.mb_model.specs.application.Instructions.{instruction_format, Stands}
 use Rattle.mb_appvm.specs.Assembly.{line_of, Assembles, AssemblyFailsAt}
 
 -- the line of an instruction, with a jump's place as a number

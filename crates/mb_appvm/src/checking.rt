@@ -2,13 +2,12 @@
 
 ghost use Rattle.std.specs.Prelude.{◌≡◌, ◌↔◌, ◌<◌, ◌≤◌, ◌+◌, ◌^◌, length, IsTrue};
 ghost use Rattle.mb_appvm.specs.Assembly.{size_of};
-ghost use Rattle.mb_appvm.specs.Instructions.{instruction_format};
+ghost use Rattle.mb_model.specs.application.Instructions.{instruction_format};
 ghost use Rattle.mb_appvm.specs.Checking.{IsFirstLabel, IsTarget, CountsSound};
 
 use crate::given::{Later, Lines};
-use crate::instruction::Instruction;
 use crate::lines::Said;
-use mb_model::CODE_LIMIT;
+use mb_model::{CODE_LIMIT, Instruction};
 
 /// The number of lines before the first that is not right. The text goes on with `later` after all of them.
 pub(crate) fn count_sound(lines: &Lines<'_>, later: &Later<'_>) -> usize

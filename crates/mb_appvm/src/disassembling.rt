@@ -9,9 +9,8 @@ ghost use Rattle.mb_appvm.specs.Assembly.{plain_word, operation_word, Assembles}
 ghost use Rattle.mb_appvm.specs.Listing.{instruction_line, DisassemblesTo};
 
 use crate::fetching::fetch;
-use crate::instruction::{Instruction, Operation, Plain};
 use mb_bytes::put_slice;
-use mb_model::{Bytes, NoMemory};
+use mb_model::{Bytes, Instruction, NoMemory, Operation, Plain};
 use std::alloc::Global;
 
 /// Why a code was not disassembled.

@@ -6,17 +6,16 @@ ghost use Rattle.std.specs.List.{list_any};
 ghost use Rattle.mb_model.specs.declared.limits.TheConstants.{CODE_LIMIT};
 ghost use Rattle.mb_format.specs.Combinators.{number};
 ghost use Rattle.mb_bytes.specs.Puts.{Puts};
-ghost use Rattle.mb_appvm.specs.Instructions.{plain_byte, instruction_format};
+ghost use Rattle.mb_model.specs.application.Instructions.{plain_byte, instruction_format};
 ghost use Rattle.mb_appvm.specs.Assembly.{size_of, is_label, IsSayable, IsPlaced};
 ghost use Rattle.mb_appvm.specs.Checking.{IsCode, IsGiven, AreMeasured, PutsLine};
-ghost use Rattle.mb_appvm.specs.declared.instruction.Plain.TheVariants as plain;
+ghost use Rattle.mb_model.specs.declared.instruction.Plain.TheVariants as plain;
 
 use crate::checking::size_of;
 use crate::given::Lines;
-use crate::instruction::{Instruction, Operation, Plain};
 use crate::lines::{Said, jump_to};
 use mb_bytes::{put_after_u8, put_u8, put_u16, put_u32};
-use mb_model::NoMemory;
+use mb_model::{Instruction, NoMemory, Operation, Plain};
 use std::alloc::Global;
 
 /// The code of lines that are sayable, jump only to labels among them, and make at most 32,768 bytes.
@@ -85,7 +84,7 @@ fn place_of(all: &Lines<'_>, places: &[u16], name: &[u8]) -> u16
 }
 
 /// Appends the bytes of an instruction.
-#[tactic(auto, unfolding(crate::specs::Instructions::instruction_format))]
+#[tactic(auto, unfolding(mb_model::specs::application::Instructions::instruction_format))]
 pub(crate) fn put_instruction(
     out: &mut Vec<u8>,
     instruction: &Instruction<'_>,

@@ -6,12 +6,11 @@ ghost use Rattle.mb_model.specs.declared.limits.TheConstants.{FILE_LIMIT, NAME_L
 ghost use Rattle.mb_format.specs.Combinators.{table, between, sized_that};
 ghost use Rattle.mb_bytes.specs.Reads.{bad_at, Reads};
 ghost use Rattle.mb_model.specs.records.RegionFormat.{is_name};
-ghost use Rattle.mb_appvm.specs.Instructions.{opcode_rows, opcode_byte, instruction_format};
+ghost use Rattle.mb_model.specs.application.Instructions.{opcode_rows, opcode_byte, instruction_format};
 ghost use Rattle.mb_appvm.specs.Acting.{Fetches};
 
-use crate::instruction::{Instruction, Name, Opcode, Operation, Plain};
 use mb_bytes::{Cursor, is_name, u8_between};
-use mb_model::{BadRecord, NAME_LIMIT};
+use mb_model::{BadRecord, Instruction, NAME_LIMIT, Name, Opcode, Operation, Plain};
 
 /// The instruction at an offset of a code, and the offset after it; `None` if no whole instruction stands there. The
 /// code has at most 4,194,304 bytes.
@@ -31,7 +30,7 @@ pub(crate) fn fetch(code: &[u8], place: u32) -> Option<(Instruction<'_>, u32)>
 }
 
 /// Reads an instruction.
-#[tactic(auto, unfolding(crate::specs::Instructions::instruction_format))]
+#[tactic(auto, unfolding(mb_model::specs::application::Instructions::instruction_format))]
 fn instruction_at<'a>(cursor: &mut Cursor<'a>) -> Result<Instruction<'a>, BadRecord>
     ensures { Reads bad_at instruction_format cursor.old result cursor.new }
 {
@@ -82,7 +81,7 @@ fn opcode_at(cursor: &mut Cursor<'_>) -> Result<Opcode, BadRecord>
 }
 
 /// Reads a name of 1 to 32 bytes after its length.
-fn name_at<'a>(cursor: &mut Cursor<'a>) -> Result<Name<'a>, BadRecord>
+pub(crate) fn name_at<'a>(cursor: &mut Cursor<'a>) -> Result<Name<'a>, BadRecord>
     ensures { Reads bad_at (sized_that is_name (between w8 1 NAME_LIMIT)) cursor.old result cursor.new }
 {
     let length = u8_between(cursor, 1, NAME_LIMIT)?;

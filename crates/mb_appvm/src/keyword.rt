@@ -4,7 +4,7 @@ ghost use Rattle.std.specs.Prelude.{◌≡◌};
 ghost use Rattle.mb_words.specs.Words.{FindsSome};
 ghost use Rattle.mb_appvm.specs.Assembly.{keyword_word};
 
-use crate::instruction::{Operation, Plain};
+use mb_model::{Operation, Plain};
 
 /// A kind of jump.
 #[derive(Clone, Copy, Debug, PartialEq, Eq)]

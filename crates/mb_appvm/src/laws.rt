@@ -1,16 +1,16 @@
 //! Laws of the definitions, and the numbers of the code, as the contracts of functions that do nothing.
 
-ghost use Rattle.mb_appvm.specs.Runs.{RunsEndOnce, RunsSeeNothingElse};
+ghost use Rattle.mb_model.specs.application.Runs.{RunsEndOnce, RunsSeeNothingElse};
 ghost use Rattle.mb_appvm.specs.Listing.{AssembliesAreClear, ListingsAssemble};
 ghost use Rattle.mb_appvm.specs.NumberLaws.{ApplicationNumbersAre};
 
-/// A run ends in one way. The code's numbers are bytes.
+/// A run ends in one way.
 pub fn runs_end_once()
     ensures { RunsEndOnce }
 {}
 
 /// What stands in regions that the running layer may not read changes nothing: devices that agree on the secrets that
-/// may be read have equal ends. The code's numbers are bytes.
+/// may be read have equal ends.
 pub fn runs_see_nothing_else()
     ensures { RunsSeeNothingElse }
 {}

@@ -1,9 +1,11 @@
 //! The application machine: what the code of layers 2 and 3 is and does, and how it is written as text.
 //!
-//! This crate owns the machine's instructions and their bytes, the run of a code on an input and on the secrets
-//! that its layer may read, the assembler and the disassembler.
+//! This crate owns the run of a code on an input and on the secrets that its layer may read, the reading of what code asks
+//! for by its output, the assembler and the disassembler, and the text of the secrets with which a code is tried. The
+//! machine's instructions and their bytes are defined in `mb_model`, and its types are offered here again.
 #![tactic(auto)]
 
+mod action;
 mod assembling;
 mod checking;
 mod disassembling;
@@ -11,26 +13,28 @@ mod encoding;
 mod environment;
 mod fetching;
 mod given;
-mod instruction;
 mod keyword;
 mod laws;
-mod limits;
 mod lines;
 mod machine;
 mod plain;
 mod running;
+mod secret_texts;
 mod secrets;
 mod table;
-mod trap;
 
+pub use action::{Action, Demand, Demands, action_in, read_action};
 pub use assembling::{AsmEnd, assemble};
 pub use disassembling::{DisasmEnd, disassemble};
-pub use instruction::{Instruction, Name, Opcode, Operation, Plain};
+pub use environment::Readable;
 pub use keyword::{Jump, Keyword};
 pub use laws::{
     assemblies_are_clear, listings_assemble, numbers_are, runs_end_once, runs_see_nothing_else,
 };
-pub use limits::{CALL_LIMIT, MEMORY_LENGTH, OUTPUT_LIMIT, STACK_LIMIT};
 pub use lines::Said;
-pub use running::{AppEnd, run_app};
-pub use trap::Trap;
+pub use mb_model::{
+    AppEnd, CALL_LIMIT, Instruction, MEMORY_LENGTH, Name, OUTPUT_LIMIT, Opcode, Operation, Plain,
+    STACK_LIMIT, Trap,
+};
+pub use running::{CodeEnd, run_app, run_code};
+pub use secret_texts::{read_secrets, write_secrets};

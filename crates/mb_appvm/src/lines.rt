@@ -7,9 +7,8 @@ ghost use Rattle.mb_appvm.specs.Assembly.{jump_to, IsLabelName, SaysAssemblyLine
 ghost use Rattle.mb_appvm.specs.declared.keyword.Keyword.TheVariants as key;
 ghost use Rattle.mb_appvm.specs.Reading.{SaysWords};
 
-use crate::instruction::{Instruction, Name};
 use crate::keyword::{Jump, Keyword, find_keyword};
-use mb_model::NAME_LIMIT;
+use mb_model::{Instruction, NAME_LIMIT, Name};
 use mb_words::{read_number, split_at_byte};
 
 /// The largest offset of a jump.
@@ -105,7 +104,7 @@ pub(crate) fn jump_to<'a>(kind: Jump, place: u16) -> Instruction<'a>
 }
 
 /// Whether the word is the name of a secret.
-fn is_name(word: &[u8]) -> bool
+pub(crate) fn is_name(word: &[u8]) -> bool
     ensures { IsTrue result ↔ IsName word.now }
 {
     !word.is_empty()

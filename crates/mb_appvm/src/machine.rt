@@ -3,20 +3,18 @@
 ghost use Rattle.std.specs.Prelude.{◌≡◌, ◌+◌, ◌<◌, ◌≤◌, ◌++◌, ◌∷◌, [], ℕ, length};
 ghost use Rattle.arrayvec.specs.ArrayVec.{array_vec_len};
 ghost use Rattle.mb_model.specs.declared.limits.TheConstants.{FILE_LIMIT};
-ghost use Rattle.mb_appvm.specs.declared.limits.TheConstants.{STACK_LIMIT};
-ghost use Rattle.mb_appvm.specs.Application.{Surroundings, takes, leaves};
-ghost use Rattle.mb_appvm.specs.Application.{plain_takes, plain_leaves};
-ghost use Rattle.mb_appvm.specs.Runs.{first_state};
+ghost use Rattle.mb_model.specs.declared.limits.TheConstants.{STACK_LIMIT};
+ghost use Rattle.mb_model.specs.application.Application.{Surroundings, takes, leaves};
+ghost use Rattle.mb_model.specs.application.Application.{plain_takes, plain_leaves};
+ghost use Rattle.mb_model.specs.application.Runs.{first_state};
 ghost use Rattle.mb_appvm.specs.Acting.{state_of, surroundings_of, DoesStep, DoesOn};
-ghost use Rattle.mb_appvm.specs.declared.instruction.Instruction.TheVariants as instruction;
+ghost use Rattle.mb_model.specs.declared.instruction.Instruction.TheVariants as instruction;
 ghost use Rattle.mb_appvm.specs.declared.machine.Step.TheVariants as step;
 
 use crate::environment::Environment;
 use crate::fetching::fetch;
-use crate::instruction::{Instruction, Plain};
-use crate::limits::{CALL_LIMIT, MEMORY_LENGTH, OUTPUT_LIMIT, STACK_LIMIT};
-use crate::trap::Trap;
 use arrayvec::ArrayVec;
+use mb_model::{CALL_LIMIT, Instruction, MEMORY_LENGTH, OUTPUT_LIMIT, Plain, STACK_LIMIT, Trap};
 
 /// A machine between two instructions.
 #[derive(Drop)]

@@ -3,16 +3,14 @@
 ghost use Rattle.std.specs.Prelude.{◌≡◌, ◌+◌, ◌<◌, ◌≤◌, ℕ, List, length, get_or};
 ghost use Rattle.arrayvec.specs.ArrayVec.{array_vec_len};
 ghost use Rattle.mb_model.specs.declared.limits.TheConstants.{FILE_LIMIT};
-ghost use Rattle.mb_appvm.specs.declared.limits.TheConstants.{STACK_LIMIT};
-ghost use Rattle.mb_appvm.specs.Application.{plain_takes, plain_leaves, result_of};
+ghost use Rattle.mb_model.specs.declared.limits.TheConstants.{STACK_LIMIT};
+ghost use Rattle.mb_model.specs.application.Application.{plain_takes, plain_leaves, result_of};
 ghost use Rattle.mb_appvm.specs.Acting.{DoesPlainOn};
-ghost use Rattle.mb_appvm.specs.declared.instruction.Plain.TheVariants as plain;
+ghost use Rattle.mb_model.specs.declared.instruction.Plain.TheVariants as plain;
 
-use crate::instruction::{Operation, Plain};
-use crate::limits::MEMORY_LENGTH;
 use crate::machine::{Machine, Step};
 use crate::secrets::write;
-use crate::trap::Trap;
+use mb_model::{MEMORY_LENGTH, Operation, Plain, Trap};
 
 impl Machine {
     /// Does an instruction whose values are there and whose results have room.

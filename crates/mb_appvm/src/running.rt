@@ -1,34 +1,55 @@
 //! The run of an application.
 
-ghost use Rattle.std.specs.Prelude.{◌≤◌, length, IfOk};
-ghost use Rattle.mb_model.specs.declared.limits.TheConstants.{FILE_LIMIT};
-ghost use Rattle.mb_appvm.specs.Runs.{readable_secrets, RunsTo, AppRun};
-ghost use Rattle.mb_appvm.specs.Acting.{state_of, surroundings_of, run_end};
+ghost use Rattle.std.specs.Prelude.{◌≡◌, ◌≤◌, length, IfOk, vec_capacity};
+ghost use Rattle.mb_model.specs.declared.limits.TheConstants.{FILE_LIMIT, OUTPUT_LIMIT};
+ghost use Rattle.mb_model.specs.application.Runs.{readable_secrets, RunsTo, AppRun};
+ghost use Rattle.mb_appvm.specs.Acting.{state_of, secrets_of, surroundings_of, end_with};
 
-use crate::environment::Environment;
+use crate::environment::{Environment, Readable};
 use crate::machine::{Machine, Step};
-use crate::trap::Trap;
-use mb_model::{Bytes, Layers, NoMemory, Region};
+use mb_model::{AppEnd, Bytes, Layers, NoMemory, Region, Trap};
 use std::alloc::Global;
 
-/// How a run ends. The output is what was emitted until then.
-#[derive(Drop)]
-pub enum AppEnd {
+/// How a run ends, without what was emitted.
+#[derive(Clone, Copy)]
+pub enum CodeEnd {
     /// A `halt`, the last of this many steps.
-    Halted {
-        steps: u32,
-        output: Bytes,
-    },
+    Halted { steps: u32 },
     /// A trap of the instruction at this place.
-    Trap {
-        cause: Trap,
-        place: u32,
-        output: Bytes,
-    },
+    Trap { cause: Trap, place: u32 },
     /// As many steps as were allowed, without an end.
-    OutOfSteps {
-        output: Bytes,
-    },
+    OutOfSteps,
+}
+
+/// Runs a code on an input and on the secrets that it may read, for at most `steps` steps; an executed instruction is a
+/// step, including one that ends the run. What was emitted replaces the bytes of `output`, which has the room; no
+/// memory is taken. The code and the input have at most 4,194,304 bytes each.
+pub fn run_code(
+    code: &[u8],
+    input: &[u8],
+    readable: Readable<'_>,
+    steps: u32,
+    output: &mut Vec<u8>,
+) -> CodeEnd
+    requires code { length code.now ≤ FILE_LIMIT }
+    requires input { length input.now ≤ FILE_LIMIT }
+    requires room { OUTPUT_LIMIT ≤ vec_capacity output.old }
+    ensures ran { AppRun code.now input.now (secrets_of readable.entry) steps (end_with result output.new.items) }
+    ensures short { length output.new.items ≤ OUTPUT_LIMIT }
+    ensures room { OUTPUT_LIMIT ≤ vec_capacity output.new }
+{
+    let environment = Environment {
+        code,
+        input,
+        readable,
+    };
+    let mut machine = Machine::new();
+    let ending = run(&mut machine, &environment, steps);
+    output.clear();
+    match output.extend_from_slice(machine.output.as_slice()) {
+        Ok(()) => ending,
+        Err(_) => unreachable!(),
+    }
 }
 
 /// Runs a code on an input, as the code of a layer of a device with these layers and these regions of layers 2 and 3,
@@ -54,48 +75,48 @@ pub fn run_app(
     let environment = Environment {
         code,
         input,
-        layer,
-        layers,
-        two,
-        three,
+        readable: Readable::of(layer, layers, two, three),
     };
     let mut machine = Machine::new();
-    let stop = run(&mut machine, &environment, steps);
+    let ending = run(&mut machine, &environment, steps);
     let output = Bytes::copy(alloc, machine.output.as_slice())?;
-    Ok(match stop {
-        Stop::Halted { steps } => AppEnd::Halted { steps, output },
-        Stop::Trap(cause) => AppEnd::Trap {
-            cause,
-            place: machine.place,
-            output,
-        },
-        Stop::OutOfSteps => AppEnd::OutOfSteps { output },
-    })
+    Ok(ending.with(output))
 }
 
-/// Why a machine is executed no further.
-#[derive(Clone, Copy)]
-pub enum Stop {
-    /// A `halt`, the last of this many steps.
-    Halted { steps: u32 },
-    /// A trap of the instruction at the machine's place.
-    Trap(Trap),
-    /// All steps were done.
-    OutOfSteps,
+impl CodeEnd {
+    /// The end of a run that emitted these bytes.
+    pub fn with(self, output: Bytes) -> AppEnd
+        ensures { result ≡ end_with self output }
+    {
+        match self {
+            CodeEnd::Halted { steps } => AppEnd::Halted { steps, output },
+            CodeEnd::Trap { cause, place } => AppEnd::Trap {
+                cause,
+                place,
+                output,
+            },
+            CodeEnd::OutOfSteps => AppEnd::OutOfSteps { output },
+        }
+    }
 }
 
 /// Executes at most `steps` instructions.
-fn run(machine: &mut Machine, environment: &Environment<'_>, steps: u32) -> Stop
+fn run(machine: &mut Machine, environment: &Environment<'_>, steps: u32) -> CodeEnd
     requires code { length environment.now.code.now ≤ FILE_LIMIT }
     requires input { length environment.now.input.now ≤ FILE_LIMIT }
-    ensures { RunsTo (surroundings_of environment.now) (state_of machine.old) 0 steps (run_end result machine.new) }
+    ensures { RunsTo (surroundings_of environment.now) (state_of machine.old) 0 steps (end_with result machine.new.output.items) }
 {
     for done in 0..steps {
         match machine.step(environment) {
             Step::GoesOn => {}
-            Step::Ends => return Stop::Halted { steps: done + 1 },
-            Step::Traps(cause) => return Stop::Trap(cause),
+            Step::Ends => return CodeEnd::Halted { steps: done + 1 },
+            Step::Traps(cause) => {
+                return CodeEnd::Trap {
+                    cause,
+                    place: machine.place,
+                };
+            }
         }
     }
-    Stop::OutOfSteps
+    CodeEnd::OutOfSteps
 }

@@ -4,15 +4,13 @@ ghost use Rattle.std.specs.Prelude.{◌≡◌, ◌↔◌, ◌+◌, ◌<◌, ◌�
 ghost use Rattle.std.specs.Prelude.{IsTrue, IfSome, MatchOption};
 ghost use Rattle.arrayvec.specs.ArrayVec.{array_vec_len};
 ghost use Rattle.mb_model.specs.machine.LayerEvents.{has_name};
-ghost use Rattle.mb_appvm.specs.declared.limits.TheConstants.{STACK_LIMIT, MEMORY_LENGTH};
+ghost use Rattle.mb_model.specs.declared.limits.TheConstants.{STACK_LIMIT, MEMORY_LENGTH};
 ghost use Rattle.mb_appvm.specs.Acting.{surroundings_of, DoesOn, LacksSecret, HasSecret};
-ghost use Rattle.mb_appvm.specs.declared.instruction.Instruction.TheVariants as instruction;
+ghost use Rattle.mb_model.specs.declared.instruction.Instruction.TheVariants as instruction;
 
 use crate::environment::Environment;
-use crate::limits::MEMORY_LENGTH;
 use crate::machine::{Machine, Step};
-use crate::trap::Trap;
-use mb_model::Secret;
+use mb_model::{MEMORY_LENGTH, Secret, Trap};
 
 impl Machine {
     /// Takes a region and an address, copies the named secret to memory from there, and pushes its length, or
@@ -63,7 +61,7 @@ fn place_of(secrets: &[Secret], name: &[u8]) -> Option<usize>
 }
 
 /// Whether the secret has the name.
-fn is_named(secret: &Secret, name: &[u8]) -> bool
+pub(crate) fn is_named(secret: &Secret, name: &[u8]) -> bool
     ensures { result ≡ has_name name.now secret.now }
 {
     secret.name.as_slice() == name

@@ -1,8 +1,11 @@
 -- What writes of code, header and log leave of a flash, and of what the memory holds.
-use Rattle.std.proofs.Common.{◌≡◌, ◌≢◌, ℕ, ◌+◌, ◌*◌, ◌-◌, ◌<◌, ◌≤◌, ◌==◌, ◌⊎◌, inl, inr, Bool, false, List, length, drop, OnOk, Result, Ok, Err, refl, sym, ap, subst, ◌∙◌, arith, rules}
-use Rattle.std.specs.Prelude.{if◌then◌else◌}
+use Rattle.std.proofs.Common.{◌≡◌, ◌≢◌, ℕ, ◌+◌, ◌*◌, ◌-◌, ◌<◌, ◌≤◌, ◌==◌, ◌⊎◌, inl, inr, Bool, true, false, cond, List, [], ◌∷◌, length, take, drop, Option, None, Some, OnOk, Result, Ok, Err, refl, sym, ap, subst, ◌∙◌, arith, rules}
+use Rattle.std.specs.Prelude.{◌&&◌, if◌then◌else◌}
+use Rattle.std.specs.Str.{bytes_eq}
 use Rattle.std.proofs.lemmas.Bool.{cases_order, ne_eqb}
-use Rattle.std.proofs.lemmas.List.{take-take}
+use Rattle.std.proofs.lemmas.List.{take-take, length-take}
+use Rattle.mb_format.specs.Combinators.{same_bytes}
+use Rattle.mb_format.proofs.Fields.{same_bytes-true}
 use Rattle.mb_model.specs.declared.stored.Root.{Root}
 use Rattle.mb_model.specs.declared.stored.Slot.{Slot}
 use Rattle.mb_model.specs.declared.stored.Header.{Header}
@@ -10,7 +13,9 @@ use Rattle.mb_model.specs.outside.Board.{Memory}
 use Rattle.mb_model.specs.memories.Meaning.{RootIn, HoldsContents}
 use Rattle.mb_model.specs.outside.Pieces.{part}
 use Rattle.mb_model.specs.memories.Sectors.{header_sector, code_sector, log_sector}
-use Rattle.mb_model.specs.memories.Flash.{sector, code_slot, HoldsHeader}
+use Rattle.mb_model.specs.machine.Actions.{call_word, begins_with_call_word}
+use Rattle.mb_model.specs.machine.LayerEvents.{takes_calls}
+use Rattle.mb_model.specs.memories.Flash.{sector, code_slot, HoldsHeader, HoldsCode}
 use Rattle.mb_model_lemmas.proofs.HeldSegments.{front_of_sector, front_of_slot}
 use Rattle.mb_model_lemmas.proofs.PublicLemmas.{bounded_by}
 use Rattle.mb_model_memory.specs.FlashInForce.{slot_in, AgreeForArea, IsFreeSlot, IsUncounted, DiffersOnlyIn, BeginsWithBytes, IsSectorWritten}
@@ -53,6 +58,53 @@ pub code_there : (flash front : List ℕ) (layer slot n : ℕ) → n ≡ code_se
 unfolding code_slot
 code_there flash front layer slot n is short there =
     ap (λ k. part (4096 * k) (length front) flash) is ∙ sym (take-take (length front) 32768 (drop (4096 * code_sector layer slot) flash) short) ∙ there
+
+-- ---- code that takes calls
+
+-- the first bytes of a slot, as they were read
+pub front_read : (flash : List ℕ) (layer slot n count : ℕ) → n ≡ code_sector layer slot → count ≤ 32768 → part (4096 * n) count flash ≡ take count (code_slot flash layer slot)
+unfolding code_slot
+front_read flash layer slot n count is short =
+    ap (λ k. part (4096 * k) count flash) is ∙ sym (take-take count 32768 (drop (4096 * code_sector layer slot) flash) short)
+
+-- what `==` says of bytes
+pub same_is : (xs ys : List ℕ) → bytes_eq xs ys ≡ same_bytes xs ys
+same_is [] [] = refl
+same_is [] (y ∷ ys) = refl
+same_is (x ∷ xs) [] = refl
+same_is (x ∷ xs) (y ∷ ys) = both (x == y) (bytes_eq xs ys) (same_bytes xs ys) (same_is xs ys)
+  where
+    both : (b r s : Bool) → r ≡ s → (b && r) ≡ cond b s false
+    both true r s e = e
+    both false r s e = refl
+
+-- the code begins as its slot does
+pub front_of_code : (bytes code : List ℕ) (n : ℕ) → 6 ≤ n → code ≡ take n bytes → take 6 code ≡ take 6 bytes
+front_of_code bytes code n most is = ap (take 6) is ∙ take-take 6 n bytes most
+
+-- code of less than six bytes takes no calls
+short_takes_none : (code : List ℕ) → length code < 6 → false ≡ begins_with_call_word code
+short_takes_none code short = by (begins_with_call_word code) refl
+  where
+    by : (b : Bool) → begins_with_call_word code ≡ b → false ≡ begins_with_call_word code
+    by false e = sym e
+    by true e = absurd (omega (arith, short, length-take 6 code, ap length (same_bytes-true (take 6 code) call_word e)))
+
+-- where no slot is named, or one with less than six bytes, there is no code that takes calls
+pub none_named : (flash : List ℕ) (layer : ℕ) (slot : Slot) → slot.which ≡ 0 → (code : Option (List ℕ)) → HoldsCode flash layer slot code → false ≡ takes_calls code
+none_named flash layer slot none None holds = refl
+none_named flash layer slot none (Some code) holds = absurd (holds.0 none)
+
+pub short_named : (flash : List ℕ) (layer : ℕ) (slot : Slot) → slot.length < 6 → (code : Option (List ℕ)) → HoldsCode flash layer slot code → false ≡ takes_calls code
+short_named flash layer slot short None holds = refl
+short_named flash layer slot short (Some code) holds =
+    short_takes_none code (omega (arith, short, ap length holds.1, length-take slot.length (code_slot flash layer slot.which)))
+
+pub word_named : (flash : List ℕ) (layer : ℕ) (slot : Slot) (front : List ℕ) → slot.which ≢ 0 → 6 ≤ slot.length → front ≡ take 6 (code_slot flash layer slot.which)
+    → (code : Option (List ℕ)) → HoldsCode flash layer slot code → same_bytes front call_word ≡ takes_calls code
+word_named flash layer slot front some most read None holds = absurd (some holds)
+word_named flash layer slot front some most read (Some code) holds =
+    ap (λ (xs : List ℕ). same_bytes xs call_word) (read ∙ sym (front_of_code (code_slot flash layer slot.which) code slot.length most holds.1))
 
 -- ---- the header of an area
 

@@ -3,6 +3,7 @@ use Rattle.std.specs.Prelude.{◌≡◌, ◌≢◌, ℕ, ◌+◌, ◌-◌, ◌<�
 use Rattle.std.specs.Prelude.{List, length, Option, None, Some, IfSome}
 use Rattle.mb_model.specs.declared.limits.TheConstants.{CODE_LIMIT, ENTRY_LIMIT, SECTOR_LENGTH}
 use Rattle.mb_model.specs.declared.stored.Header.{Header}
+use Rattle.mb_model.specs.declared.stored.Slot.{Slot}
 use Rattle.mb_model.specs.declared.stored.Root.{Root}
 use Rattle.mb_model.specs.outside.Board.{Memory}
 use Rattle.mb_model.specs.memories.Flash.{sector, code_slot}
@@ -14,6 +15,11 @@ use Rattle.mb_model_memory.specs.NextHeaders.{free_slot, IsCodeWritten}
 use Rattle.mb_flash.specs.Sectors.{sectors_for}
 use Rattle.mb_area.specs.Roots.{IsOnlyRoot}
 use Rattle.mb_layout.specs.declared.room.Room.{Room}
+
+-- a slot that a header can name: none, or one of the two of a layer, with code that fits
+pub record CanBeNamed (slot : Slot) : Type 0 where
+  pub which : slot.which ≤ 2
+  pub short : slot.length ≤ CODE_LIMIT
 
 -- bytes begin with some header
 pub record BeginWithHeader (bytes : List ℕ) : Type 0 where

@@ -13,6 +13,6 @@ mod root;
 mod state;
 
 pub use first_look::{Looked, look};
-pub use public::{read_header, read_log, write_log, write_public};
+pub use public::{read_code, read_header, read_log, takes_calls, write_log, write_public};
 pub use root::{commit_root, finish_root, read_root, wipe_root};
 pub use state::{Unsettled, Unwiped, Working};

@@ -1,16 +1,19 @@
 //! The code, headers and log in the flash.
 
-ghost use Rattle.std.specs.Prelude.{◌≡◌, ◌≤◌, ◌<◌, ◌-◌, length, vec_capacity};
+ghost use Rattle.std.specs.Prelude.{◌≡◌, ◌≤◌, ◌<◌, ◌-◌, List, ℕ, length, take, vec_capacity, Option, Some};
 ghost use Rattle.mb_model.specs.declared.limits.TheConstants.{CODE_LIMIT, ENTRY_LIMIT, SECTOR_COUNT, SECTOR_LENGTH};
 ghost use Rattle.mb_model.specs.declared.stored.Header.{Header};
-ghost use Rattle.mb_model.specs.memories.Flash.{sector, HoldsHeader};
+ghost use Rattle.mb_format.specs.Combinators.{same_bytes};
+ghost use Rattle.mb_model.specs.machine.Actions.{call_word};
+ghost use Rattle.mb_model.specs.machine.LayerEvents.{takes_calls};
+ghost use Rattle.mb_model.specs.memories.Flash.{sector, code_slot, HoldsHeader, HoldsCode};
 ghost use Rattle.mb_model.specs.records.HeaderFormat.{header_format};
 ghost use Rattle.mb_model.specs.memories.Sectors.{header_sector, log_sector, BeginsAs};
 ghost use Rattle.mb_board.specs.Calls.{IsPowered, IsUp};
 ghost use Rattle.mb_model_memory.specs.FlashInForce.{slot_in};
 ghost use Rattle.mb_model_memory.specs.NextHeaders.{free_slot};
 ghost use Rattle.mb_layout.specs.Plans.{SameBesidesHeader, SameBesidesLog};
-ghost use Rattle.mb_area.specs.Flashes.{IsFreePosition, IsCurrentArea, BeginWithHeader, HoldsSomeHeader, IsPlan};
+ghost use Rattle.mb_area.specs.Flashes.{IsFreePosition, IsCurrentArea, BeginWithHeader, HoldsSomeHeader, IsPlan, CanBeNamed};
 ghost use Rattle.mb_area.specs.Calls.{StoresSector, StoresCode, CanWritePublic, WritesCode, WritesPublic, WritesLog};
 
 use mb_board::{Board, Stopped};
@@ -19,6 +22,9 @@ use mb_layout::Room;
 use mb_model::{SECTOR_LENGTH, Slot};
 use mb_ratchet::{Off, One, Reaches};
 use mb_segments::{code_sector, header_at, header_sector, log_sector};
+
+/// The bytes with which code begins that takes calls: `push 1296193585` and `pop`.
+const CALL_WORD: [u8; 6] = [0x01, 0x4D, 0x42, 0x58, 0x31, 0x02];
 
 // ---- reading
 
@@ -52,6 +58,64 @@ pub fn read_log<B: Board>(b: &B, position: u32, room: &mut Room)
     ensures plans { SameBesidesLog room.old room.new }
 {
     read_sector(b, log_sector(position), &mut room.log);
+}
+
+/// Replaces `out` by the first bytes of a slot of a layer, as many as `out` has.
+fn read_front<B: Board>(b: &B, layer: u8, slot: u8, out: &mut [u8])
+    requires powered { IsPowered (B.seen b.now) }
+    requires layer { (1 ≤ layer) × (layer ≤ 3) }
+    requires slot { (1 ≤ slot) × (slot ≤ 2) }
+    requires short { length out.old ≤ CODE_LIMIT }
+    ensures { out.new ≡ take (length out.old) (code_slot (B.seen b.now).memory.flash layer slot) }
+{
+    let first = code_sector(layer, slot);
+    b.flash_read(SECTOR_LENGTH as u32 * u32::from(first), out);
+}
+
+/// Replaces the bytes of a buffer by the code of a layer, 1 to 3, that stands in this slot; by none if no slot is
+/// named. The buffer has room for it. Writes nothing and takes no memory.
+pub fn read_code<B: Board>(b: &B, layer: u8, slot: Slot, out: &mut Vec<u8>)
+    requires powered { IsPowered (B.seen b.now) }
+    requires layer { (1 ≤ layer) × (layer ≤ 3) }
+    requires slot { CanBeNamed slot }
+    requires room { CODE_LIMIT ≤ vec_capacity out.old }
+    ensures read { (code : List ℕ) → HoldsCode (B.seen b.now).memory.flash layer slot (Some code)
+        → out.new.items ≡ code }
+    ensures capacity { vec_capacity out.old ≤ vec_capacity out.new }
+{
+    out.clear();
+    if slot.which == 0 {
+        return;
+    }
+    let _ = out.resize(slot.length as usize, 0);
+    read_front(b, layer, slot.which, out);
+}
+
+/// Whether the bytes are those with which code begins that takes calls.
+fn is_call_word(bytes: &[u8]) -> bool
+    ensures { result ≡ same_bytes bytes.now call_word }
+{
+    bytes == CALL_WORD.as_slice()
+}
+
+/// Whether the code of a layer, 1 to 3, that stands in this slot takes calls; no code takes any. Reads six bytes of the
+/// flash, writes nothing, and takes no memory.
+pub fn takes_calls<B: Board>(b: &B, layer: u8, slot: Slot) -> bool
+    requires powered { IsPowered (B.seen b.now) }
+    requires layer { (1 ≤ layer) × (layer ≤ 3) }
+    requires slot { CanBeNamed slot }
+    ensures { (code : Option (List ℕ)) → HoldsCode (B.seen b.now).memory.flash layer slot code
+        → result ≡ takes_calls code }
+{
+    if slot.which == 0 {
+        return false;
+    }
+    if slot.length < 6 {
+        return false;
+    }
+    let mut front = [0; 6];
+    read_front(b, layer, slot.which, &mut front);
+    is_call_word(&front)
 }
 
 // ---- one sector, and one slot

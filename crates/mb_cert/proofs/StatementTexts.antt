@@ -36,5 +36,5 @@ line_finds line bytes hex (Err why.Form) none =
 line_finds line bytes hex (Err why.NoMemory) none = tt
 
 -- bytes that are too many spell no statement
-pub too_long : (bytes : List ℕ) → 2481 < length bytes → (statement : Statement) → Spells statement_format bytes statement → ⊥
+pub too_long : (bytes : List ℕ) → 2514 < length bytes → (statement : Statement) → Spells statement_format bytes statement → ⊥
 too_long bytes long statement spelled = omega (arith, long, ap length spelled.whole, statement_short.short statement spelled.allowed)

@@ -2,18 +2,86 @@
 
 ghost use Rattle.std.specs.Prelude.{◌≤◌, length};
 ghost use Rattle.mb_model.specs.declared.limits.TheConstants.{FILE_LIMIT};
-ghost use Rattle.mb_model.specs.records.ChainFormat.{statement_format};
-ghost use Rattle.mb_bytes.specs.Reads.{ReadsWhole};
-ghost use Rattle.mb_bytes.specs.Puts.{Writes};
+ghost use Rattle.mb_model.specs.records.ChainFormat.{answered_format, asked_format, statement_format};
+ghost use Rattle.mb_bytes.specs.Reads.{Reads, ReadsWhole};
+ghost use Rattle.mb_bytes.specs.Puts.{Puts, Writes};
 ghost use Rattle.mb_bytes.specs.Ends.{end_at};
 
 use crate::end::ChainEnd;
 use mb_bytes::{
-    Cursor, Field, WriteField, bytes_after_u8, put_after_u8, put_slice, put_u32, read_whole,
-    write_field,
+    Cursor, Field, WriteField, bytes_after_u8, put_after_u8, put_slice, put_u8, put_u32,
+    read_whole, u8_between, write_field,
 };
-use mb_model::{Bytes, MESSAGE_LIMIT, NoMemory, Statement};
+use mb_model::{Bytes, CALL_MARK, MESSAGE_LIMIT, NoMemory, Said, Statement};
 use std::alloc::Global;
+
+/// What a call's statement says, after the byte that marks it.
+#[tactic(auto, unfolding(mb_model::specs::records::ChainFormat::answered_format))]
+fn answer_at(alloc: Global, cursor: &mut Cursor<'_>) -> Result<Said, ChainEnd>
+    ensures { Reads end_at answered_format cursor.old result cursor.new }
+{
+    let input = cursor.take_array()?;
+    let answer = bytes_after_u8(cursor, 0, MESSAGE_LIMIT)?;
+    Ok(Said::Answer {
+        input,
+        answer: Bytes::copy(alloc, answer)?,
+    })
+}
+
+/// A message of this many bytes.
+#[tactic(auto, unfolding(mb_model::specs::records::ChainFormat::asked_format))]
+fn message_at(alloc: Global, cursor: &mut Cursor<'_>, size: u8) -> Result<Said, ChainEnd>
+    ensures { Reads end_at (asked_format size) cursor.old result cursor.new }
+{
+    let message = cursor.take_slice(size as u32)?;
+    Ok(Said::Message(Bytes::copy(alloc, message)?))
+}
+
+/// What a statement says: a message after its length, or an answer after the byte that marks it.
+struct SaidField;
+
+#[tactic(auto, unfolding(mb_model::specs::records::ChainFormat::said_format))]
+impl Field for SaidField {
+    ghost use Rattle.mb_model.specs.records.ChainFormat.{said_format};
+    ghost use Rattle.mb_model.proofs.EntryFormatLaws.{said_exact};
+
+    type Value = Said;
+
+    type Needs = Global;
+
+    type End = ChainEnd;
+
+    ghost format = { said_format };
+
+    fn read_at(alloc: Global, cursor: &mut Cursor<'_>) -> Result<Said, ChainEnd> {
+        let size = u8_between(cursor, 0, CALL_MARK)?;
+        if size == CALL_MARK {
+            answer_at(alloc, cursor)
+        } else {
+            message_at(alloc, cursor, size)
+        }
+    }
+
+    ghost exact = { said_exact };
+}
+
+#[tactic(auto, unfolding(mb_model::specs::records::ChainFormat::said_format, mb_model::specs::records::ChainFormat::answered_format, mb_model::specs::records::ChainFormat::asked_format))]
+impl WriteField for SaidField {
+    ghost use Rattle.mb_cert.specs.Bounds.{SaidFits};
+
+    ghost Fits = { SaidFits };
+
+    fn put(said: &Said, out: &mut Vec<u8>) -> Result<(), NoMemory> {
+        match said {
+            Said::Message(message) => put_after_u8(out, message.as_slice()),
+            Said::Answer { input, answer } => {
+                put_u8(out, CALL_MARK)?;
+                put_slice(out, input)?;
+                put_after_u8(out, answer.as_slice())
+            }
+        }
+    }
+}
 
 /// A statement.
 pub(crate) struct StatementField;
@@ -33,11 +101,11 @@ impl Field for StatementField {
 
     fn read_at(alloc: Global, cursor: &mut Cursor<'_>) -> Result<Statement, ChainEnd> {
         let number = cursor.take_u32()?;
-        let message = bytes_after_u8(cursor, 0, MESSAGE_LIMIT)?;
+        let said = SaidField::read_at(alloc, cursor)?;
         let signature = cursor.take_array()?;
         Ok(Statement {
             number,
-            message: Bytes::copy(alloc, message)?,
+            said,
             signature,
         })
     }
@@ -53,7 +121,7 @@ impl WriteField for StatementField {
 
     fn put(statement: &Statement, out: &mut Vec<u8>) -> Result<(), NoMemory> {
         put_u32(out, statement.number)?;
-        put_after_u8(out, statement.message.as_slice())?;
+        SaidField::put(&statement.said, out)?;
         put_slice(out, &statement.signature)
     }
 }
@@ -69,9 +137,9 @@ pub fn read_statement(alloc: Global, bytes: &[u8]) -> Result<Statement, ChainEnd
     read_whole::<StatementField>(alloc, bytes)
 }
 
-/// Appends the spelling of the statement, whose message has at most 128 bytes, or leaves `out` as it was. It does not
-/// fail if the capacity of `out` holds the spelling.
-#[tactic(auto, using(crate::proofs::Sizes::message_fits))]
+/// Appends the spelling of the statement, whose message or answer has at most 128 bytes, or leaves `out` as it was. It
+/// does not fail if the capacity of `out` holds the spelling.
+#[tactic(auto, using(crate::proofs::Sizes::statement_fits))]
 pub fn write_statement(statement: &Statement, out: &mut Vec<u8>) -> Result<(), NoMemory>
     requires { statement_format.Allowed statement.now }
     ensures { Writes (statement_format.spelling statement.now) out.old result out.new }

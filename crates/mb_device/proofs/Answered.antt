@@ -37,6 +37,7 @@ if_boot (event.Put M name value) P is = tt
 if_boot (event.Get M name) P is = tt
 if_boot (event.Drop M name) P is = tt
 if_boot (event.Sign M key message) P is = tt
+if_boot (event.Call M key input) P is = tt
 
 pub undone_kept : (e : Event) (answer : Reply) (after : Device) → is_done answer ≡ false → KeepsTreeOnceDone e answer after
 undone_kept event.Boot answer after undone = tt
@@ -50,6 +51,7 @@ undone_kept (event.Put M name value) answer after undone = tt
 undone_kept (event.Get M name) answer after undone = tt
 undone_kept (event.Drop M name) answer after undone = tt
 undone_kept (event.Sign M key message) answer after undone = tt
+undone_kept (event.Call M key input) answer after undone = tt
 
 -- of a layer's use of its region nothing is said that is of boots and orders
 pub layer_boots_none : (e : Event) (P : Type 0) → IsLayerEvent e → IfBoot e P
@@ -64,6 +66,7 @@ layer_boots_none (event.Put M name value) P is = tt
 layer_boots_none (event.Get M name) P is = tt
 layer_boots_none (event.Drop M name) P is = tt
 layer_boots_none (event.Sign M key message) P is = tt
+layer_boots_none (event.Call M key input) P is = absurd is
 
 pub layer_done_none : (e : Event) (answer : Reply) (after : Device) → IsLayerEvent e → KeepsTreeOnceDone e answer after
 layer_done_none event.Boot answer after is = absurd is
@@ -77,6 +80,7 @@ layer_done_none (event.Put M name value) answer after is = tt
 layer_done_none (event.Get M name) answer after is = tt
 layer_done_none (event.Drop M name) answer after is = tt
 layer_done_none (event.Sign M key message) answer after is = tt
+layer_done_none (event.Call M key input) answer after is = absurd is
 
 pub layer_makes_none : (e : Event) (world : World) (keys : ℕ) → IsLayerEvent e → MakesKeysOf world e keys → ⊥
 layer_makes_none event.Boot world keys is makes = absurd is
@@ -90,6 +94,7 @@ layer_makes_none (event.Put M name value) world keys is makes = makes
 layer_makes_none (event.Get M name) world keys is makes = makes
 layer_makes_none (event.Drop M name) world keys is makes = makes
 layer_makes_none (event.Sign M key message) world keys is makes = makes
+layer_makes_none (event.Call M key input) world keys is makes = absurd is
 
 pub uncut : (answer : Reply) → may_have_written answer ≡ false → may_be_cut answer ≡ false
 uncut reply.Booted unwritten = unwritten
@@ -103,6 +108,7 @@ uncut reply.Dropped unwritten = unwritten
 uncut (reply.Value value) unwritten = unwritten
 uncut reply.Absent unwritten = unwritten
 uncut (reply.Signed key index statement) unwritten = unwritten
+uncut (reply.Called value) unwritten = unwritten
 uncut (reply.Status serial number size one two three) unwritten = unwritten
 uncut (reply.Refused number) unwritten = unwritten
 uncut reply.Stopped unwritten = refl
@@ -122,6 +128,7 @@ layer_taken (event.Put M name value) is held = refl
 layer_taken (event.Get M name) is held = refl
 layer_taken (event.Drop M name) is held = refl
 layer_taken (event.Sign M key message) is held = refl
+layer_taken (event.Call M key input) is held = absurd is
 
 -- the answer is a step from what the board held before it handed out the event
 abbrev pub StepsTaken : Device → Event → Reply → Device → Held → Held → Type 0

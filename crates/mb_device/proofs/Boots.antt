@@ -19,7 +19,7 @@ use Rattle.mb_model.specs.machine.Refusals.{refusal_reply}
 use Rattle.mb_model.specs.memories.Valid.{Valid}
 use Rattle.mb_board.specs.Calls.{held_by}
 use Rattle.mb_model_memory.specs.Holding.{Means, IsReady}
-use Rattle.mb_device_orders.specs.Remembering.{Knows}
+use Rattle.mb_device_orders.specs.Remembering.{Knows, KnowsCode}
 use Rattle.mb_boot.specs.Booting.{Cleans, KeepsState}
 use Rattle.mb_device.specs.declared.device.Device.TheVariants as device
 use Rattle.mb_device_orders.specs.declared.remembering.Running.{Running}
@@ -75,16 +75,16 @@ module _ (state : Off) (before : Memory) (power : Bool) (level : ℕ) (meter : M
 
   -- it has come up
   pub boots : (up : Up R1) (running : Running) (after : Memory) (on : Bool) (high : ℕ) (counted : Meter) → (booted : IsBooted world after)
-      → ((live : State) → IsReady after live → Knows running.known live) → on ≡ true → high ≡ 1 → counted.armed ≡ meter.armed
+      → ((live : State) → IsReady after live → Knows running.known live) → ((live : State) → IsReady after live → KnowsCode running.known after.flash live) → on ≡ true → high ≡ 1 → counted.armed ≡ meter.armed
       → Steps world event.Boot reply.Booted (device.One up running) (held_by after on high counted)
-  boots up running after on high counted booted knows is_on is_high armed =
+  boots up running after on high counted booted knows codes is_on is_high armed =
       let same : world ≡ record { state = Some booted.state; phase = off; armed = counted.armed } = the_off world booted.state counted.armed sound.fits booted.live (sound.shown.armed ∙ sym armed) in
       subst (λ (w : World). Steps w event.Boot reply.Booted (device.One up running) (held_by after on high counted)) (sym same)
       (record {
         next = live_world 1 booted.state counted.armed;
         step = machine_step (boot_live (record { state = Some booted.state; phase = off; armed = counted.armed }) booted.state refl refl);
         sound = live_sound (device.One up running) 1 after on high counted booted.state booted.ready is_on is_high (omega arith)
-            (record { phase = refl; state = booted.state; live = refl; knows = knows booted.state booted.ready });
+            (record { phase = refl; state = booted.state; live = refl; knows = knows booted.state booted.ready; codes = codes booted.state booted.ready });
       })
 
   -- power failed

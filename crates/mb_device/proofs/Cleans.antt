@@ -47,6 +47,7 @@ zeroed_or_left (event.Put L name value) = inr (λ memory. refl)
 zeroed_or_left (event.Get L name) = inr (λ memory. refl)
 zeroed_or_left (event.Drop L name) = inr (λ memory. refl)
 zeroed_or_left (event.Sign L key message) = inr (λ memory. refl)
+zeroed_or_left (event.Call L key input) = inr (λ memory. refl)
 
 written_or_stopped : (answer : Reply) → may_have_written answer ≡ true → answer ≢ reply.Stopped → may_be_cut answer ≡ true
 written_or_stopped reply.Stopped wrote unstopped = absurd (unstopped refl)
@@ -55,6 +56,7 @@ written_or_stopped (reply.Done number size) wrote unstopped = refl
 written_or_stopped reply.Kept wrote unstopped = refl
 written_or_stopped reply.Dropped wrote unstopped = refl
 written_or_stopped (reply.Signed key index statement) wrote unstopped = refl
+written_or_stopped (reply.Called value) wrote unstopped = refl
 written_or_stopped reply.Off wrote unstopped = wrote
 written_or_stopped reply.Tampered wrote unstopped = wrote
 written_or_stopped reply.Armed wrote unstopped = wrote

@@ -5,6 +5,7 @@ pub mod Taken
 pub mod Uses
 pub mod Ordered
 pub mod Told
+pub mod Calling
 pub mod Cleans
 pub mod Serves
 pub mod Stops

@@ -29,7 +29,7 @@ order_machine : (state next : State) (armed : Bool) (text draw : List ℕ) (answ
 order_machine state next armed text draw answer step = inl (refl, (next, step, refl))
 
 module _ (before : Device) (running : Running) (text draw : List ℕ) (old : Memory) (power : Bool) (level : ℕ) (meter : Meter) (world : World)
-    (sound : IsSoundDevice before (held_by old power level meter) world) (own : IsRunning 1 running world) where
+    (sound : IsSoundDevice before (held_by old power level meter) world) (own : IsRunning 1 running old.flash world) where
   order_so : (next : State) (answer : Reply) → OrderStep own.state text draw answer next → Machine world (event.Order text draw) answer (live_world 1 next world.armed)
   order_so next answer step =
       subst (λ (w : World). Machine w (event.Order text draw) answer (live_world 1 next world.armed)) (sym (the_world world 1 own.state own.phase own.live))
@@ -37,18 +37,18 @@ module _ (before : Device) (running : Running) (text draw : List ℕ) (old : Mem
 
   pub order_told : (after : Device) (running_new : Running) (answer : Reply) (new : Memory) (power_new : Bool) (level_new : ℕ) (meter_new : Meter)
       → IsOrderAnswered own.state text draw running_new.known answer old new → power_new ≡ power → level_new ≡ level → meter_new.armed ≡ meter.armed → power ≡ true → level ≡ 1
-      → ((w : World) → IsRunning 1 running_new w → Fits after w) → Steps world (event.Order text draw) answer after (held_by new power_new level_new meter_new)
-  order_told after running_new answer new power_new level_new meter_new (answer_lacks wanted same knows) same_power same_level same_armed on at fits =
+      → ((w : World) → IsRunning 1 running_new new.flash w → Fits after new.flash w) → Steps world (event.Order text draw) answer after (held_by new power_new level_new meter_new)
+  order_told after running_new answer new power_new level_new meter_new (answer_lacks wanted same knows codes) same_power same_level same_armed on at fits =
       steps.lacks before after (held_by old power level meter) (held_by new power_new level_new meter_new) world (event.Order text draw) answer wanted refl
       (same_parts old new power power_new level level_new meter meter_new same same_power same_level same_armed) sound
-      (fits world (record { phase = own.phase; state = own.state; live = own.live; knows = knows }))
-  order_told after running_new answer new power_new level_new meter_new (answer_tells next step ready knows) same_power same_level same_armed on at fits =
+      (subst (λ (m : Memory). Fits after m.flash world) same (fits world (record { phase = own.phase; state = own.state; live = own.live; knows = knows; codes = codes })))
+  order_told after running_new answer new power_new level_new meter_new (answer_tells next step ready knows codes) same_power same_level same_armed on at fits =
       let armed : world.armed ≡ meter_new.armed = sound.shown.armed ∙ sym same_armed in
       record {
         next = live_world 1 next meter_new.armed;
         step = machine_step (subst (λ (b : Bool). Machine world (event.Order text draw) answer (live_world 1 next b)) armed (order_so next answer step));
         sound = live_sound after 1 new power_new level_new meter_new next ready (same_power ∙ on) (same_level ∙ at) (omega arith)
-            (fits (live_world 1 next meter_new.armed) (record { phase = refl; state = next; live = refl; knows = knows }));
+            (fits (live_world 1 next meter_new.armed) (record { phase = refl; state = next; live = refl; knows = knows; codes = codes }));
       }
 
   -- power failed
@@ -73,5 +73,5 @@ step_goes_on state next text draw answer (fails_check fails) = ap stop_told fail
 step_goes_on state next text draw answer (is_obeyed obeys) = ap stop_told obeys.answered
 
 pub order_goes_on : (state : State) (text draw : List ℕ) (known : Known) (answer : Reply) (old new : Memory) → IsOrderAnswered state text draw known answer old new → stop_told answer ≡ Ok tt
-order_goes_on state text draw known answer old new (answer_lacks wanted same knows) = ap stop_told wanted
-order_goes_on state text draw known answer old new (answer_tells next step ready knows) = step_goes_on state next text draw answer step
+order_goes_on state text draw known answer old new (answer_lacks wanted same knows codes) = ap stop_told wanted
+order_goes_on state text draw known answer old new (answer_tells next step ready knows codes) = step_goes_on state next text draw answer step

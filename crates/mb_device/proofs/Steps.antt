@@ -37,7 +37,7 @@ the_world world r state is live =
 
 -- a device that runs layer r, whose memory is ready with this state
 pub live_sound : (after : Device) (r : ℕ) (memory : Memory) (power : Bool) (level : ℕ) (meter : Meter) (state : State) → IsReady memory state → power ≡ true → level ≡ r → 1 ≤ r
-    → Fits after (live_world r state meter.armed) → IsSoundDevice after (held_by memory power level meter) (live_world r state meter.armed)
+    → Fits after memory.flash (live_world r state meter.armed) → IsSoundDevice after (held_by memory power level meter) (live_world r state meter.armed)
 live_sound after r memory power level meter state ready on at some fits = record {
   shown = record { stands = ready.means; phase = sym (ratchet_at power level r on at some); armed = refl };
   valid = ready.valid;
@@ -70,7 +70,7 @@ running_ready device r held world state sound is live = record {
 -- ---- steps
 
 -- an answer by which nothing changes
-pub stays : (before after : Device) (held : Held) (world : World) (e : Event) (answer : Reply) → Machine world e answer world → IsSoundDevice before held world → Fits after world
+pub stays : (before after : Device) (held : Held) (world : World) (e : Event) (answer : Reply) → Machine world e answer world → IsSoundDevice before held world → Fits after held.memory.flash world
     → Steps world e answer after held
 stays before after held world e answer machine sound fits = record {
   next = world;
@@ -80,12 +80,12 @@ stays before after held world e answer machine sound fits = record {
 
 -- a refusal by which nothing changes
 pub refuses : (before after : Device) (held : Held) (world : World) (e : Event) (answer : Reply) (refusal : Refusal) → answer ≡ refusal_reply refusal → Machine world e (refusal_reply refusal) world
-    → IsSoundDevice before held world → Fits after world → Steps world e answer after held
+    → IsSoundDevice before held world → Fits after held.memory.flash world → Steps world e answer after held
 refuses before after held world e answer refusal is machine sound fits = stays before after held world e answer (subst (λ (a : Reply). Machine world e a world) (sym is) machine) sound fits
 
 -- memory was wanted, and nothing has changed
 pub lacks : (before after : Device) (held now : Held) (world : World) (e : Event) (answer : Reply) → answer ≡ reply.NoMemory → IsTrue (may_want_memory e) → now ≡ held
-    → IsSoundDevice before held world → Fits after world → Steps world e answer after now
+    → IsSoundDevice before held world → Fits after held.memory.flash world → Steps world e answer after now
 lacks before after held now world e answer is wants same sound fits = record {
   next = world;
   step = lacks_memory (record { answered = is; wanted = wants; stays = refl });
@@ -114,7 +114,7 @@ cut_short state world e told whole left memory power level meter machine armed w
 
 -- a refusal of a device that is as it was
 pub refuses_as : (before after : Device) (held : Held) (world : World) (e : Event) (answer : Reply) (refusal : Refusal) → before ≡ after → answer ≡ refusal_reply refusal
-    → IsSoundDevice before held world → (Fits after world → Machine world e (refusal_reply refusal) world) → Steps world e answer after held
+    → IsSoundDevice before held world → (Fits after held.memory.flash world → Machine world e (refusal_reply refusal) world) → Steps world e answer after held
 refuses_as before after held world e answer refusal same is sound machine =
     let own : IsSoundDevice after held world = subst (λ (d : Device). IsSoundDevice d held world) same sound in
     refuses after after held world e answer refusal is (machine own.fits) own own.fits

@@ -18,6 +18,7 @@ counted_by_answer reply.Kept stops = refl
 counted_by_answer reply.Dropped stops = refl
 counted_by_answer (reply.Value bytes) stops = refl
 counted_by_answer (reply.Signed key index statement) stops = refl
+counted_by_answer (reply.Called value) stops = refl
 counted_by_answer reply.Absent stops = refl
 counted_by_answer (reply.Status serial number size one two three) stops = refl
 counted_by_answer (reply.Refused refusal) stops = refl

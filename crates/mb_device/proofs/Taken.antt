@@ -1,5 +1,5 @@
 -- Events that the board has done by itself as it handed them out: power that goes, tamper, and a cut that is armed.
-use Rattle.std.proofs.Common.{◌≡◌, ℕ, Bool, true, false, None, Some, refl, sym, ap, subst, ◌∙◌, length}
+use Rattle.std.proofs.Common.{◌≡◌, ℕ, List, Bool, true, false, None, Some, refl, sym, ap, subst, ◌∙◌, length}
 use Rattle.mb_model.specs.declared.event.Event.{Event}
 use Rattle.mb_model.specs.declared.event.Event.TheVariants as event
 use Rattle.mb_model.specs.declared.event.Tear.{Tear}
@@ -35,16 +35,17 @@ taken_is (event.Put L name value) memory power level meter meter_new armed = arm
 taken_is (event.Get L name) memory power level meter meter_new armed = armed_is memory (phase_at power level) armed
 taken_is (event.Drop L name) memory power level meter meter_new armed = armed_is memory (phase_at power level) armed
 taken_is (event.Sign L key message) memory power level meter meter_new armed = armed_is memory (phase_at power level) armed
+taken_is (event.Call L key input) memory power level meter meter_new armed = armed_is memory (phase_at power level) armed
 
 -- ---- power that goes
 
 -- a device whose power is off, whatever it was
-off_fits : (device : Device) (world : World) → IsOff device → world.phase ≡ off → Fits device world
-off_fits (device.Off state) world is at = at
-off_fits (device.Dead state) world is at = absurd is
-off_fits (device.One state running) world is at = absurd is
-off_fits (device.Two state running) world is at = absurd is
-off_fits (device.Three state running) world is at = absurd is
+off_fits : (device : Device) (flash : List ℕ) (world : World) → IsOff device → world.phase ≡ off → Fits device flash world
+off_fits (device.Off state) flash world is at = at
+off_fits (device.Dead state) flash world is at = absurd is
+off_fits (device.One state running) flash world is at = absurd is
+off_fits (device.Two state running) flash world is at = absurd is
+off_fits (device.Three state running) flash world is at = absurd is
 
 pub goes_off : (before after : Device) (held now : Held) (world : World) → IsSoundDevice before held world → IsOff after → now ≡ taken event.Off held → Steps world event.Off reply.Off after now
 goes_off before after held now world sound is_off same = record {
@@ -54,7 +55,7 @@ goes_off before after held now world sound is_off same = record {
     shown = record { stands = sound.shown.stands; phase = refl; armed = sound.shown.armed };
     valid = sound.valid;
     clean = λ on. absurd (on refl);
-    fits = off_fits after (record world { phase = off }) is_off refl;
+    fits = off_fits after held.memory.flash (record world { phase = off }) is_off refl;
   });
 }
 
@@ -79,21 +80,21 @@ is_tampered before after held now world sound is_off same =
         };
         valid = tt;
         clean = λ on. absurd (on refl);
-        fits = off_fits after next is_off refl;
+        fits = off_fits after memory.flash next is_off refl;
       });
     }
 
 -- ---- a cut
 
-still_runs : (r : ℕ) (running : Running) (world : World) → IsRunning r running world → IsRunning r running (record world { armed = true })
-still_runs r running world own = record { phase = own.phase; state = own.state; live = own.live; knows = own.knows }
+still_runs : (r : ℕ) (running : Running) (flash : List ℕ) (world : World) → IsRunning r running flash world → IsRunning r running flash (record world { armed = true })
+still_runs r running flash world own = record { phase = own.phase; state = own.state; live = own.live; knows = own.knows; codes = own.codes }
 
-still_fits : (device : Device) (world : World) → Fits device world → Fits device (record world { armed = true })
-still_fits (device.Off state) world fits = fits
-still_fits (device.Dead state) world fits = fits
-still_fits (device.One state running) world fits = still_runs 1 running world fits
-still_fits (device.Two state running) world fits = still_runs 2 running world fits
-still_fits (device.Three state running) world fits = still_runs 3 running world fits
+still_fits : (device : Device) (flash : List ℕ) (world : World) → Fits device flash world → Fits device flash (record world { armed = true })
+still_fits (device.Off state) flash world fits = fits
+still_fits (device.Dead state) flash world fits = fits
+still_fits (device.One state running) flash world fits = still_runs 1 running flash world fits
+still_fits (device.Two state running) flash world fits = still_runs 2 running flash world fits
+still_fits (device.Three state running) flash world fits = still_runs 3 running flash world fits
 
 pub is_armed : (device : Device) (held now : Held) (world : World) (count : ℕ) (tear : Tear) → IsSoundDevice device held world → now ≡ taken (event.Cut count tear) held
     → Steps world (event.Cut count tear) reply.Armed device now
@@ -104,7 +105,7 @@ is_armed device held now world count tear sound same = record {
     shown = record { stands = sound.shown.stands; phase = sound.shown.phase; armed = refl };
     valid = sound.valid;
     clean = sound.clean;
-    fits = still_fits device world sound.fits;
+    fits = still_fits device held.memory.flash world sound.fits;
   });
 }
 

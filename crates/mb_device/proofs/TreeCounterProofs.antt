@@ -1,5 +1,5 @@
 -- No tree is forgotten.
-use Rattle.std.proofs.Common.{◌≡◌, ◌≤◌, ◌+◌, ℕ, arith, true, false, List, [], ◌∷◌, ◌++◌, Option, refl, sym, ap, subst}
+use Rattle.std.proofs.Common.{◌≡◌, ◌≤◌, ◌+◌, ℕ, arith, true, false, List, [], ◌∷◌, ◌++◌, Option, None, Some, refl, sym, ap, subst}
 use Rattle.std.specs.Prelude.{IsSome}
 use Rattle.mb_ratchet.specs.declared.state.Off.{Off}
 use Rattle.mb_model.specs.declared.event.Event.{Event}
@@ -35,6 +35,8 @@ none_off state (event.Put M name value) has = has
 none_off state (event.Get M name) has = has
 none_off state (event.Drop M name) has = has
 none_off state (event.Sign M key message) has = has
+none_off state (event.Call M None input) has = has
+none_off state (event.Call M (Some key) input) has = has
 
 -- the entries of an order for a key of a region name one key at least
 named_by : (items : List Entry) (view : View) (made : Fact) (layer : ℕ) (kind : KeyKind) (draw : List ℕ) → made ≡ fact.NewKey layer kind → 1 ≤ keys_made_by (items ++ entry_of view made draw ∷ [])

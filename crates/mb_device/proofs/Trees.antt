@@ -1,5 +1,5 @@
 -- What becomes of the trees that a device keeps.
-use Rattle.std.proofs.Common.{◌≡◌, ℕ, true, false, Option, Some, refl, sym, subst}
+use Rattle.std.proofs.Common.{◌≡◌, ℕ, true, false, Option, None, Some, refl, sym, subst}
 use Rattle.std.specs.Prelude.{List, Result, Ok, Err, IfOk, IsSome}
 use Rattle.mb_ratchet.specs.declared.state.Off.{Off}
 use Rattle.mb_model.specs.declared.event.Event.{Event}
@@ -34,6 +34,7 @@ not_signed reply.Dropped left = refl
 not_signed (reply.Value value) left = refl
 not_signed reply.Absent left = refl
 not_signed (reply.Signed key index statement) left = absurd (cc)
+not_signed (reply.Called value) left = refl
 not_signed (reply.Status serial number size one two three) left = refl
 not_signed (reply.Refused number) left = refl
 not_signed reply.Stopped left = absurd (cc)
@@ -51,6 +52,7 @@ not_done reply.Dropped left = refl
 not_done (reply.Value value) left = refl
 not_done reply.Absent left = refl
 not_done (reply.Signed key index statement) left = absurd (cc)
+not_done (reply.Called value) left = refl
 not_done (reply.Status serial number size one two three) left = refl
 not_done (reply.Refused number) left = refl
 not_done reply.Stopped left = absurd (cc)
@@ -68,6 +70,7 @@ order_not_done reply.Dropped left = refl
 order_not_done (reply.Value value) left = refl
 order_not_done reply.Absent left = refl
 order_not_done (reply.Signed key index statement) left = refl
+order_not_done (reply.Called value) left = refl
 order_not_done (reply.Status serial number size one two three) left = refl
 order_not_done (reply.Refused number) left = refl
 order_not_done reply.Stopped left = absurd (cc)
@@ -76,6 +79,8 @@ order_not_done reply.NoMemory left = refl
 -- an answer that is no statement says of no tree that it is kept
 unsigned : (L : ℕ) (e : Event) (answer : Reply) (kept : Option Trees) → is_signed answer ≡ false → IsKeptOnceSigned kept L e answer
 unsigned L (event.Sign M key message) answer kept none = λ index statement told. absurd (cc)
+unsigned L (event.Call M None input) answer kept none = tt
+unsigned L (event.Call M (Some key) input) answer kept none = λ index statement told. absurd (cc)
 unsigned L event.Boot answer kept none = tt
 unsigned L event.Off answer kept none = tt
 unsigned L event.Tamper answer kept none = tt

@@ -13,15 +13,19 @@ use Rattle.mb_model.specs.declared.region.Region.{Region}
 use Rattle.mb_model.specs.declared.region.Secret.{Secret}
 use Rattle.mb_model.specs.records.ChainFormat.{statement_format}
 use Rattle.std.specs.List.{list_any}
+use Rattle.mb_area.specs.Flashes.{CanBeNamed}
+use Rattle.mb_model.specs.declared.stored.Slot.{Slot}
+use Rattle.mb_model.specs.declared.state.Codes.{Codes}
 use Rattle.mb_model.specs.declared.state.State.{State}
+use Rattle.mb_model.specs.memories.Flash.{HoldsCode}
 use Rattle.mb_model.specs.outside.Board.{Memory, Meter, Held}
 use Rattle.mb_model.specs.owners.Layers.{is_runnable, is_upper}
-use Rattle.mb_model.specs.machine.LayerEvents.{Outcome, put_event, get_event, drop_event, sign_event, sign_with, value_reply, has_name, has_number, with_secret, with_use, statement_of}
+use Rattle.mb_model.specs.machine.LayerEvents.{Outcome, put_event, get_event, drop_event, sign_event, sign_with, code_in, takes_calls, value_reply, has_name, has_number, with_secret, with_use, statement_of}
 use Rattle.mb_model.specs.owners.Log.{entries_of, number_of}
 use Rattle.mb_model.specs.machine.Machine.{ratchet, World, Told, running_state_in, region_event, Machine, machine_step, may_want_memory}
 use Rattle.mb_model.specs.owners.Regions.{region_of, with_region}
 use Rattle.mb_model.specs.declared.reply.Refusal.{Refusal}
-use Rattle.mb_model.specs.declared.reply.Refusal.TheVariants.{WrongLayer, RegionFull, KeySpent}
+use Rattle.mb_model.specs.declared.reply.Refusal.TheVariants.{WrongLayer, WrongCode, RegionFull, KeySpent}
 use Rattle.mb_model.specs.machine.Refusals.{refusal_reply}
 use Rattle.mb_model.specs.chains.Script.{IsScriptEvent}
 use Rattle.mb_model.specs.memories.Valid.{Valid, IsValidState}
@@ -30,7 +34,7 @@ use Rattle.mb_model_lemmas.proofs.ValidSteps.{machine_valid}
 use Rattle.mb_model_memory.specs.Holding.{IsReady}
 use Rattle.mb_model_memory.specs.Answering.{IsAnswered, lacks, tells, IsCutShort}
 use Rattle.mb_outbound.proofs.Seeds.{KeepsSeeds, use_keeps_seeds, kept_stays}
-use Rattle.mb_device_orders.specs.Remembering.{Knows, IsRemembered}
+use Rattle.mb_device_orders.specs.Remembering.{Knows, KnowsCode, slot_known, IsRemembered}
 use Rattle.mb_device_orders.specs.declared.remembering.Known.{Known}
 use Rattle.mb_device.specs.declared.device.Device.{Device}
 use Rattle.mb_device.specs.declared.device.Device.TheVariants as device
@@ -53,13 +57,21 @@ known_runs known state L b knows valid runs = subst (λ layers. is_runnable laye
 
 -- ---- what the machine makes of it
 
--- control is no further than at the layer, which may run
+-- control is no further than at the layer, which may run, and its code takes no calls
 pub region_machine : (r L : ℕ) (state : State) (armed : Bool) (e : Event) → IsLayerEvent e → L ≡ region_named e → r ≤ L → is_runnable state.layers L ≡ true
-    → Machine (live_world r state armed) e (layer_outcome L e state).0 (live_world r (layer_outcome L e state).1 armed)
-region_machine r L state armed e is named here runs =
+    → takes_calls (code_in state.codes L) ≡ false → Machine (live_world r state armed) e (layer_outcome L e state).0 (live_world r (layer_outcome L e state).1 armed)
+region_machine r L state armed e is named here runs unsealed =
     by_region (live_world r state armed) e (layer_outcome L e state).0 (live_world r (layer_outcome L e state).1 armed) is
     (subst (λ (m : ℕ). ◌≡◌ {A = Told} ((layer_outcome L e state).0, live_world r (layer_outcome L e state).1 armed) (region_event (live_world r state armed) m (layer_outcome m e) (Ok (r, state)))) named
-    (rw (le-ltb L r here, runs) refl))
+    (rw (le-ltb L r here, runs, unsealed) refl))
+
+-- its code takes calls
+region_sealed : (r L : ℕ) (state : State) (armed : Bool) (e : Event) → IsLayerEvent e → L ≡ region_named e → r ≤ L → is_runnable state.layers L ≡ true
+    → takes_calls (code_in state.codes L) ≡ true → Machine (live_world r state armed) e (refusal_reply WrongCode) (live_world r state armed)
+region_sealed r L state armed e is named here runs sealed =
+    by_region (live_world r state armed) e (refusal_reply WrongCode) (live_world r state armed) is
+    (subst (λ (m : ℕ). ◌≡◌ {A = Told} (refusal_reply WrongCode, live_world r state armed) (region_event (live_world r state armed) m (layer_outcome m e) (Ok (r, state)))) named
+    (rw (le-ltb L r here, runs, sealed) refl))
 
 -- control is past it, or it may not run
 pub region_barred : (r L : ℕ) (state : State) (armed : Bool) (e : Event) → IsLayerEvent e → L ≡ region_named e → (nat_lt L r || not (is_runnable state.layers L)) ≡ true
@@ -74,7 +86,7 @@ cannot_run b past e = rw e (or-true past)
 
 -- a use that a running device refuses
 pub use_refused : (after : Device) (r L : ℕ) (running : Running) (held : Held) (world : World) (e : Event) (answer : Reply) → IsLayerEvent e → L ≡ region_named e → answer ≡ refusal_reply WrongLayer
-    → IsSoundDevice after held world → (own : IsRunning r running world) → Fits after world → (nat_lt L r ≡ true) ⊎ (is_runnable running.known.figures.layers L ≡ false) → Steps world e answer after held
+    → IsSoundDevice after held world → (own : IsRunning r running held.memory.flash world) → Fits after held.memory.flash world → (nat_lt L r ≡ true) ⊎ (is_runnable running.known.figures.layers L ≡ false) → Steps world e answer after held
 use_refused after r L running held world e answer is named told sound own fits why =
     let valid : IsValidState own.state = subst Valid own.live sound.valid in
     let state : State = own.state in
@@ -87,6 +99,19 @@ use_refused after r L running held world e answer is named told sound own fits w
     subst (λ (w : World). Machine w e (refusal_reply WrongLayer) w) (sym same) (region_barred r L state world.armed e is named past) in
     refuses after after held world e answer WrongLayer told machine sound fits
 
+-- a use of a region that is its code's alone
+pub use_sealed : (after : Device) (r L : ℕ) (running : Running) (held : Held) (world : World) (e : Event) (answer : Reply) → IsLayerEvent e → L ≡ region_named e → r ≤ L → answer ≡ refusal_reply WrongCode
+    → IsSoundDevice after held world → (own : IsRunning r running held.memory.flash world) → Fits after held.memory.flash world → is_runnable running.known.figures.layers L ≡ true
+    → takes_calls (code_in own.state.codes L) ≡ true → Steps world e answer after held
+use_sealed after r L running held world e answer is named here told sound own fits runs sealed =
+    let valid : IsValidState own.state = subst Valid own.live sound.valid in
+    let state : State = own.state in
+    let same : world ≡ live_world r state world.armed = the_world world r state own.phase own.live in
+    let machine : Machine world e (refusal_reply WrongCode) world =
+    subst (λ (w : World). Machine w e (refusal_reply WrongCode) w) (sym same)
+    (region_sealed r L state world.armed e is named here (known_runs running.known state L true own.knows valid runs) sealed) in
+    refuses after after held world e answer WrongCode told machine sound fits
+
 -- ---- a use that is answered
 
 wants : (e : Event) → IsLayerEvent e → IsTrue (may_want_memory e)
@@ -94,6 +119,7 @@ wants (event.Put L name value) is = refl
 wants (event.Get L name) is = refl
 wants (event.Drop L name) is = refl
 wants (event.Sign L key message) is = refl
+wants (event.Call L key input) is = absurd is
 wants event.Boot is = absurd is
 wants event.Off is = absurd is
 wants event.Tamper is = absurd is
@@ -107,8 +133,20 @@ pick : (P : State → Type 0) (b : Bool) (x y : Outcome) → P x.1 → P y.1 →
 pick P true x y first second = first
 pick P false x y first second = second
 
+-- it leaves the codes
+same_codes : (known : Known) (flash : List ℕ) (state next : State) → next.codes ≡ state.codes → KnowsCode known flash state → KnowsCode known flash next
+same_codes known flash state next same codes = record {
+  two = subst (λ (cs : Codes). HoldsCode flash 2 known.two cs.two) (sym same) codes.two;
+  three = subst (λ (cs : Codes). HoldsCode flash 3 known.three cs.three) (sym same) codes.three;
+  two_named = codes.two_named;
+  three_named = codes.three_named;
+}
+
+pub codes_edited : (known : Known) (flash : List ℕ) (L : ℕ) (region : Region) (state : State) → KnowsCode known flash state → KnowsCode known flash (with_region state L region)
+codes_edited known flash L region state codes = same_codes known flash state (with_region state L region) refl codes
+
 -- a region that is edited, and leaves the seeds of its keys
-knows_edited : (known : Known) (L : ℕ) (region : Region) (state : State) → KeepsSeeds (region_of state L) region → Knows known state → Knows known (with_region state L region)
+pub knows_edited : (known : Known) (L : ℕ) (region : Region) (state : State) → KeepsSeeds (region_of state L) region → Knows known state → Knows known (with_region state L region)
 knows_edited known L region state same knows = record {
   serial = knows.serial;
   figures = knows.figures;
@@ -118,7 +156,7 @@ knows_edited known L region state same knows = record {
   };
 }
 
-put_keeps : (known : Known) (L : ℕ) (name value : List ℕ) (state : State) → Knows known state → Knows known (put_event L name value state).1
+pub put_keeps : (known : Known) (L : ℕ) (name value : List ℕ) (state : State) → Knows known state → Knows known (put_event L name value state).1
 unfolding put_event
 put_keeps known L name value state knows =
     let new : Secret = record { name = name; value = value; born = number_of (entries_of state.log) } in
@@ -129,7 +167,7 @@ get_keeps : (known : Known) (L : ℕ) (name : List ℕ) (state : State) → Know
 unfolding get_event
 get_keeps known L name state knows = knows
 
-drop_keeps : (known : Known) (L : ℕ) (name : List ℕ) (state : State) → Knows known state → Knows known (drop_event L name state).1
+pub drop_keeps : (known : Known) (L : ℕ) (name : List ℕ) (state : State) → Knows known state → Knows known (drop_event L name state).1
 unfolding drop_event
 drop_keeps known L name state knows =
     let others : List Secret = filter (λ (secret : Secret). not (has_name name secret)) (region_of state L).secrets in
@@ -151,6 +189,7 @@ keeps_known known L (event.Put M name value) state is knows = put_keeps known L 
 keeps_known known L (event.Get M name) state is knows = get_keeps known L name state knows
 keeps_known known L (event.Drop M name) state is knows = drop_keeps known L name state knows
 keeps_known known L (event.Sign M key message) state is knows = sign_keeps known L key message state knows
+keeps_known known L (event.Call M key input) state is knows = absurd is
 keeps_known known L event.Boot state is knows = absurd is
 keeps_known known L event.Off state is knows = absurd is
 keeps_known known L event.Tamper state is knows = absurd is
@@ -159,10 +198,98 @@ keeps_known known L event.Go state is knows = absurd is
 keeps_known known L (event.Cut count tear) state is knows = absurd is
 keeps_known known L (event.Order text draw) state is knows = absurd is
 
+pub put_codes : (known : Known) (flash : List ℕ) (L : ℕ) (name value : List ℕ) (state : State) → KnowsCode known flash state → KnowsCode known flash (put_event L name value state).1
+unfolding put_event
+put_codes known flash L name value state codes =
+    let new : Secret = record { name = name; value = value; born = number_of (entries_of state.log) } in
+    let region : Region = record (region_of state L) { secrets = with_secret new (region_of state L).secrets } in
+    pick (KnowsCode known flash) _ _ _ codes (codes_edited known flash L region state codes)
+
+pub drop_codes : (known : Known) (flash : List ℕ) (L : ℕ) (name : List ℕ) (state : State) → KnowsCode known flash state → KnowsCode known flash (drop_event L name state).1
+unfolding drop_event
+drop_codes known flash L name state codes =
+    let others : List Secret = filter (λ (secret : Secret). not (has_name name secret)) (region_of state L).secrets in
+    let region : Region = record (region_of state L) { secrets = others } in
+    pick (KnowsCode known flash) _ _ _ (codes_edited known flash L region state codes) codes
+
+get_codes : (known : Known) (flash : List ℕ) (L : ℕ) (name : List ℕ) (state : State) → KnowsCode known flash state → KnowsCode known flash (get_event L name state).1
+unfolding get_event
+get_codes known flash L name state codes = codes
+
+sign_with_codes : (known : Known) (flash : List ℕ) (L : ℕ) (key : Option RegionKey) (message : List ℕ) (state : State) → KnowsCode known flash state → KnowsCode known flash (sign_with L key message state).1
+sign_with_codes known flash L None message state codes = codes
+sign_with_codes known flash L (Some key) message state codes =
+    let region : Region = record (region_of state L) { keys = with_use key.number (region_of state L).keys } in
+    pick (KnowsCode known flash) _ _ _ codes (codes_edited known flash L region state codes)
+
+sign_codes : (known : Known) (flash : List ℕ) (L number : ℕ) (message : List ℕ) (state : State) → KnowsCode known flash state → KnowsCode known flash (sign_event L number message state).1
+unfolding sign_event
+sign_codes known flash L number message state codes = sign_with_codes known flash L (find (has_number number) (region_of state L).keys) message state codes
+
+-- and where the codes stand
+keeps_codes : (known : Known) (flash : List ℕ) (L : ℕ) (e : Event) (state : State) → IsLayerEvent e → KnowsCode known flash state → KnowsCode known flash (layer_outcome L e state).1
+keeps_codes known flash L (event.Put M name value) state is codes = put_codes known flash L name value state codes
+keeps_codes known flash L (event.Get M name) state is codes = get_codes known flash L name state codes
+keeps_codes known flash L (event.Drop M name) state is codes = drop_codes known flash L name state codes
+keeps_codes known flash L (event.Sign M key message) state is codes = sign_codes known flash L key message state codes
+keeps_codes known flash L (event.Call M key input) state is codes = absurd is
+keeps_codes known flash L event.Boot state is codes = absurd is
+keeps_codes known flash L event.Off state is codes = absurd is
+keeps_codes known flash L event.Tamper state is codes = absurd is
+keeps_codes known flash L event.Status state is codes = absurd is
+keeps_codes known flash L event.Go state is codes = absurd is
+keeps_codes known flash L (event.Cut count tear) state is codes = absurd is
+keeps_codes known flash L (event.Order text draw) state is codes = absurd is
+
+-- ---- an event with an outcome, in a running device
+
+module _ (r : ℕ) (before : Device) (running : Running) (e : Event) (old : Memory) (power : Bool) (level : ℕ) (meter : Meter) (world : World)
+    (sound : IsSoundDevice before (held_by old power level meter) world) (own : IsRunning r running old.flash world) (some : 1 ≤ r) where
+  -- memory was wanted
+  pub outcome_lacks : (after : Device) (running_new : Running) (answer : Reply) (new : Memory) (power_new : Bool) (level_new : ℕ) (meter_new : Meter)
+      → answer ≡ reply.NoMemory → new ≡ old → IsTrue (may_want_memory e) → power_new ≡ power → level_new ≡ level → meter_new.armed ≡ meter.armed
+      → ((w : World) → IsRunning r running_new new.flash w → Fits after new.flash w) → Knows running_new.known own.state → KnowsCode running_new.known new.flash own.state
+      → Steps world e answer after (held_by new power_new level_new meter_new)
+  outcome_lacks after running_new answer new power_new level_new meter_new wanted same wants_it same_power same_level same_armed fits knows codes =
+      let held_same : held_by new power_new level_new meter_new ≡ held_by old power level meter = same_parts old new power power_new level level_new meter meter_new same same_power same_level same_armed in
+      steps.lacks before after (held_by old power level meter) (held_by new power_new level_new meter_new) world e answer wanted wants_it held_same sound
+      (subst (λ (m : Memory). Fits after m.flash world) same (fits world (record { phase = own.phase; state = own.state; live = own.live; knows = knows; codes = codes })))
+
+  -- the answer is the outcome's, and the memory is ready with its state
+  pub outcome_told : (after : Device) (running_new : Running) (answer : Reply) (outcome : Outcome) (new : Memory) (power_new : Bool) (level_new : ℕ) (meter_new : Meter)
+      → Machine world e outcome.0 (live_world r outcome.1 world.armed) → answer ≡ outcome.0 → IsReady new outcome.1 → power_new ≡ power → level_new ≡ level → meter_new.armed ≡ meter.armed
+      → power ≡ true → level ≡ r → ((w : World) → IsRunning r running_new new.flash w → Fits after new.flash w) → Knows running_new.known outcome.1 → KnowsCode running_new.known new.flash outcome.1
+      → Steps world e answer after (held_by new power_new level_new meter_new)
+  outcome_told after running_new answer outcome new power_new level_new meter_new machine told ready same_power same_level same_armed on at fits knows codes =
+      let armed : world.armed ≡ meter_new.armed = sound.shown.armed ∙ sym same_armed in
+      record {
+        next = live_world r outcome.1 meter_new.armed;
+        step = machine_step (subst (λ (a : Reply). Machine world e a (live_world r outcome.1 meter_new.armed)) (sym told)
+            (subst (λ (b : Bool). Machine world e outcome.0 (live_world r outcome.1 b)) armed machine));
+        sound = live_sound after r new power_new level_new meter_new outcome.1 ready (same_power ∙ on) (same_level ∙ at) some
+            (fits (live_world r outcome.1 meter_new.armed) (record { phase = refl; state = outcome.1; live = refl; knows = knows; codes = codes }));
+      }
+
+  -- power failed
+  pub outcome_cut : (state : Off) (outcome : Outcome) (new : Memory) (power_new : Bool) (level_new : ℕ) (meter_new : Meter) → Machine world e outcome.0 (live_world r outcome.1 world.armed)
+      → IsCutShort own.state outcome new → power_new ≡ false → meter_new.armed ≡ false → meter.armed ≡ true → Steps world e reply.Stopped (device.Off state) (held_by new power_new level_new meter_new)
+  outcome_cut state outcome new power_new level_new meter_new machine cut gone disarmed armed =
+      let whole : World = live_world r outcome.1 world.armed in
+      let is_armed : world.armed ≡ true = sound.shown.armed ∙ armed in
+      elim (cut.counts) [
+        | inl before_it ↦ cut_short state world e outcome.0 whole (Some own.state) new power_new level_new meter_new machine is_armed cut.writes
+            (inl (sym own.live)) before_it (subst Valid own.live sound.valid) gone disarmed
+        | inr after_it ↦ cut_short state world e outcome.0 whole (Some outcome.1) new power_new level_new meter_new machine is_armed cut.writes
+            (inr refl) after_it (machine_valid world e outcome.0 whole sound.valid machine) gone disarmed
+      ]
+
+-- ---- a use of a region
+
 -- a running device that may use its region
 pub record IsUse (r L : ℕ) (before : Device) (running : Running) (e : Event) (old : Memory) (power : Bool) (level : ℕ) (meter : Meter) (world : World) : Type 0 where
   pub sound : IsSoundDevice before (held_by old power level meter) world
-  pub own : IsRunning r running world
+  pub own : IsRunning r running old.flash world
+  pub unsealed : takes_calls (code_in own.state.codes L) ≡ false
   pub layer : IsLayerEvent e
   pub named : L ≡ region_named e
   pub here : r ≤ L
@@ -182,42 +309,27 @@ module _ (r L : ℕ) (before : Device) (running : Running) (e : Event) (old : Me
 
   use_machine : Machine world e (layer_outcome L e use_is.own.state).0 (live_world r (layer_outcome L e use_is.own.state).1 world.armed)
   use_machine = subst (λ (w : World). Machine w e (layer_outcome L e use_is.own.state).0 (live_world r (layer_outcome L e use_is.own.state).1 world.armed)) (sym use_world)
-      (region_machine r L use_is.own.state world.armed e use_is.layer use_is.named use_is.here use_runs)
+      (region_machine r L use_is.own.state world.armed e use_is.layer use_is.named use_is.here use_runs use_is.unsealed)
 
   pub use_told : (after : Device) (running_new : Running) (answer : Reply) (new : Memory) (power_new : Bool) (level_new : ℕ) (meter_new : Meter)
       → IsAnswered (layer_outcome L e use_is.own.state) answer old new → power_new ≡ power → level_new ≡ level
-      → meter_new.armed ≡ meter.armed → power ≡ true → level ≡ r → ((w : World) → IsRunning r running_new w → Fits after w) → Knows running_new.known use_is.own.state
+      → meter_new.armed ≡ meter.armed → power ≡ true → level ≡ r → ((w : World) → IsRunning r running_new new.flash w → Fits after new.flash w)
+      → Knows running_new.known use_is.own.state → KnowsCode running_new.known new.flash use_is.own.state
       → Steps world e answer after (held_by new power_new level_new meter_new)
-  use_told after running_new answer new power_new level_new meter_new (lacks wanted same) same_power same_level same_armed on at fits known =
-      let held_same : held_by new power_new level_new meter_new ≡ held_by old power level meter = same_parts old new power power_new level level_new meter meter_new same same_power same_level same_armed in
-      steps.lacks before after (held_by old power level meter) (held_by new power_new level_new meter_new) world e answer wanted (wants e use_is.layer) held_same use_is.sound
-      (fits world (record { phase = use_is.own.phase; state = use_is.own.state; live = use_is.own.live; knows = known }))
-  use_told after running_new answer new power_new level_new meter_new (tells told ready) same_power same_level same_armed on at fits known =
-      let next : State = (layer_outcome L e use_is.own.state).1 in
-      let knows : Knows running_new.known next = keeps_known running_new.known L e use_is.own.state use_is.layer known in
-      let armed : world.armed ≡ meter_new.armed = use_is.sound.shown.armed ∙ sym same_armed in
-      record {
-        next = live_world r next meter_new.armed;
-        step = machine_step (subst (λ (a : Reply). Machine world e a (live_world r next meter_new.armed)) (sym told)
-            (subst (λ (b : Bool). Machine world e (layer_outcome L e use_is.own.state).0 (live_world r next b)) armed use_machine));
-        sound = live_sound after r new power_new level_new meter_new next ready (same_power ∙ on) (same_level ∙ at) use_is.some
-            (fits (live_world r next meter_new.armed) (record { phase = refl; state = next; live = refl; knows = knows }));
-      }
+  use_told after running_new answer new power_new level_new meter_new (lacks wanted same) same_power same_level same_armed on at fits known codes =
+      outcome_lacks r before running e old power level meter world use_is.sound use_is.own use_is.some after running_new answer new power_new level_new meter_new wanted same (wants e use_is.layer)
+      same_power same_level same_armed fits known codes
+  use_told after running_new answer new power_new level_new meter_new (tells told ready) same_power same_level same_armed on at fits known codes =
+      outcome_told r before running e old power level meter world use_is.sound use_is.own use_is.some after running_new answer (layer_outcome L e use_is.own.state) new power_new level_new meter_new
+      use_machine told ready same_power same_level same_armed on at fits
+      (keeps_known running_new.known L e use_is.own.state use_is.layer known) (keeps_codes running_new.known new.flash L e use_is.own.state use_is.layer codes)
 
   -- power failed
   pub use_cut : (state : Off) (new : Memory) (power_new : Bool) (level_new : ℕ) (meter_new : Meter) → IsCutShort use_is.own.state (layer_outcome L e use_is.own.state) new
       → power_new ≡ false → meter_new.armed ≡ false → meter.armed ≡ true → Steps world e reply.Stopped (device.Off state) (held_by new power_new level_new meter_new)
   use_cut state new power_new level_new meter_new cut gone disarmed armed =
-      let next : State = (layer_outcome L e use_is.own.state).1 in
-      let whole : World = live_world r next world.armed in
-      let is_armed : world.armed ≡ true = use_is.sound.shown.armed ∙ armed in
-      let machine : Machine world e (layer_outcome L e use_is.own.state).0 whole = use_machine in
-      elim (cut.counts) [
-        | inl before_it ↦ cut_short state world e (layer_outcome L e use_is.own.state).0 whole (Some use_is.own.state) new power_new level_new meter_new machine is_armed cut.writes
-            (inl (sym use_is.own.live)) before_it (subst Valid use_is.own.live use_is.sound.valid) gone disarmed
-        | inr after_it ↦ cut_short state world e (layer_outcome L e use_is.own.state).0 whole (Some next) new power_new level_new meter_new machine is_armed cut.writes
-            (inr refl) after_it (machine_valid world e (layer_outcome L e use_is.own.state).0 whole use_is.sound.valid machine) gone disarmed
-      ]
+      outcome_cut r before running e old power level meter world use_is.sound use_is.own use_is.some state (layer_outcome L e use_is.own.state) new power_new level_new meter_new use_machine
+      cut gone disarmed armed
 
 -- a device that is not awake refuses it
 pub use_asleep : (world : World) (e : Event) (refusal : Refusal) → IsLayerEvent e → running_state_in world ≡ Err refusal → Machine world e (refusal_reply refusal) world
@@ -270,6 +382,7 @@ outcome_goes_on L (event.Put M name value) state is = put_goes_on L name value s
 outcome_goes_on L (event.Get M name) state is = get_goes_on L name state
 outcome_goes_on L (event.Drop M name) state is = drop_goes_on L name state
 outcome_goes_on L (event.Sign M key message) state is = sign_goes_on L key message state
+outcome_goes_on L (event.Call M key input) state is = absurd is
 outcome_goes_on L event.Boot state is = absurd is
 outcome_goes_on L event.Off state is = absurd is
 outcome_goes_on L event.Tamper state is = absurd is
@@ -308,9 +421,31 @@ is_up device r seen world sound is =
     record { on = on.0; at_level = on.1; loaded = sound.shown.stands.sized }
 
 -- the memory is ready with the state that is remembered
-pub remembers : (device : Device) (r : ℕ) (seen : Seen) (running : Running) (world : World) → IsSoundDevice device (held_in seen) world → IsRunning r running world → IsRemembered running.known seen.memory
+pub remembers : (device : Device) (r : ℕ) (seen : Seen) (running : Running) (world : World) → IsSoundDevice device (held_in seen) world → IsRunning r running seen.memory.flash world → IsRemembered running.known seen.memory
 remembers device r seen running world sound own =
-    record { state = own.state; ready = running_ready device r (held_in seen) world own.state sound own.phase own.live; knows = own.knows }
+    record { state = own.state; ready = running_ready device r (held_in seen) world own.state sound own.phase own.live; knows = own.knows; codes = own.codes }
+
+-- ---- the code of a layer
+
+slot_by : (b : Bool) (two three : Slot) → CanBeNamed two → CanBeNamed three → CanBeNamed (if b then two else three)
+slot_by true two three first second = first
+slot_by false two three first second = second
+
+-- the slot that is remembered for it is one that a header can name
+pub slot_can_be : (known : Known) (memory : Memory) (layer : ℕ) (slot : Slot) → slot ≡ slot_known known layer → IsRemembered known memory → CanBeNamed slot
+slot_can_be known memory layer slot same is = subst CanBeNamed (sym same) (slot_by (layer == 2) known.two known.three is.codes.two_named is.codes.three_named)
+
+-- and the flash holds the code there
+pub code_there : (known : Known) (flash : List ℕ) (state : State) (L layer : ℕ) (slot : Slot) → (L ≡ 2) ⊎ (L ≡ 3) → layer ≡ L → slot ≡ slot_known known layer → KnowsCode known flash state
+    → HoldsCode flash layer slot (code_in state.codes L)
+code_there known flash state L layer slot (inl two) same is codes =
+    subst (λ n. HoldsCode flash n slot (code_in state.codes L)) (sym (same ∙ two))
+    (subst (λ n. HoldsCode flash 2 slot (code_in state.codes n)) (sym two)
+    (subst (λ (s : Slot). HoldsCode flash 2 s state.codes.two) (sym (is ∙ ap (slot_known known) (same ∙ two))) codes.two))
+code_there known flash state L layer slot (inr three) same is codes =
+    subst (λ n. HoldsCode flash n slot (code_in state.codes L)) (sym (same ∙ three))
+    (subst (λ n. HoldsCode flash 3 slot (code_in state.codes n)) (sym three)
+    (subst (λ (s : Slot). HoldsCode flash 3 s state.codes.three) (sym (is ∙ ap (slot_known known) (same ∙ three))) codes.three))
 
 -- ---- the region that an event of a script names
 
@@ -335,3 +470,4 @@ named_three (event.Put L name value) region is script same apart = upper_three L
 named_three (event.Get L name) region is script same apart = upper_three L script.0 (λ e. apart (same ∙ e))
 named_three (event.Drop L name) region is script same apart = upper_three L script.0 (λ e. apart (same ∙ e))
 named_three (event.Sign L key message) region is script same apart = upper_three L script.0 (λ e. apart (same ∙ e))
+named_three (event.Call L key input) region is script same apart = absurd is

@@ -105,6 +105,7 @@ by_region world (event.Put L name value) answer next is told = told
 by_region world (event.Get L name) answer next is told = told
 by_region world (event.Drop L name) answer next is told = told
 by_region world (event.Sign L key message) answer next is told = told
+by_region world (event.Call L key input) answer next is told = absurd is
 by_region world event.Boot answer next is told = absurd is
 by_region world event.Off answer next is told = absurd is
 by_region world event.Tamper answer next is told = absurd is

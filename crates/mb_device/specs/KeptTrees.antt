@@ -31,11 +31,15 @@ HasDeviceTree (Some trees) = IsSome trees.device
 -- a tree is kept for the key that the event asks to sign, in the region of layer L
 abbrev pub IsKeptToSign : Option Trees → ℕ → Event → Type 0
 IsKeptToSign kept L (event.Sign M key message) = IsKeptFor (region_tree_in kept) L key
+IsKeptToSign kept L (event.Call M (Some key) input) = IsKeptFor (region_tree_in kept) L key
 IsKeptToSign kept L other = ⊥
 
 -- once the key that the event asks to sign has signed, its tree is kept
 abbrev pub IsKeptOnceSigned : Option Trees → ℕ → Event → Reply → Type 0
 IsKeptOnceSigned kept L (event.Sign M key message) answer =
+    (index : ℕ) (statement : List ℕ) → answer ≡ reply.Signed key index statement
+    → IsKeptFor (region_tree_in kept) L key
+IsKeptOnceSigned kept L (event.Call M (Some key) input) answer =
     (index : ℕ) (statement : List ℕ) → answer ≡ reply.Signed key index statement
     → IsKeptFor (region_tree_in kept) L key
 IsKeptOnceSigned kept L other answer = Unit {0}

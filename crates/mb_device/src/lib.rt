@@ -5,6 +5,7 @@
 //! cannot be copied.
 #![tactic(auto)]
 
+mod calls;
 mod control;
 mod counter_examples;
 mod device;

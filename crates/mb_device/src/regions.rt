@@ -3,8 +3,10 @@
 ghost use Rattle.std.specs.Prelude.{◌≡◌, Some};
 ghost use Rattle.mb_format.specs.Format.{IsBytes};
 ghost use Rattle.mb_model.specs.chains.Script.{IsScriptEvent};
-ghost use Rattle.mb_board.specs.Calls.{held_in};
-ghost use Rattle.mb_device_orders.specs.Remembering.{CanAnswer};
+ghost use Rattle.mb_model.specs.declared.state.State.{State};
+ghost use Rattle.mb_model.specs.machine.LayerEvents.{code_in, takes_calls};
+ghost use Rattle.mb_board.specs.Calls.{held_in, IsPowered};
+ghost use Rattle.mb_device_orders.specs.Remembering.{CanAnswer, IsRemembered, KnowsCode};
 ghost use Rattle.mb_device_regions.specs.Calls.{AnswersIn};
 ghost use Rattle.mb_device.specs.Calls.{Answers, SignsIn};
 ghost use Rattle.mb_device.specs.Sound.{HasSound};
@@ -14,6 +16,7 @@ ghost use Rattle.mb_lms.specs.declared.hash_count.TheConstants.{SIGNING_HASHES};
 use crate::control::may_run;
 use crate::device::Device;
 use crate::runs::Runs;
+use mb_area::takes_calls;
 use mb_board::Board;
 use mb_device_orders::Running;
 use mb_device_regions::{drop_secret, get_secret, put_secret, sign_message};
@@ -57,6 +60,17 @@ fn ask<S: Reaches<L>, L: Named, B: Board, C: Ledger>(
     }
 }
 
+/// Whether the code of `L` takes calls, so that its region is the code's alone. Reads six bytes of the flash.
+fn is_sealed<L: Named, B: Board>(running: &Running, b: &B) -> bool
+    requires powered { IsPowered (B.seen b.now) }
+    requires remembered { IsRemembered running.now.known (B.seen b.now).memory }
+    ensures { (state : State) → KnowsCode running.now.known (B.seen b.now).memory.flash state
+        → result ≡ takes_calls (code_in state.codes L.place) }
+{
+    let layer = L::number() as u8;
+    takes_calls(b, layer, running.known.slot(layer))
+}
+
 /// Answers a use of the region of `L` in the state `S`, which reaches the region.
 fn use_at<S: Reaches<L> + Runs, L: Named, B: Board, C: Ledger>(
     alloc: Global,
@@ -79,6 +93,9 @@ fn use_at<S: Reaches<L> + Runs, L: Named, B: Board, C: Ledger>(
     if !may_run(&running, L::number() as u8) {
         return (s.into_device(running), Refusal::WrongLayer.reply());
     }
+    if is_sealed::<L, B>(&running, b) {
+        return (s.into_device(running), Refusal::WrongCode.reply());
+    }
     match ask::<S, L, B, C>(alloc, s, &mut running, b, event, hashes) {
         Ok((s, reply)) => (s.into_device(running), reply),
         Err(off) => (Device::Off(off), Reply::Stopped),
@@ -86,7 +103,8 @@ fn use_at<S: Reaches<L> + Runs, L: Named, B: Board, C: Ledger>(
 }
 
 impl Device {
-    /// Answers a layer's use of its region. Refuses it if the layer may not run, or if control is past the layer.
+    /// Answers a layer's use of its region. Refuses it if control is past the layer, if the layer may not run, or if its
+    /// code takes calls.
     pub(crate) fn use_region<B: Board, C: Ledger>(
         self,
         alloc: Global,

@@ -1,7 +1,7 @@
 //! The typed states in which a layer runs.
 
 ghost use Rattle.std.proofs.Common.{refl};
-ghost use Rattle.std.specs.Prelude.{◌≡◌, ℕ, Some};
+ghost use Rattle.std.specs.Prelude.{◌≡◌, ℕ, List, Some};
 ghost use Rattle.mb_model.specs.machine.Machine.{World};
 ghost use Rattle.mb_device.specs.declared.device.Device.{Device as Whole};
 ghost use Rattle.mb_device.specs.declared.device.Device.TheVariants as device;
@@ -26,12 +26,12 @@ pub(crate) trait Runs {
         ensures { result ≡ holder self running };
 
     /// The layer runs in each world that the device fits.
-    ghost runs: { (state : Self) (running : Remembered) (world : World)
-        → Fits (holder state running) world → IsRunning level running world };
+    ghost runs: { (state : Self) (running : Remembered) (flash : List ℕ) (world : World)
+        → Fits (holder state running) flash world → IsRunning level running flash world };
 
     /// The device fits each world in which the layer runs.
-    ghost fits: { (state : Self) (running : Remembered) (world : World)
-        → IsRunning level running world → Fits (holder state running) world };
+    ghost fits: { (state : Self) (running : Remembered) (flash : List ℕ) (world : World)
+        → IsRunning level running flash world → Fits (holder state running) flash world };
 
     /// The trees that the device keeps are those that are remembered.
     ghost trees: { (state : Self) (running : Remembered)
@@ -43,9 +43,9 @@ impl Runs for Up<R1> {
 
     ghost holder = { λ state running. device.One state running };
 
-    ghost runs = { λ state running world is. is };
+    ghost runs = { λ state running flash world is. is };
 
-    ghost fits = { λ state running world is. is };
+    ghost fits = { λ state running flash world is. is };
 
     ghost trees = { λ state running. refl };
 
@@ -59,9 +59,9 @@ impl Runs for Up<R2> {
 
     ghost holder = { λ state running. device.Two state running };
 
-    ghost runs = { λ state running world is. is };
+    ghost runs = { λ state running flash world is. is };
 
-    ghost fits = { λ state running world is. is };
+    ghost fits = { λ state running flash world is. is };
 
     ghost trees = { λ state running. refl };
 
@@ -75,9 +75,9 @@ impl Runs for Up<R3> {
 
     ghost holder = { λ state running. device.Three state running };
 
-    ghost runs = { λ state running world is. is };
+    ghost runs = { λ state running flash world is. is };
 
-    ghost fits = { λ state running world is. is };
+    ghost fits = { λ state running flash world is. is };
 
     ghost trees = { λ state running. refl };
 

@@ -1,6 +1,6 @@
 //! The status of a device.
 
-ghost use Rattle.std.specs.Prelude.{◌≡◌, ◌≤◌, Ok};
+ghost use Rattle.std.specs.Prelude.{◌≡◌, ◌≤◌, List, ℕ, Ok};
 ghost use Rattle.mb_model.specs.owners.Layers.{layer_standing};
 ghost use Rattle.mb_model.specs.machine.Machine.{World, status_event, running_state_in};
 ghost use Rattle.mb_model.specs.memories.Valid.{Valid};
@@ -47,7 +47,7 @@ fn running_status(running: &Running) -> Reply
 impl Device {
     /// Answers `status`, from what the device remembers.
     pub(crate) fn status(&self) -> Reply
-        ensures told { (world : World) → Fits self.now world → Valid world.state
+        ensures told { (flash : List ℕ) (world : World) → Fits self.now flash world → Valid world.state
             → (result, world) ≡ status_event world (running_state_in world) }
         ensures goes_on { stop_told result ≡ Ok tt }
     {

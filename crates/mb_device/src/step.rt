@@ -60,6 +60,9 @@ impl Device {
             Event::Get { region, .. } => self.use_region(alloc, b, *region, event, hashes),
             Event::Drop { region, .. } => self.use_region(alloc, b, *region, event, hashes),
             Event::Sign { region, .. } => self.use_region(alloc, b, *region, event, hashes),
+            Event::Call { region, key, input } => {
+                self.call_code(alloc, b, *region, *key, input, hashes)
+            }
         }
     }
 

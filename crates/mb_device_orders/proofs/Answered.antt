@@ -20,7 +20,7 @@ use Rattle.mb_layout.specs.declared.room.Room.{Room}
 use Rattle.mb_area.specs.Roots.{IsOnlyRoot}
 use Rattle.mb_device_orders.specs.declared.judging.Judged.{Judged}
 use Rattle.mb_device_orders.specs.declared.remembering.Known.{Known}
-use Rattle.mb_device_orders.specs.Remembering.{Knows, IsRemembered}
+use Rattle.mb_device_orders.specs.Remembering.{Knows, KnowsCode, IsRemembered}
 use Rattle.mb_device_orders.specs.Calls.{AnswersOrder}
 use Rattle.mb_device_orders.specs.Obeying.{MakesKeys, IsOrderAnswered, answer_lacks, answer_tells, IsOrderCut}
 use Rattle.mb_device_orders.specs.Planning.{PassesAs, HasPassed, IsCommit, HasCommit}
@@ -51,10 +51,10 @@ has_commit known memory text draw judged root room is passes commits = record {
 
 -- ---- answers
 
-pub answered_same : (memory : Memory) (state : State) (text draw : List ℕ) (known : Known) (answer : Reply) → IsReady memory state → Knows known state → (answer ≡ reply.NoMemory) ⊎ OrderStep state text draw answer state
-    → IsOrderAnswered state text draw known answer memory memory
-answered_same memory state text draw known answer ready knows (inl none) = answer_lacks none refl knows
-answered_same memory state text draw known answer ready knows (inr step) = answer_tells state step ready knows
+pub answered_same : (memory : Memory) (state : State) (text draw : List ℕ) (known : Known) (answer : Reply) → IsReady memory state → Knows known state → KnowsCode known memory.flash state
+    → (answer ≡ reply.NoMemory) ⊎ OrderStep state text draw answer state → IsOrderAnswered state text draw known answer memory memory
+answered_same memory state text draw known answer ready knows codes (inl none) = answer_lacks none refl knows codes
+answered_same memory state text draw known answer ready knows codes (inr step) = answer_tells state step ready knows codes
 
 -- the answer to an order that is obeyed
 done_is : (figures : Figures) (next : State) → figures ≡ figures_of (entries_of next.log) → reply.Done figures.number figures.length ≡ reply.Done (number_of (entries_of next.log)) (length next.log)
@@ -73,9 +73,9 @@ obeyed_step state text draw judged figures passed are = is_obeyed (record {
 })
 
 pub answered_done : (before after : Memory) (state : State) (text draw : List ℕ) (judged : Judged) (known : Known) → PassesAs state text draw judged → IsReady after (state_after_order state judged.order draw) → Knows known (state_after_order state judged.order draw)
-    → IsOrderAnswered state text draw known (reply.Done known.figures.number known.figures.length) before after
-answered_done before after state text draw judged known passed ready knows =
-    answer_tells (state_after_order state judged.order draw) (obeyed_step state text draw judged known.figures passed knows.figures) ready knows
+    → KnowsCode known after.flash (state_after_order state judged.order draw) → IsOrderAnswered state text draw known (reply.Done known.figures.number known.figures.length) before after
+answered_done before after state text draw judged known passed ready knows codes =
+    answer_tells (state_after_order state judged.order draw) (obeyed_step state text draw judged known.figures passed knows.figures) ready knows codes
 
 -- an answer before anything is written, for which hashes were counted for new keys alone
 pub answered_before : {S E : Type 0} (known known_after : Known) (text draw : List ℕ) (handed : S) (answer : Reply) (seen : Seen) (hashes hashes_after : ℕ) → IsUp 1 seen → known_after ≡ known → is_done answer ≡ false
@@ -83,7 +83,9 @@ pub answered_before : {S E : Type 0} (known known_after : Known) (text draw : Li
     → ((state : State) (keys : ℕ) → IsReady seen.memory state → Knows known state → MakesKeys state text draw keys → hashes_after ≤ hashes + keys * TREE_HASHES)
     → AnswersOrder known known_after text draw {S = S} {E = E} (Ok (handed, answer)) seen seen hashes hashes_after
 answered_before known known_after text draw handed answer seen hashes hashes_after up same undone step cost keys = record {
-  told = λ state ready knows. answered_same seen.memory state text draw known_after answer ready (subst (λ (k : Known). Knows k state) (sym same) knows) (step state ready knows);
+  told = λ state ready knows codes.
+      answered_same seen.memory state text draw known_after answer ready (subst (λ (k : Known). Knows k state) (sym same) knows)
+      (subst (λ (k : Known). KnowsCode k seen.memory.flash state) (sym same) codes) (step state ready knows);
   stays = λ is. same;
   keeps = λ done. absurd (cc);
   writes = λ uncut. (refl, refl);

@@ -1,6 +1,8 @@
 -- What the memory of a device that is ready tells of its state.
-use Rattle.std.proofs.Common.{◌≡◌, ◌≤◌, ℕ, List, [], length, Option, None, Some, Result, Ok, Err, sym, ap, subst, ◌∙◌, arith}
-use Rattle.std.specs.Prelude.{IfSome}
+use Rattle.std.proofs.Common.{◌≡◌, ◌≤◌, ℕ, Bool, true, false, List, [], length, Option, None, Some, Result, Ok, Err, sym, ap, subst, ◌∙◌, arith}
+use Rattle.std.specs.Prelude.{◌==◌, IfSome}
+use Rattle.std.specs.Int.{w32}
+use Rattle.mb_format.specs.Combinators.{either, between}
 use Rattle.std.specs.Result.{result_ok}
 use Rattle.std.proofs.lemmas.List.{take_all}
 use Rattle.mb_format.specs.Format.{IsBytes, SpelledAt, Spells}
@@ -16,15 +18,17 @@ use Rattle.mb_model.specs.declared.stored.Root.{Root}
 use Rattle.mb_model.specs.outside.Board.{Memory}
 use Rattle.mb_model.specs.memories.Clean.{root_of}
 use Rattle.mb_model.specs.records.EntryFormat.{entry_format}
-use Rattle.mb_model.specs.memories.Flash.{HoldsHeader, HoldsEntry, HoldsLog, HoldsPublic}
-use Rattle.mb_model.specs.records.HeaderFormat.{entry_bytes_format, header_format, log_format}
+use Rattle.mb_model.specs.declared.stored.Slot.{Slot}
+use Rattle.mb_model.specs.memories.Flash.{HoldsHeader, HoldsCode, HoldsEntry, HoldsLog, HoldsPublic}
+use Rattle.mb_model.specs.records.HeaderFormat.{code_length_format, slot_format, entry_bytes_format, header_format, log_format}
 use Rattle.mb_model.specs.owners.Log.{figures_of, entries_of}
 use Rattle.mb_model.specs.memories.Meaning.{RootIn}
 use Rattle.mb_model.specs.memories.Sectors.{BeginsAs}
 use Rattle.mb_model.proofs.EntryFormatLaws.{entry_exact}
 use Rattle.mb_model.proofs.HeaderFormatLaws.{log_exact}
-use Rattle.mb_model_lemmas.proofs.HeldSegments.{begins_with, small_header}
-use Rattle.mb_model_lemmas.proofs.OneFlash.{one_begun}
+use Rattle.mb_model.proofs.AllowedFields.{header_fields}
+use Rattle.mb_model_lemmas.proofs.HeldSegments.{begins_with}
+use Rattle.mb_model_lemmas.proofs.OneFlash.{one_begun, one_header_begun}
 use Rattle.mb_model_memory.specs.Commits.{at_rest}
 use Rattle.mb_model_memory.specs.Holding.{Holds, IsReady, HasReady}
 use Rattle.mb_model_memory.proofs.RestLemmas.{clean_and_stands, rests_by_root}
@@ -37,7 +41,9 @@ use Rattle.mb_outbound.specs.KeptTrees.{IsKeptIn}
 use Rattle.mb_signer.specs.declared.tree.KeptTree.{KeptTree}
 use Rattle.mb_signer.specs.Tree.{IsTreeOf}
 use Rattle.mb_device_orders.specs.declared.remembering.Known.{Known}
-use Rattle.mb_device_orders.specs.Remembering.{IsDeviceTree, Knows, IsRemembered}
+use Rattle.mb_area.specs.Flashes.{CanBeNamed}
+use Rattle.mb_device_orders.specs.declared.remembering.Noted.{Noted}
+use Rattle.mb_device_orders.specs.Remembering.{IsDeviceTree, Knows, KnowsCode, IsNoted, FitsNoted, NotesCode, IsRemembered}
 
 -- a memory that is ready holds its state with nothing pending
 pub rest_in : (memory : Memory) (state : State) (ready : IsReady memory state) → IsBytes memory.bbram → Holds memory (at_rest state ready.clean.area)
@@ -81,6 +87,27 @@ knows_of memory root signed known state ready only counted counts serial no_devi
       };
     }
 
+-- what was noted of the header in force says where the codes of the state stand
+pub code_noted : (memory : Memory) (root : Root) (noted : Noted) (state : State) → IsReady memory state → ((any : Root) → RootIn memory.bbram any → any ≡ root)
+    → ((header : Header) → HoldsHeader memory.flash root.area header → IsNoted noted header) → FitsNoted noted → NotesCode noted memory.flash state
+code_noted memory root noted state ready only notes fits =
+    let public = public_in memory root state ready only in
+    let is = notes public.header public.begins in
+    record {
+      two = subst (λ (slot : Slot). HoldsCode memory.flash 2 slot state.codes.two) (sym is.two) public.two;
+      three = subst (λ (slot : Slot). HoldsCode memory.flash 3 slot state.codes.three) (sym is.three) public.three;
+      fits = fits;
+    }
+
+-- and that is remembered
+pub knows_code : (noted : Noted) (known : Known) (flash : List ℕ) (state : State) → known.two ≡ noted.two → known.three ≡ noted.three → NotesCode noted flash state → KnowsCode known flash state
+knows_code noted known flash state two three notes = record {
+  two = subst (λ (slot : Slot). HoldsCode flash 2 slot state.codes.two) (sym two) notes.two;
+  three = subst (λ (slot : Slot). HoldsCode flash 3 slot state.codes.three) (sym three) notes.three;
+  two_named = subst CanBeNamed (sym two) notes.fits.two;
+  three_named = subst CanBeNamed (sym three) notes.fits.three;
+}
+
 -- the tree that is kept is that of the device key in the root in force
 pub device_in_force : (memory : Memory) (root : Root) (known : Known) → IsRemembered known memory → IsOnlyRoot memory.bbram root → IfSome known.trees.value.device (IsTreeOf root.device)
 device_in_force memory root known is only =
@@ -88,8 +115,27 @@ device_in_force memory root known is only =
 
 -- ---- what bytes begin with
 
-pub small_header_signed : (bytes : List ℕ) (header : Header) → BeginsAs header_format bytes header → header.signed ≤ 128
-small_header_signed bytes header begins = (small_header header begins.spelled.allowed).most
+length_by : (none : Bool) (n : ℕ) → (either none (between w32 0 0) (between w32 0 32768)).Allowed n → n ≤ 32768
+length_by true n is = omega (arith, is.1)
+length_by false n is = is.1
+
+slot_fits : (slot : Slot) → slot_format.Allowed slot → CanBeNamed slot
+unfolding slot_format code_length_format
+slot_fits slot is = record { which = is.0.1; short = length_by (slot.which == 0) slot.length is.1 }
+
+abbrev pub noted_of : Header → Noted
+noted_of header = record { signed = header.signed; two = header.two; three = header.three }
+
+-- what is noted of the header that was read is what any header there says
+pub header_noted : (bytes : List ℕ) (read header : Header) → IsBytes bytes → BeginsAs header_format bytes read → BeginsAs header_format bytes header → IsNoted (noted_of read) header
+header_noted bytes read header are one other =
+    let same = one_header_begun bytes read header are one other in
+    record { signed = ap (λ (h : Header). h.signed) same; two = ap (λ (h : Header). h.two) same; three = ap (λ (h : Header). h.three) same }
+
+pub fits_noted : (bytes : List ℕ) (read : Header) → BeginsAs header_format bytes read → FitsNoted (noted_of read)
+fits_noted bytes read begins =
+    let its = header_fields read begins.spelled.allowed in
+    record { signed = its.few_signed; two = slot_fits read.two its.two; three = slot_fits read.three its.three }
 
 -- the text of an entry, and its signature
 one_log : (bytes text other_text signature other_signature : List ℕ) → IsBytes bytes → BeginsAs log_format bytes (text, signature) → BeginsAs log_format bytes (other_text, other_signature) → text ≡ other_text

@@ -25,7 +25,7 @@ use Rattle.mb_device_orders.specs.declared.judging.Judged.{Judged}
 use Rattle.mb_device_orders.specs.declared.remembering.Known.{Known}
 use Rattle.mb_device_orders.specs.Obeying.{Obeys, LeavesKnown, MakesKeys}
 use Rattle.mb_device_orders.specs.Planning.{JudgesText, IsCommit}
-use Rattle.mb_device_orders.specs.Remembering.{Knows}
+use Rattle.mb_device_orders.specs.Remembering.{Knows, KnowsCode}
 
 -- The bytes of an order are judged. Hashes are counted for the keys that an order makes that passes, and for no other.
 pub record Judges
@@ -71,6 +71,7 @@ pub record AnswersOrder
     (known known_after : Known) (text draw : List ℕ) {S E : Type 0} (result : Result (S × Reply) E)
     (before after : Seen) (hashes hashes_after : ℕ) : Type 0 where
   pub told : (state : State) → IsReady before.memory state → Knows known state
+      → KnowsCode known before.memory.flash state
       → Obeys state text draw known_after before.memory after.memory result
   pub stays : LeavesKnown result known known_after
   pub keeps : IfOk result (λ told. is_done told.1 ≡ true → IsSome known_after.trees.value.device)

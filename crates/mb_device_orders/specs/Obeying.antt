@@ -13,17 +13,17 @@ use Rattle.mb_model.specs.machine.OrderStep.{OrderStep}
 use Rattle.mb_model.specs.machine.Work.{bodies_for}
 use Rattle.mb_model_memory.specs.Holding.{Means, IsReady}
 use Rattle.mb_device_orders.specs.declared.remembering.Known.{Known}
-use Rattle.mb_device_orders.specs.Remembering.{Knows}
+use Rattle.mb_device_orders.specs.Remembering.{Knows, KnowsCode}
 
 -- The answer to these bytes in a state, what the device remembers afterwards, and the memory before and after them.
 pub data IsOrderAnswered
     (state : State) (text draw : List ℕ) (known : Known) (answer : Reply) (before after : Memory) : Type 0 where
   -- an allocation failed, and nothing has changed
-  answer_lacks : answer ≡ reply.NoMemory → after ≡ before → Knows known state →
+  answer_lacks : answer ≡ reply.NoMemory → after ≡ before → Knows known state → KnowsCode known after.flash state →
       IsOrderAnswered state text draw known answer before after
   -- the answer is that of a step of the machine, and the memory is ready with the state after it
   answer_tells : (next : State) → OrderStep state text draw answer next → IsReady after next → Knows known next →
-      IsOrderAnswered state text draw known answer before after
+      KnowsCode known after.flash next → IsOrderAnswered state text draw known answer before after
 
 -- Power failed while an order was obeyed: the order counts wholly or not at all.
 pub record IsOrderCut (state : State) (text draw : List ℕ) (after : Memory) : Type 0 where

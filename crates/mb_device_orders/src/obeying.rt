@@ -6,7 +6,7 @@ ghost use Rattle.mb_device_orders.specs.Remembering.{CanAnswer};
 use crate::committing::commit;
 use crate::judging::judge_text;
 use crate::planning::plan_commit;
-use crate::remembering::{Running, Trees};
+use crate::remembering::{Running, Trees, note_header};
 use mb_board::Board;
 use mb_lms::HashCount;
 use mb_model::{NoMemory, Reply};
@@ -55,7 +55,10 @@ pub fn obey<B: Board, L: Ledger>(
     };
     running.known.lend(&device, &mut bench);
     let up = commit(up, b, &planned.root, &mut running.room, &mut bench, hashes)?;
+    let noted = note_header(&up, b, &mut running.room);
     running.known.figures = planned.figures;
+    running.known.two = noted.two;
+    running.known.three = noted.three;
     *running.known.trees = Trees {
         device: bench.take(&planned.root.device),
         region: None,

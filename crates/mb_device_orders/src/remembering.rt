@@ -13,14 +13,14 @@ ghost use Rattle.mb_board.specs.Calls.{IsPowered, IsUp};
 ghost use Rattle.mb_model_memory.specs.Holding.{IsReady, HasReady};
 ghost use Rattle.mb_signer.specs.Tree.{IsTreeOf};
 ghost use Rattle.mb_device_orders.specs.Calls.{Lends};
-ghost use Rattle.mb_device_orders.specs.Remembering.{Knows};
+ghost use Rattle.mb_device_orders.specs.Remembering.{Knows, KnowsCode, slot_known, IsNoted, FitsNoted, NotesCode};
 
 use mb_area::{read_header, read_log, read_root};
 use mb_board::Board;
 use mb_bytes::Cursor;
 use mb_layout::{Room, read_entry};
 use mb_log::{add_entry, no_figures};
-use mb_model::{Entry, Figures, KeySeed};
+use mb_model::{Entry, Figures, KeySeed, Slot};
 use mb_outbound::RegionTree;
 use mb_ratchet::{R1, Up};
 use mb_segments::{header_at, log_at};
@@ -56,11 +56,22 @@ pub struct Known {
     pub serial: [u8; 16],
     /// What the entries of its log say together.
     pub figures: Figures,
+    /// Where the code of layer 2 stands.
+    pub two: Slot,
+    /// Where the code of layer 3 stands.
+    pub three: Slot,
     /// The trees that it keeps.
     pub trees: Box<Trees>,
 }
 
 impl Known {
+    /// Where the code of layer 2 or 3 stands.
+    pub fn slot(&self, layer: u8) -> Slot
+        ensures { result ≡ slot_known self.now layer }
+    {
+        if layer == 2 { self.two } else { self.three }
+    }
+
     /// Moves the tree of the device key to the bench, if one is kept.
     pub(crate) fn lend(&mut self, device: &KeySeed, bench: &mut Bench)
         requires { IfSome self.old.trees.value.device (λ tree. IsTreeOf device.now tree) }
@@ -81,16 +92,41 @@ pub struct Running {
     pub room: Room,
 }
 
-/// The number of signed entries that the header at the beginning of a sector counts; 0 if there is no header.
-fn signed_in(sector: &[u8]) -> u32
+/// What a device notes of a header.
+#[derive(Clone, Copy)]
+pub(crate) struct Noted {
+    /// The number of signed entries that it counts.
+    pub(crate) signed: u32,
+    /// Where the code of layer 2 stands.
+    pub(crate) two: Slot,
+    /// Where the code of layer 3 stands.
+    pub(crate) three: Slot,
+}
+
+/// No slot.
+const NO_SLOT: Slot = Slot {
+    which: 0,
+    length: 0,
+};
+
+/// What is noted of the header at the beginning of a sector; no entries and no slots if there is no header.
+fn noted_in(sector: &[u8]) -> Noted
     requires { length sector.now ≤ FILE_LIMIT }
-    ensures signed { (header : Header) → BeginsAs header_format sector.now header
-        → result ≡ header.signed }
-    ensures few { result ≤ ENTRY_LIMIT }
+    ensures noted { (header : Header) → BeginsAs header_format sector.now header
+        → IsNoted result header }
+    ensures fits { FitsNoted result }
 {
     match header_at(sector) {
-        Some(header) => header.signed,
-        None => 0,
+        Some(header) => Noted {
+            signed: header.signed,
+            two: header.two,
+            three: header.three,
+        },
+        None => Noted {
+            signed: 0,
+            two: NO_SLOT,
+            three: NO_SLOT,
+        },
     }
 }
 
@@ -104,16 +140,28 @@ fn entry_in(sector: &[u8]) -> Option<Entry>
     read_entry(&mut cursor).ok()
 }
 
-/// The number of signed entries that the header in an area, 0 or 1, counts; 0 if the area holds no header.
-fn count_signed<B: Board>(b: &B, area: u8, room: &mut Room) -> u32
+/// What is noted of the header in an area, 0 or 1; no entries and no slots if the area holds no header.
+fn read_noted<B: Board>(b: &B, area: u8, room: &mut Room) -> Noted
     requires powered { IsPowered (B.seen b.now) }
     requires area { area ≤ 1 }
-    ensures signed { (header : Header) → HoldsHeader (B.seen b.now).memory.flash area header
-        → result ≡ header.signed }
-    ensures few { result ≤ ENTRY_LIMIT }
+    ensures noted { (header : Header) → HoldsHeader (B.seen b.now).memory.flash area header
+        → IsNoted result header }
+    ensures fits { FitsNoted result }
 {
     read_header(b, area, room);
-    signed_in(&room.header)
+    noted_in(&room.header)
+}
+
+/// What is noted of the header that the current root record names.
+#[tactic(auto, using(crate::proofs::Remembered::ready_root))]
+pub(crate) fn note_header<B: Board>(_up: &Up<R1>, b: &B, room: &mut Room) -> Noted
+    requires up { IsUp 1 (B.seen b.now) }
+    requires ready { HasReady (B.seen b.now).memory }
+    ensures { (state : State) → IsReady (B.seen b.now).memory state
+        → NotesCode result (B.seen b.now).memory.flash state }
+{
+    let root = read_root(b, room);
+    read_noted(b, root.area, room)
 }
 
 /// The entry of the log at a position, 0 to 127. If its sector holds no entry, the result is arbitrary.
@@ -151,16 +199,20 @@ pub fn remember<B: Board>(_up: &Up<R1>, b: &B, trees: Box<Trees>, room: &mut Roo
     requires up { IsUp 1 (B.seen b.now) }
     requires ready { HasReady (B.seen b.now).memory }
     ensures knows { (state : State) → IsReady (B.seen b.now).memory state → Knows result state }
+    ensures codes { (state : State) → IsReady (B.seen b.now).memory state
+        → KnowsCode result (B.seen b.now).memory.flash state }
 {
     let root = read_root(b, room);
-    let signed = count_signed(b, root.area, room);
+    let noted = read_noted(b, root.area, room);
     let serial = root.serial;
-    let figures = figures_in(b, signed, room);
+    let figures = figures_in(b, noted.signed, room);
     let mut trees = trees;
     *trees = Trees::none();
     Known {
         serial,
         figures,
+        two: noted.two,
+        three: noted.three,
         trees,
     }
 }

@@ -1,6 +1,13 @@
+pub mod Asked
+pub mod Called
+pub mod Calling
+pub mod Demanded
+pub mod Finished
+pub mod Listing
 pub mod Names
 pub mod Outcomes
 pub mod Promised
 pub mod Readied
+pub mod Replaced
 pub mod Signed
 pub mod Stated

@@ -3,13 +3,19 @@ use Rattle.std.proofs.Common.{◌≡◌, ◌<◌, ℕ, ◌⊎◌, List, Bool, tr
 use Rattle.std.specs.Prelude.{nat_le, find, if◌then◌else◌}
 use Rattle.std.proofs.lemmas.Bool.{le-leb}
 use Rattle.mb_format.specs.Format.{IsBytes}
+use Rattle.mb_model.specs.declared.entry.Said.{Said}
+use Rattle.mb_model.specs.declared.entry.Said.TheVariants.{Message}
+use Rattle.mb_model.specs.declared.entry.Statement.{Statement}
 use Rattle.mb_model.specs.declared.key.KeySeed.{KeySeed}
+use Rattle.mb_model.specs.declared.region.Region.{Region}
 use Rattle.mb_model.specs.declared.region.RegionKey.{RegionKey}
 use Rattle.mb_model.specs.declared.reply.Reply.{Reply}
 use Rattle.mb_model.specs.declared.reply.Reply.TheVariants as reply
 use Rattle.mb_model.specs.declared.state.State.{State}
 use Rattle.mb_model.specs.outside.Board.{Memory, IsLoaded}
 use Rattle.mb_model.specs.records.ChainFormat.{statement_format}
+use Rattle.mb_model.specs.machine.SignedTexts.{said_text}
+use Rattle.mb_model.specs.signatures.Signing.{signature_of}
 use Rattle.mb_model.specs.owners.Layers.{Runnable}
 use Rattle.mb_model.specs.machine.LayerEvents.{Outcome, has_number, statement_of, sign_with, sign_event}
 use Rattle.mb_model.specs.owners.Log.{entries_of, number_of}
@@ -29,7 +35,9 @@ use Rattle.mb_slot.specs.Slots.{IsSameBut}
 use Rattle.mb_region.specs.Regions.{IsRegionSlot}
 use Rattle.mb_region.proofs.Meant.{edited_or_kept}
 use Rattle.mb_outbound.specs.Binding.{HoldsOrdered, HasUse, IsBound, StoresUse, KeepsOrStoresUse}
-use Rattle.mb_device_regions.specs.Statements.{signed_statement_bytes}
+use Rattle.mb_device_orders.specs.declared.remembering.Known.{Known}
+use Rattle.mb_device_orders.specs.Remembering.{Knows}
+use Rattle.mb_device_regions.specs.Statements.{signed_statement, signed_statement_bytes, subject_in}
 use Rattle.mb_device_regions.proofs.Outcomes.{answered_as, cut_as}
 use Rattle.mb_device_regions.proofs.Readied.{region_held, region_valid, ready_edited, no_fate}
 
@@ -85,28 +93,27 @@ used_outcome L number message state key has =
     ∙ ap (λ (b : Bool). let o : Outcome = if b then (refusal_reply KeySpent, state) else after_use L key message state in o) (left_one key.uses has.left)
 
 -- what is signed for a subject, by its parts
-abbrev bytes_by : KeySeed → ℕ → ℕ → List ℕ → ℕ → List ℕ → List ℕ
-bytes_by seed index key serial number message = signed_statement_bytes seed index (record { serial = serial; key = key; number = number }) message
+abbrev bytes_by : KeySeed → ℕ → ℕ → List ℕ → ℕ → Said → List ℕ
+bytes_by seed index key serial number said = signed_statement_bytes seed index (record { serial = serial; key = key; number = number }) said
+
+-- the statement that says this, by a key of a region
+abbrev pub statement_in : State → RegionKey → Said → Statement
+statement_in state key said =
+    signed_statement (number_of (entries_of state.log)) said (signature_of key.seed key.uses (said_text state.serial key.number (number_of (entries_of state.log)) said))
 
 -- the bytes are those of the statement
-stated_as : (state : State) (key : RegionKey) (number right : ℕ) (seed : KeySeed) (serial : List ℕ) (configuration : ℕ) (message : List ℕ) → key.number ≡ number → right ≡ key.uses → seed ≡ key.seed
-    → serial ≡ state.serial → configuration ≡ number_of (entries_of state.log) → bytes_by seed right number serial configuration message ≡ statement_format.spelling (statement_of state key message)
-unfolding statement_of
-stated_as state key number right seed serial configuration message own index same serial_is number_is =
-    ap (λ (n : ℕ). bytes_by seed right n serial configuration message) (sym own)
-    ∙ ap (λ (n : ℕ). bytes_by seed n key.number serial configuration message) index
-    ∙ ap (λ (k : KeySeed). bytes_by k key.uses key.number serial configuration message) same
-    ∙ ap (λ (xs : List ℕ). bytes_by key.seed key.uses key.number xs configuration message) serial_is
-    ∙ ap (λ (n : ℕ). bytes_by key.seed key.uses key.number state.serial n message) number_is
+pub stated_as : (state : State) (key : RegionKey) (number right : ℕ) (seed : KeySeed) (known : Known) (said : Said) → key.number ≡ number → right ≡ key.uses → seed ≡ key.seed → Knows known state
+    → signed_statement_bytes seed right (subject_in known number) said ≡ statement_format.spelling (statement_in state key said)
+stated_as state key number right seed known said own index same knows =
+    ap (λ (n : ℕ). bytes_by seed right n known.serial known.figures.number said) (sym own)
+    ∙ ap (λ (n : ℕ). bytes_by seed n key.number known.serial known.figures.number said) index
+    ∙ ap (λ (k : KeySeed). bytes_by k key.uses key.number known.serial known.figures.number said) same
+    ∙ ap (λ (xs : List ℕ). bytes_by key.seed key.uses key.number xs known.figures.number said) knows.serial
+    ∙ ap (λ (n : ℕ). bytes_by key.seed key.uses key.number state.serial n said) (ap (λ f. f.number) knows.figures)
 
-use_valid : (L number : ℕ) (state : State) → Runnable state.layers L → IsValidState state → IsValidState (with_region state L (region_with_use number (region_of state L)))
+pub use_valid : (L number : ℕ) (state : State) → Runnable state.layers L → IsValidState state → IsValidState (with_region state L (region_with_use number (region_of state L)))
 use_valid L number state runs valid =
     valid_with state L (region_with_use number (region_of state L)) valid (λ upper. valid_over_use (entries_of state.log) state.layers L number (region_of state L) upper runs (region_is_valid state L upper valid))
-
--- what a device is given of itself to sign
-pub record IsOwn (state : State) (serial : List ℕ) (number : ℕ) : Type 0 where
-  pub serial_is : serial ≡ state.serial
-  pub number_is : number ≡ number_of (entries_of state.log)
 
 -- the memory before and after a use of the key is stored
 pub record UsesKey (L number : ℕ) (before after : Memory) : Type 0 where
@@ -122,22 +129,33 @@ use_ready : (L number : ℕ) (before after : Memory) (state : State) → IsRegio
 use_ready L number before after state which uses runs ready =
     ready_edited L (region_with_use number) before after state which uses.bytes uses.loaded ready uses.sized uses.stores.stored uses.blank uses.rest (use_valid L number state runs ready.valid)
 
-reply_as : (number own right uses : ℕ) (bytes spelled : List ℕ) → own ≡ number → right ≡ uses → bytes ≡ spelled → reply.Signed number right bytes ≡ reply.Signed own uses spelled
+pub reply_as : (number own right uses : ℕ) (bytes spelled : List ℕ) → own ≡ number → right ≡ uses → bytes ≡ spelled → reply.Signed number right bytes ≡ reply.Signed own uses spelled
 reply_as number own right uses bytes spelled same index is =
     ap (λ (n : ℕ). reply.Signed n right bytes) (sym same) ∙ ap (λ (n : ℕ). reply.Signed own n bytes) index ∙ ap (reply.Signed own uses) is
 
-pub signed_told : (L number right index : ℕ) (seed : KeySeed) (serial : List ℕ) (configuration : ℕ) (copied message bytes : List ℕ) (state : State) (before after : Memory) → IsRegionSlot L
-    → IsBound (region_of state L) number right seed → UsesKey L number before after → IsOwn state serial configuration → copied ≡ message → index ≡ right
-    → bytes ≡ signed_statement_bytes seed right (record { serial = serial; key = number; number = configuration }) copied → Runnable state.layers L → IsReady before state
-    → IsAnswered (sign_event L number message state) (reply.Signed number index bytes) before after
-signed_told L number right index seed serial configuration copied message bytes state before after which bound uses own same index_is is runs ready =
+-- the reply of a key that was bound is that of the statement
+pub bound_reply : (region : Region) (state : State) (number right : ℕ) (seed : KeySeed) (known : Known) (said : Said) (bound : IsBound region number right seed) → Knows known state
+    → reply.Signed number right (signed_statement_bytes seed right (subject_in known number) said) ≡ reply.Signed bound.key.number bound.key.uses (statement_format.spelling (statement_in state bound.key said))
+bound_reply region state number right seed known said bound knows =
+    let own_number : bound.key.number ≡ number = found_number number region.keys bound.key bound.has_use.found in
+    reply_as number bound.key.number right bound.key.uses _ _ own_number bound.index (stated_as state bound.key number right seed known said own_number bound.index bound.seed knows)
+
+message_stated : (state : State) (key : RegionKey) (message : List ℕ) → statement_in state key (Message message) ≡ statement_of state key message
+unfolding statement_of
+message_stated state key message = refl
+
+pub signed_told : (L number right : ℕ) (seed : KeySeed) (known : Known) (said : Said) (message : List ℕ) (answer : Reply) (state : State) (before after : Memory) → IsRegionSlot L
+    → IsBound (region_of state L) number right seed → UsesKey L number before after → Knows known state → said ≡ Message message
+    → answer ≡ reply.Signed number right (signed_statement_bytes seed right (subject_in known number) said) → Runnable state.layers L → IsReady before state
+    → IsAnswered (sign_event L number message state) answer before after
+signed_told L number right seed known said message answer state before after which bound uses knows says is runs ready =
     let key : RegionKey = bound.key in
     let own_number : key.number ≡ number = found_number number (region_of state L).keys key bound.has_use.found in
-    let spelled : bytes ≡ statement_format.spelling (statement_of state key message) =
-    is ∙ ap (λ (xs : List ℕ). bytes_by seed right number serial configuration xs) same
-    ∙ stated_as state key number right seed serial configuration message own_number bound.index bound.seed own.serial_is own.number_is in
     answered_as (used_outcome L number message state key bound.has_use)
-    (tells (reply_as number key.number index key.uses bytes _ own_number (index_is ∙ bound.index) spelled)
+    (tells
+    (is ∙ bound_reply (region_of state L) state number right seed known said bound knows
+    ∙ ap (λ (x : Said). reply.Signed key.number key.uses (statement_format.spelling (statement_in state key x))) says
+    ∙ ap (λ (x : Statement). reply.Signed key.number key.uses (statement_format.spelling x)) (message_stated state key message))
     (subst (λ (n : ℕ). IsReady after (with_region state L (region_with_use n (region_of state L)))) (sym own_number) (use_ready L number before after state which uses runs ready)))
 
 -- ---- a power loss

@@ -1,3 +1,5 @@
 pub mod Calls
+pub mod Demands
+pub mod Runs
 pub mod Secrets
 pub mod Statements

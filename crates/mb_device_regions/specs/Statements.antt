@@ -1,36 +1,50 @@
--- What is prepared for a statement, and its bytes. Does signing find the memory that it needs?
-use Rattle.std.specs.Prelude.{◌≡◌, ℕ, ◌≤◌, List, [], false, Option, Result, Ok, Err}
-use Rattle.std.specs.Vec.{vec_len, vec_capacity}
+-- The bytes of a statement, and the tree of the key that signs it.
+use Rattle.std.specs.Prelude.{◌≡◌, ℕ, List, false, Option, None, Some, Result, Ok, Err}
+use Rattle.mb_model.specs.declared.entry.Said.{Said}
 use Rattle.mb_model.specs.declared.entry.Statement.{Statement}
 use Rattle.mb_model.specs.declared.key.KeySeed.{KeySeed}
 use Rattle.mb_model.specs.records.ChainFormat.{statement_format}
 use Rattle.mb_model.specs.chains.Listing.{is_signed}
 use Rattle.mb_model.specs.signatures.Signing.{signature_of}
-use Rattle.mb_model.specs.machine.SignedTexts.{statement_text}
+use Rattle.mb_model.specs.machine.SignedTexts.{said_text}
 use Rattle.mb_model.specs.declared.reply.Reply.{Reply}
 use Rattle.mb_model.specs.declared.reply.Reply.TheVariants as reply
+use Rattle.mb_device_orders.specs.declared.remembering.Known.{Known}
 use Rattle.mb_outbound.specs.declared.kept.RegionTree.{RegionTree}
 use Rattle.mb_outbound.specs.declared.stating.Subject.{Subject}
 use Rattle.mb_outbound.specs.KeptTrees.{IsKeptFor}
-use Rattle.mb_device_regions.specs.declared.signing.Prepared.{Prepared}
-use Rattle.mb_device_regions.specs.declared.signing.TheConstants.{STATEMENT_LENGTH}
+use Rattle.mb_signer.specs.Tree.{IsTreeOf}
 
--- the message is copied, and there is room for the longest statement
-pub record IsPreparedMessage (message : List ℕ) (prepared : Prepared) : Type 0 where
-  pub copied : prepared.message ≡ message
-  pub empty : prepared.bytes.items ≡ []
-  pub none : vec_len prepared.bytes ≡ 0
-  pub room : STATEMENT_LENGTH ≤ vec_capacity prepared.bytes
+-- the statement that says this, at this configuration number and with this signature
+abbrev pub signed_statement : ℕ → Said → List ℕ → Statement
+signed_statement number said signature = record { number = number; said = said; signature = signature }
 
--- the statement of a message, at this configuration number and with this signature
-abbrev pub signed_statement : ℕ → List ℕ → List ℕ → Statement
-signed_statement number message signature = record { number = number; message = message; signature = signature }
+-- the bytes of the statement that says this, signed by a key at the index, for this subject
+abbrev pub signed_statement_bytes : KeySeed → ℕ → Subject → Said → List ℕ
+signed_statement_bytes seed index subject said =
+    let text = said_text subject.serial subject.key subject.number said in
+    statement_format.spelling (signed_statement subject.number said (signature_of seed index text))
 
--- the bytes of the statement of a message that a key signs at the index, for this subject
-abbrev pub signed_statement_bytes : KeySeed → ℕ → Subject → List ℕ → List ℕ
-signed_statement_bytes seed index subject message =
-    let text = statement_text subject.serial subject.key subject.number message in
-    statement_format.spelling (signed_statement subject.number message (signature_of seed index text))
+-- ---- what a device knows of itself
+
+-- the key with this number, in the device and in the configuration that are remembered
+abbrev pub subject_in : Known → ℕ → Subject
+subject_in known key = record { serial = known.serial; key = key; number = known.figures.number }
+
+-- nothing that is remembered has changed but the tree of the region's key that signed last
+pub record SameBesidesTree (known known_after : Known) : Type 0 where
+  pub serial : known_after.serial ≡ known.serial
+  pub figures : known_after.figures ≡ known.figures
+  pub two : known_after.two ≡ known.two
+  pub three : known_after.three ≡ known.three
+  pub device : known_after.trees.value.device ≡ known.trees.value.device
+
+-- a tree is kept, for the key with this number in the region of this place, and it is that of this seed
+abbrev pub IsKeptOfSeed : Option RegionTree → ℕ → ℕ → KeySeed → Type 0
+IsKeptOfSeed None place number seed = ⊥
+IsKeptOfSeed (Some own) place number seed = (own.place ≡ place) × (own.number ≡ number) × IsTreeOf seed own.tree
+
+-- ---- trees once a key has signed
 
 -- once the key has signed, its tree is kept
 abbrev pub KeepsTree : {S E : Type 0} → Result (S × Reply) E → Option RegionTree → ℕ → ℕ → Type 0

@@ -1,20 +1,27 @@
-//! Statements: messages that a key of a region signs.
+//! Statements: what a key of a region signs.
 
-ghost use Rattle.std.specs.Prelude.{◌≡◌, ◌+◌, ◌≤◌, length, IfOk};
+ghost use Rattle.std.specs.Prelude.{◌≡◌, ◌+◌, ◌≤◌, [], vec_len, vec_capacity, IfOk};
+ghost use Rattle.mb_model.specs.declared.entry.Said.TheVariants as said;
 ghost use Rattle.mb_model.specs.machine.LayerEvents.{sign_event};
 ghost use Rattle.mb_model.specs.chains.Script.{FitsMessage};
-ghost use Rattle.mb_model.specs.records.ChainFormat.{statement_format};
+ghost use Rattle.mb_model.specs.declared.limits.TheConstants.{STATEMENT_LIMIT};
+ghost use Rattle.mb_model.specs.declared.reply.Reply.TheVariants as reply;
+ghost use Rattle.mb_model.specs.records.ChainFormat.{said_format, statement_format};
 ghost use Rattle.mb_signer.specs.Tree.{IsTreeOf};
 ghost use Rattle.mb_device_orders.specs.Remembering.{CanAnswer};
 ghost use Rattle.mb_device_regions.specs.Calls.{AnswersIn, SignsByTree};
-ghost use Rattle.mb_device_regions.specs.Statements.{IsPreparedMessage, signed_statement, signed_statement_bytes};
-ghost use Rattle.mb_lms.specs.declared.hash_count.TheConstants.{LEAF_HASHES};
+ghost use Rattle.mb_device_regions.specs.Statements.{signed_statement, signed_statement_bytes, subject_in};
+ghost use Rattle.mb_device_regions.specs.Statements.{SameBesidesTree, IsKeptOfSeed};
+ghost use Rattle.mb_lms.specs.declared.hash_count.TheConstants.{LEAF_HASHES, SIGNING_HASHES};
+ghost use Rattle.mb_outbound.specs.KeptTrees.{IsKeptFor, IfKeptFor};
 
 use mb_board::Board;
-use mb_cert::{Statement, write_statement};
-use mb_device_orders::Running;
+use mb_cert::write_statement;
+use mb_device_orders::{Known, Running};
 use mb_lms::HashCount;
-use mb_model::{Bytes, KeySeed, MESSAGE_LIMIT, NoMemory, Refusal, Reply, SIGNATURE_LENGTH};
+use mb_model::{
+    Bytes, KeySeed, NoMemory, Refusal, Reply, SIGNATURE_LENGTH, STATEMENT_LIMIT, Said, Statement,
+};
 use mb_outbound::{BindEnd, Subject, bind, region_tree, state_text};
 use mb_ratchet::{Off, Reaches};
 use mb_region::Named;
@@ -22,38 +29,33 @@ use mb_signer::{KeptTree, OneUse};
 use std::alloc::Global;
 use std::sync::ledger::Ledger;
 
-/// The longest statement, in bytes: a configuration number, a message after its length, and a signature.
-const STATEMENT_LENGTH: usize = 5 + MESSAGE_LIMIT as usize + SIGNATURE_LENGTH;
-
-/// The memory that a statement takes.
+/// Memory for the longest statement.
 #[derive(Drop)]
-struct Prepared {
-    message: Bytes,
-    /// Room for the longest statement.
+pub(crate) struct Sheet {
     bytes: Vec<u8>,
+    ghost room: { STATEMENT_LIMIT ≤ vec_capacity bytes },
+    ghost none: { vec_len bytes ≡ 0 },
+    ghost empty: { bytes.items ≡ [] },
 }
 
-/// Takes all memory for a statement of the message.
-fn prepare(alloc: Global, message: &Bytes) -> Result<Prepared, NoMemory>
-    ensures { IfOk result (λ prepared. IsPreparedMessage message.now prepared) }
-{
-    let bytes = Vec::with_capacity(alloc, STATEMENT_LENGTH)?;
-    Ok(Prepared {
-        message: Bytes::copy(alloc, message.as_slice())?,
-        bytes,
-    })
+impl Sheet {
+    /// Takes the memory.
+    pub(crate) fn new(alloc: Global) -> Result<Sheet, NoMemory> {
+        let bytes = Vec::with_capacity(alloc, STATEMENT_LIMIT)?;
+        Ok(Sheet { bytes })
+    }
 }
 
-/// The statement of a message, with this signature.
-#[tactic(auto, using(mb_model_lemmas::proofs::AttachLemmas::statement_allowed))]
-fn statement_with(number: u32, message: Bytes, signature: [u8; SIGNATURE_LENGTH]) -> Statement
-    requires { length message ≤ MESSAGE_LIMIT }
-    ensures is { result ≡ signed_statement number message signature }
+/// The statement that says this, with this signature.
+#[tactic(auto, using(crate::proofs::Stated::said_allowed))]
+fn statement_with(number: u32, said: Said, signature: [u8; SIGNATURE_LENGTH]) -> Statement
+    requires { said_format.Allowed said }
+    ensures is { result ≡ signed_statement number said signature }
     ensures allowed { statement_format.Allowed result }
 {
     Statement {
         number,
-        message,
+        said,
         signature,
     }
 }
@@ -65,31 +67,73 @@ fn make_statement<Lg: Ledger>(
     seed: &KeySeed,
     tree: &KeptTree,
     subject: &Subject,
-    prepared: Prepared,
+    said: Said,
+    sheet: Sheet,
     hashes: &mut HashCount<Lg>,
 ) -> Bytes
-    requires short { length prepared.message ≤ MESSAGE_LIMIT }
-    requires prepared { IsPreparedMessage prepared.message prepared }
+    requires said { said_format.Allowed said }
     requires tree { IsTreeOf seed.now tree.now }
-    ensures statement { result ≡ signed_statement_bytes seed.now right subject.now prepared.message }
+    ensures statement { result ≡ signed_statement_bytes seed.now right subject.now said }
     ensures cost { hashes.new ≤ hashes.old + LEAF_HASHES }
 {
     let mut signature = [0; SIGNATURE_LENGTH];
-    let Prepared { message, mut bytes } = prepared;
-    state_text(
-        right,
-        seed,
-        tree,
-        subject,
-        message.as_slice(),
-        &mut signature,
-        hashes,
-    );
-    let statement = statement_with(subject.number, message, signature);
+    let Sheet { mut bytes } = sheet;
+    state_text(right, seed, tree, subject, &said, &mut signature, hashes);
+    let statement = statement_with(subject.number, said, signature);
     match write_statement(&statement, &mut bytes) {
         Ok(()) => Bytes::from_vec(bytes),
         Err(NoMemory) => unreachable!(),
     }
+}
+
+/// The reply that the key with number `key` of the region of this place, bound by this right and with this seed, has
+/// signed what is said. The key signs with its tree, which is kept in place of the previous one. Takes no memory.
+pub(crate) fn sign_bound<Lg: Ledger>(
+    place: u16,
+    key: u32,
+    right: OneUse,
+    seed: &KeySeed,
+    said: Said,
+    sheet: Sheet,
+    known: &mut Known,
+    hashes: &mut HashCount<Lg>,
+) -> Reply
+    requires said { said_format.Allowed said }
+    requires own { IfKeptFor known.old.trees.value.region place key (λ own. IsTreeOf seed.now own.tree) }
+    ensures reply { result ≡ reply.Signed key right
+        (signed_statement_bytes seed.now right (subject_in known.old key) said) }
+    ensures known { SameBesidesTree known.old known.new }
+    ensures kept { IsKeptOfSeed known.new.trees.value.region place key seed.now }
+    ensures cost { hashes.new ≤ hashes.old + SIGNING_HASHES }
+    ensures again { IsKeptFor known.old.trees.value.region place key → hashes.new ≤ hashes.old + LEAF_HASHES }
+{
+    let index = right.index();
+    let subject = Subject {
+        serial: known.serial,
+        key,
+        number: known.figures.number,
+    };
+    let kept = &mut known.trees.region;
+    let own = region_tree(kept.take(), place, key, seed, hashes);
+    let statement = make_statement(right, seed, &own.tree, &subject, said, sheet, hashes);
+    *kept = Some(own);
+    Reply::Signed {
+        key,
+        index,
+        statement,
+    }
+}
+
+/// What a statement of the message says, and memory for the statement.
+fn prepare(alloc: Global, message: &Bytes) -> Result<(Said, Sheet), NoMemory>
+    requires { FitsMessage message.now }
+    ensures { IfOk result (λ prepared. prepared.0 ≡ said.Message message.now) }
+{
+    let sheet = Sheet::new(alloc)?;
+    Ok((
+        Said::Message(Bytes::copy(alloc, message.as_slice())?),
+        sheet,
+    ))
 }
 
 /// Answers a request to sign: a statement of the message, signed by the key with number `key` at its next index, or a
@@ -116,30 +160,23 @@ pub fn sign_message<S: Reaches<L>, L: Named, B: Board, Lg: Ledger>(
     ensures trees { SignsByTree L.place key running.old.known.trees.value
         running.new.known.trees.value result hashes.old hashes.new }
 {
-    let prepared = match prepare(alloc, message) {
+    let (said, sheet) = match prepare(alloc, message) {
         Ok(prepared) => prepared,
         Err(NoMemory) => return Ok((s, Reply::NoMemory)),
     };
     match bind::<S, L, B>(s, b, key, &mut running.room) {
         Ok((s, right, seed)) => {
-            let index = right.index();
-            let subject = Subject {
-                serial: running.known.serial,
+            let reply = sign_bound(
+                L::number(),
                 key,
-                number: running.known.figures.number,
-            };
-            let kept = &mut running.known.trees.region;
-            let own = region_tree(kept.take(), L::number(), key, &seed, hashes);
-            let statement = make_statement(right, &seed, &own.tree, &subject, prepared, hashes);
-            *kept = Some(own);
-            Ok((
-                s,
-                Reply::Signed {
-                    key,
-                    index,
-                    statement,
-                },
-            ))
+                right,
+                &seed,
+                said,
+                sheet,
+                &mut running.known,
+                hashes,
+            );
+            Ok((s, reply))
         }
         Err(BindEnd::NoKey(s)) => Ok((s, Refusal::NoSuchKey.reply())),
         Err(BindEnd::Spent(s)) => Ok((s, Refusal::KeySpent.reply())),

@@ -1,22 +1,26 @@
 //! The stored region of a device that is ready.
 
-ghost use Rattle.std.specs.Prelude.{◌≡◌, ◌⊎◌, OnOk, IfOk};
+ghost use Rattle.std.specs.Prelude.{◌≡◌, ◌<◌, ◌⊎◌, OnOk, IfOk};
 ghost use Rattle.mb_format.specs.Format.{IsBytes};
 ghost use Rattle.mb_layout.specs.Plans.{SamePlans};
+ghost use Rattle.mb_layout_edits.specs.Edits.{region_with_use};
 ghost use Rattle.mb_model.specs.declared.state.State.{State};
 ghost use Rattle.mb_model.specs.owners.Regions.{region_of, with_region};
 ghost use Rattle.mb_model.specs.memories.Valid.{IsValidState};
-ghost use Rattle.mb_board.specs.Calls.{IsUp, RanOnBbram};
-ghost use Rattle.mb_model_memory.specs.Holding.{Means, IsReady, HasReady};
+ghost use Rattle.mb_board.specs.Calls.{IsUp};
+ghost use Rattle.mb_model_memory.specs.Holding.{IsReady, HasReady};
 ghost use Rattle.mb_model.specs.records.RegionFormat.{CanBeWritten};
-ghost use Rattle.mb_outbound.specs.Calls.{PutsInSlot};
+ghost use Rattle.mb_outbound.specs.Binding.{AreKeysInOrder, HasUnspentKey, IsBound};
 ghost use Rattle.mb_device_regions.specs.Secrets.{IsKeptRegion};
+ghost use Rattle.mb_device_regions.specs.Calls.{Replaces};
 
 use mb_board::Board;
 use mb_layout::Room;
-use mb_model::{NoMemory, Region};
+use mb_model::{KeySeed, NoMemory, Region};
+use mb_outbound::{bind_region, put_region};
 use mb_ratchet::{Off, Reaches};
-use mb_region::{Named, commit_region, read_stored, wipe_region};
+use mb_region::{Named, read_stored};
+use mb_signer::OneUse;
 use std::alloc::Global;
 
 /// Reads the stored region.
@@ -36,24 +40,9 @@ pub(crate) fn load<S: Reaches<L>, L: Named, B: Board>(
     read_stored::<S, L, B>(alloc, s, b, room)
 }
 
-/// Replaces the stored region by this one, and then wipes its old area.
-fn exchange<S: Reaches<L>, L: Named, B: Board>(
-    s: S,
-    b: &mut B,
-    region: &Region,
-    room: &mut Room,
-) -> Result<S, Off>
-    requires up { IsUp S.stage (B.seen b.old) }
-    requires stored { CanBeWritten region.now }
-    ensures { PutsInSlot L.place (λ given. given ≡ region.now) room.old room.new result (B.seen b.old)
-        (B.seen b.new) }
-{
-    let s = commit_region::<S, L, B>(s, b, region, room)?;
-    wipe_region::<S, L, B>(s, b)
-}
-
 /// Makes this the region of the state that the memory means. If power fails, the memory means the state with the old
-/// region or with this one. There are at most three write calls.
+/// region or with this one. There are at most three write calls; if power does not fail, two if the old region was empty,
+/// else three.
 pub(crate) fn replace<S: Reaches<L>, L: Named, B: Board>(
     s: S,
     b: &mut B,
@@ -63,14 +52,30 @@ pub(crate) fn replace<S: Reaches<L>, L: Named, B: Board>(
     requires up { IsUp S.stage (B.seen b.old) }
     requires bytes { IsBytes (B.seen b.old).memory.bbram }
     requires stored { CanBeWritten region.now }
-    ensures done { (state : State) → IsReady (B.seen b.old).memory state
-        → IsValidState (with_region state L.place region.now)
-        → OnOk result (IsReady (B.seen b.new).memory (with_region state L.place region.now)) }
-    ensures either { (state : State) → IsReady (B.seen b.old).memory state
-        → Means (B.seen b.new).memory state
-        ⊎ Means (B.seen b.new).memory (with_region state L.place region.now) }
-    ensures ran { RanOnBbram 3 result (B.seen b.old) (B.seen b.new) }
-    ensures plans { SamePlans room.old room.new }
+    ensures { Replaces L.place region.now room.old room.new result (B.seen b.old) (B.seen b.new) }
 {
-    exchange::<S, L, B>(s, b, region, room)
+    put_region::<S, L, B>(s, b, region, room)
+}
+
+/// Makes this region, with one more use of the key of this number, the region of the state that the memory means, and
+/// returns the right to the key's next index, and its seed. If power fails, the memory means the state with the old
+/// region or with the new one. There are at most three write calls; if power does not fail, two if the old region was
+/// empty, else three.
+pub(crate) fn rebind<S: Reaches<L>, L: Named, B: Board>(
+    s: S,
+    b: &mut B,
+    key: u32,
+    region: &mut Region,
+    room: &mut Room,
+) -> Result<(S, OneUse, KeySeed), Off>
+    requires up { IsUp S.stage (B.seen b.old) }
+    requires bytes { IsBytes (B.seen b.old).memory.bbram }
+    requires ordered { AreKeysInOrder region.old }
+    requires can_sign { HasUnspentKey region.old key }
+    requires stored { CanBeWritten region.old }
+    ensures bound { IfOk result (λ bound. IsBound region.old key bound.1 bound.2) }
+    ensures replaces { Replaces L.place (region_with_use key region.old) room.old room.new result (B.seen b.old)
+        (B.seen b.new) }
+{
+    bind_region::<S, L, B>(s, b, key, region, room)
 }

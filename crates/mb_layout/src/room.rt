@@ -19,6 +19,8 @@ pub struct Room {
     pub header: Vec<u8>,
     /// The content of the sector of the log that is written next.
     pub log: Vec<u8>,
+    /// The code of a call, while it runs; no caller relies on it after a call.
+    pub called: Vec<u8>,
     /// Working space; no caller relies on it after a call.
     pub area: Vec<u8>,
     /// More working space.
@@ -26,6 +28,7 @@ pub struct Room {
     ghost code_room: { CODE_LIMIT ≤ vec_capacity code },
     ghost header_room: { SECTOR_LENGTH ≤ vec_capacity header },
     ghost log_room: { SECTOR_LENGTH ≤ vec_capacity log },
+    ghost called_room: { CODE_LIMIT ≤ vec_capacity called },
     ghost area_room: { AREA_LENGTH ≤ vec_capacity area },
     ghost other_room: { AREA_LENGTH ≤ vec_capacity other },
 }
@@ -34,11 +37,12 @@ impl Room {
     /// Empty buffers with their room, and no code to write. `NoMemory` if an allocation fails.
     pub fn new(alloc: Global) -> Result<Room, NoMemory>
         ensures { IfOk result (λ room. (room.code.items ≡ []) × (room.code_layer ≡ 0) × (room.header.items ≡ [])
-            × (room.log.items ≡ []) × (room.area.items ≡ []) × (room.other.items ≡ [])) }
+            × (room.log.items ≡ []) × (room.called.items ≡ []) × (room.area.items ≡ []) × (room.other.items ≡ [])) }
     {
         let code = Vec::with_capacity(alloc, CODE_LIMIT as usize)?;
         let header = Vec::with_capacity(alloc, SECTOR_LENGTH)?;
         let log = Vec::with_capacity(alloc, SECTOR_LENGTH)?;
+        let called = Vec::with_capacity(alloc, CODE_LIMIT as usize)?;
         let area = Vec::with_capacity(alloc, AREA_LENGTH)?;
         let other = Vec::with_capacity(alloc, AREA_LENGTH)?;
         Ok(Room {
@@ -46,6 +50,7 @@ impl Room {
             code_layer: 0,
             header,
             log,
+            called,
             area,
             other,
         })

@@ -12,5 +12,6 @@ mod stored;
 mod usage;
 
 pub use fate::fate_record;
+pub use row::key_of;
 pub use stored::count_keys;
 pub use usage::{NotUsed, use_in_record};

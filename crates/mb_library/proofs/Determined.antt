@@ -20,7 +20,9 @@ use Rattle.mb_library.specs.Signatures.{IsLmsSigned, IsNotLmsSigned, signature_a
 use Rattle.mb_library.specs.Chains.{ListingEnd, listing_put, listing_without_room, ChainEnd, chain_accepted, chain_not_accepted, chain_without_memory, chain_read, chain_too_long, chain_under_no_key}
 use Rattle.mb_library.specs.Judging.{ReportEnd, report_allowed, report_denied, report_without_memory, TrustEnd, trust_judged, trust_not_accepted, trust_without_memory}
 use Rattle.mb_library.specs.Judging.{trust_by_policy_text, trust_by_no_policy, trust_unread, trust_too_long, trust_under_no_key, AreShort}
-use Rattle.mb_library.specs.Laws.{LmsAnswersAreDetermined, ChainAnswersAreDetermined, TrustAnswersAreDetermined}
+use Rattle.mb_library.specs.Stated.{stated_of, SaidEnd, said_accepted, said_not_accepted, said_without_memory, said_read, said_too_long, said_under_no_key}
+use Rattle.mb_library.specs.declared.stated.Stated.{Stated}
+use Rattle.mb_library.specs.Laws.{LmsAnswersAreDetermined, ChainAnswersAreDetermined, SaidAnswersAreDetermined, TrustAnswersAreDetermined}
 use Rattle.mb_library.proofs.KeyBytes.{one_key}
 
 -- ---- signatures
@@ -97,6 +99,48 @@ chains_determined maker chain n old one other told said a b are (chain_under_no_
 chains_determined maker chain n old one other told said a b are (chain_under_no_key none x t same) (chain_too_long l also _ y s still) na nb =
     absurd (none l also)
 chains_determined maker chain n old one other told said a b are (chain_under_no_key none x t same) (chain_under_no_key _ y s still) na nb =
+    (x ∙ sym y, same ∙ sym still, t ∙ sym s)
+
+-- ---- statements
+
+said_ends_determined : (maker : PublicKey) (chain : List ℕ) (n : ℕ) (one other : Stated) (told said : Details) (a b : ℕ)
+    → IsBytes chain → SaidEnd maker chain n one told a → SaidEnd maker chain n other said b → a ≢ 4 → b ≢ 4
+    → (a ≡ b) × (one ≡ other) × (told ≡ said)
+said_ends_determined maker chain n one other told said a b are (said_accepted r is x t says) (said_accepted q also y s say) na nb =
+    let same : q ≡ r = one_report maker chain n q r are also is in
+    (x ∙ sym y, says ∙ ap (λ (it : Report). stated_of it.said) (sym same) ∙ sym say, t ∙ sym s)
+said_ends_determined maker chain n one other told said a b are (said_accepted r is x t says) (said_not_accepted why y s refused none) na nb =
+    absurd (never_both maker chain n r why are is refused)
+said_ends_determined maker chain n one other told said a b are (said_accepted r is x t says) (said_without_memory y s none) na nb = absurd (nb y)
+said_ends_determined maker chain n one other told said a b are (said_not_accepted why x t refused none) (said_accepted r is y s says) na nb =
+    absurd (never_both maker chain n r why are is refused)
+said_ends_determined maker chain n one other told said a b are (said_not_accepted why x t refused none) (said_not_accepted for y s also still) na nb =
+    let alike : why ≡ for = one_refusal maker chain n why for are refused also in
+    (x ∙ ap refusal_code alike ∙ sym y, none ∙ sym still, t ∙ ap refusal_details alike ∙ sym s)
+said_ends_determined maker chain n one other told said a b are (said_not_accepted why x t refused none) (said_without_memory y s still) na nb =
+    absurd (nb y)
+said_ends_determined maker chain n one other told said a b are (said_without_memory x t none) end na nb = absurd (na x)
+
+pub said_determined : SaidAnswersAreDetermined
+said_determined maker chain n one other told said a b are (said_read k spells short end) (said_read l also _ ended) na nb =
+    let same : l ≡ k = one_key maker l k also spells in
+    said_ends_determined k chain n one other told said a b are end
+    (subst (λ (it : PublicKey). SaidEnd it chain n other said b) same ended) na nb
+said_determined maker chain n one other told said a b are (said_read k spells short end) (said_too_long l also long y s still) na nb =
+    absurd (within_or_above (length chain) FILE_LIMIT short long)
+said_determined maker chain n one other told said a b are (said_read k spells short end) (said_under_no_key none y s still) na nb =
+    absurd (none k spells)
+said_determined maker chain n one other told said a b are (said_too_long k spells long x t same) (said_read l also short end) na nb =
+    absurd (within_or_above (length chain) FILE_LIMIT short long)
+said_determined maker chain n one other told said a b are (said_too_long k spells long x t same) (said_too_long l also _ y s still) na nb =
+    (x ∙ sym y, same ∙ sym still, t ∙ sym s)
+said_determined maker chain n one other told said a b are (said_too_long k spells long x t same) (said_under_no_key none y s still) na nb =
+    absurd (none k spells)
+said_determined maker chain n one other told said a b are (said_under_no_key none x t same) (said_read l also short end) na nb =
+    absurd (none l also)
+said_determined maker chain n one other told said a b are (said_under_no_key none x t same) (said_too_long l also _ y s still) na nb =
+    absurd (none l also)
+said_determined maker chain n one other told said a b are (said_under_no_key none x t same) (said_under_no_key _ y s still) na nb =
     (x ∙ sym y, same ∙ sym still, t ∙ sym s)
 
 -- ---- policies

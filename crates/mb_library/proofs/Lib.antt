@@ -1,3 +1,4 @@
 mod KeyBytes
 mod Ends
+mod Saying
 mod Determined

@@ -13,9 +13,12 @@ mod details;
 pub mod judging;
 mod laws;
 pub mod signatures;
+mod stated;
+pub mod statements;
 
 pub use codes::{
     ACCEPTED, BAD_POLICY, BAD_SIGNATURE, DENIED, NO_KEY, NO_MEMORY, NO_ROOM, TOO_LONG,
 };
 pub use details::Details;
 pub use laws::answers_are_determined;
+pub use stated::{SAYS_ANSWER, SAYS_MESSAGE, SAYS_NOTHING, Stated};

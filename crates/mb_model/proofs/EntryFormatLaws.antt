@@ -2,10 +2,10 @@
 -- fails where the format says. Each format has a law `NAME_exact`, from the laws of its fields: `search` composes them
 -- by the ruleset `exactly`. A table, a choice by a tag, and a value that is one case of a type need a lemma of their
 -- own beside it.
-use Rattle.std.proofs.Common.{◌≡◌, ℕ, Bool, true, false, List, Option, Some, refl, arith, rules}
+use Rattle.std.proofs.Common.{◌≡◌, ℕ, ◌==◌, Bool, true, false, List, Option, Some, refl, arith, rules}
 use Rattle.std.specs.Int.{w8}
 use Rattle.mb_format.specs.Reading.{IsExact}
-use Rattle.mb_format.specs.Combinators.{row_of}
+use Rattle.mb_format.specs.Combinators.{row_of, either}
 use Rattle.mb_format.proofs.Rules.{exactly}
 use Rattle.mb_format.proofs.Fields.{IsTable, IsList}
 use Rattle.mb_model.specs.declared.key.PublicKey.{PublicKey}
@@ -24,7 +24,9 @@ use Rattle.mb_model.specs.records.EntryFormat.{birth_in, birth_format, change_in
 use Rattle.mb_model.specs.records.EntryFormat.{new_key_in, new_key_format, succession_in, succession_format}
 use Rattle.mb_model.specs.records.EntryFormat.{entry_byte, entry_rows, entry_tag, entry_by, entry_format}
 use Rattle.mb_model.specs.records.EntryFormat.{signed_entry_format}
-use Rattle.mb_model.specs.records.ChainFormat.{statement_format, chain_format}
+use Rattle.mb_model.specs.declared.entry.Said.{Said}
+use Rattle.mb_model.specs.declared.entry.Said.TheVariants.{Message, Answer}
+use Rattle.mb_model.specs.records.ChainFormat.{said_byte, asked_in, answered_in, answered_format, asked_format, said_format, statement_format, chain_format}
 use Rattle.mb_model.proofs.KeyFormatLaws.{public_key_exact, layers_exact}
 
 -- ---- single fields
@@ -152,9 +154,49 @@ signed_entry_exact = search (exactly, entry_exact) depth 20
 
 -- ---- chains
 
+abbrev answered_from : List ℕ × List ℕ → Said
+answered_from (input, answer) = Answer input answer
+
+answered_only : (said : Said) (parts : List ℕ × List ℕ) → answered_in said ≡ Some parts → answered_from parts ≡ said
+answered_only (Message message) parts taken = grind arith
+answered_only (Answer input answer) parts taken = grind arith
+
+asked_only : (said : Said) (message : List ℕ) → asked_in said ≡ Some message → Message message ≡ said
+asked_only (Message message) other taken = grind arith
+asked_only (Answer input answer) other taken = grind arith
+
+pub answered_exact : IsExact answered_format
+unfolding answered_format
+answered_exact = search (exactly, answered_only) depth 20
+
+pub asked_exact : (size : ℕ) → IsExact (asked_format size)
+unfolding asked_format
+asked_exact size = search (exactly, asked_only) depth 20
+
+following_exact : (size : ℕ) (b : Bool) → IsExact (either b answered_format (asked_format size))
+following_exact size true = answered_exact
+following_exact size false = asked_exact size
+
+said_following : (size : ℕ) → IsExact (either (size == 129) answered_format (asked_format size))
+said_following size = following_exact size (size == 129)
+
+keyed_by : (size : ℕ) (b : Bool) → (size == 129) ≡ b → (said : Said) → (either b answered_format (asked_format size)).Allowed said → said_byte said ≡ size
+unfolding answered_format asked_format
+keyed_by size true is (Message message) allowed = absurd allowed
+keyed_by size true is (Answer input answer) allowed = grind (arith, is)
+keyed_by size false is (Message message) allowed = allowed
+keyed_by size false is (Answer input answer) allowed = absurd allowed
+
+said_keyed : (size : ℕ) (said : Said) → (either (size == 129) answered_format (asked_format size)).Allowed said → said_byte said ≡ size
+said_keyed size said allowed = keyed_by size (size == 129) refl said allowed
+
+pub said_exact : IsExact said_format
+unfolding said_format
+said_exact = search (exactly, said_following, said_keyed) depth 20
+
 pub statement_exact : IsExact statement_format
 unfolding statement_format
-statement_exact = search exactly depth 20
+statement_exact = search (exactly, said_exact) depth 20
 
 pub chain_exact : IsExact chain_format
 unfolding chain_format

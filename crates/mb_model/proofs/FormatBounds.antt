@@ -17,7 +17,7 @@ use Rattle.mb_model.specs.declared.order.OrderKind.TheVariants as kind
 use Rattle.mb_model.specs.declared.order.OrderForm.{OrderForm}
 use Rattle.mb_model.specs.owners.Rules.{kind_of, least_layer}
 use Rattle.mb_model.specs.records.OrderFormat.{TargetTag, serial_tag, length_tag, owner_tag, code_tag, target_byte, target_rows, target_tag, demanded_serial, demanded_length, demanded_owner, demanded_code, target_by, target_format, form_byte, form_rows, other_rows, given_trusts, establish_in, load_in, emergency_in, made_in, payload_format, act_by, Body, body_by, body_format, sized_signature_format, Climb, countersignature_format, climb_after, countersignature_limit, countersignatures_format, order_format}
-use Rattle.mb_model.specs.records.ChainFormat.{statement_format, chain_word, chain_format}
+use Rattle.mb_model.specs.records.ChainFormat.{said_byte, asked_in, answered_in, answered_format, asked_format, said_format, statement_format, chain_word, chain_format}
 use Rattle.mb_model.specs.records.RootFormat.{region_key_format, outgoing_format, FateTag, keep_tag, empty_tag, drop_tag, add_tag, fate_byte, fate_rows, fate_tag, key_added_by, fate_by, fate_format, pending_format, root_format}
 use Rattle.mb_model.specs.records.RegionFormat.{is_name, secret_format, most_secrets, secrets_format, least_keys, keys_format, region_by, region_format}
 use Rattle.mb_model.specs.memories.PublicRecord.{code_format, codes_format, public_entry_format, public_format}
@@ -134,11 +134,25 @@ pub signed_entry_short : IsShort signed_entry_format 2706
 unfolding signed_entry_format
 signed_entry_short = bounds.as_record_short _ _ (bounds.pair_short entry_short bounds.raw_short)
 
-pub statement_short : IsShort statement_format 2481
-unfolding statement_format
-statement_short = bounds.as_record_short _ _ (bounds.pair_short (bounds.number_short wide32) (bounds.pair_short (bounds.sized_short 0 128 wide8) bounds.raw_short))
+answered_short : IsShort answered_format 161
+unfolding answered_format
+answered_short = bounds.as_value_short _ answered_in (bounds.pair_short bounds.raw_short (bounds.sized_short 0 128 wide8))
 
-pub chain_short : IsShort chain_format 348856
+asked_short : (size : ℕ) → IsShort (asked_format size) size
+unfolding asked_format
+asked_short size = bounds.as_value_short _ asked_in bounds.raw_short
+
+said_short : IsShort said_format 162
+unfolding said_format
+said_short =
+    bounds.led_short said_byte (bounds.between_short 0 129 wide8)
+    (λ size few. bounds.either_short (size == 129) answered_short (bounds.short_more (asked_short size) (omega (arith, few.1))))
+
+pub statement_short : IsShort statement_format 2514
+unfolding statement_format
+statement_short = bounds.as_record_short _ _ (bounds.pair_short (bounds.number_short wide32) (bounds.pair_short said_short bounds.raw_short))
+
+pub chain_short : IsShort chain_format 348889
 unfolding chain_format
 chain_short = bounds.then_value_short (bounds.mark_short chain_word)
     (bounds.as_record_short _ _ (bounds.pair_short (bounds.counted_short 1 128 wide16 signed_entry_short) (bounds.optional_short statement_short)))

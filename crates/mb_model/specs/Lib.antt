@@ -3,6 +3,7 @@ pub mod signatures
 pub mod outside
 pub mod owners
 pub mod records
+pub mod application
 pub mod machine
 pub mod memories
 pub mod chains

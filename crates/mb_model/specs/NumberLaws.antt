@@ -32,7 +32,7 @@ pub record LimitsAre : Type 0 where
   pub last_index : LAST_INDEX ≡ 31
   pub entry_limit : ENTRY_LIMIT ≡ 128
   pub entry_text_limit : ENTRY_TEXT_LIMIT ≡ 400
-  pub statement_limit : STATEMENT_LIMIT ≡ 2481
+  pub statement_limit : STATEMENT_LIMIT ≡ 2514
   pub region_limit : REGION_LIMIT ≡ 4087
   pub region_version : REGION_VERSION ≡ 2
   pub secret_limit : SECRET_LIMIT ≡ 22

@@ -4,7 +4,9 @@ pub mod OrderChecks
 pub mod OrderEffects
 pub mod OrderStep
 pub mod SignedOrders
+pub mod Actions
 pub mod LayerEvents
+pub mod Calls
 pub mod Machine
 pub mod Fates
 pub mod Work

@@ -81,13 +81,27 @@ pub struct PublicEntry {
 /// Stored entries in order.
 pub type PublicEntries = Items<PublicEntry>;
 
+/// What a statement says.
+#[derive(Drop)]
+pub enum Said {
+    /// A message, at most 128 bytes, that the host chose.
+    Message(Bytes),
+    /// What the code of the key's layer answered to an input.
+    Answer {
+        /// The SHA-256 of the input.
+        input: [u8; 32],
+        /// At most 128 bytes.
+        answer: Bytes,
+    },
+}
+
 /// What a region's key signed.
 #[derive(Drop)]
 pub struct Statement {
     /// The configuration number at which it was signed.
     pub number: u32,
-    /// At most 128 bytes.
-    pub message: Bytes,
+    /// What is signed.
+    pub said: Said,
     /// The region key's signature (RFC 8554, section 5.4).
     pub signature: [u8; 2348],
 }

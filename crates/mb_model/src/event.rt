@@ -62,6 +62,13 @@ pub enum Event {
         key: u32,
         message: Bytes,
     },
+    /// Runs the stored code of the region's layer on an input of at most 4,096 bytes. If a key is named, the region's key
+    /// of this number signs the answer.
+    Call {
+        region: u8,
+        key: Option<u32>,
+        input: Bytes,
+    },
 }
 
 /// Events in order.
@@ -118,6 +125,11 @@ impl Event {
                 region: *region,
                 key: *key,
                 message: Bytes::copy(alloc, message.as_slice())?,
+            },
+            Event::Call { region, key, input } => Event::Call {
+                region: *region,
+                key: *key,
+                input: Bytes::copy(alloc, input.as_slice())?,
             },
         })
     }

@@ -62,7 +62,7 @@ pub fn formats_are_short()
     ensures entry { IsShort entry_format 358 }
     ensures order { IsShort order_format 61034 }
     ensures statement { IsShort statement_format STATEMENT_LIMIT }
-    ensures chain { IsShort chain_format 348856 }
+    ensures chain { IsShort chain_format 348889 }
     ensures root { IsShort root_format 229 }
     ensures region { IsShort region_format REGION_LIMIT }
     ensures public_record { IsShort public_format 444818 }

@@ -51,7 +51,7 @@ pub const ENTRY_LIMIT: u16 = 128;
 pub const ENTRY_TEXT_LIMIT: u16 = 400;
 
 /// The most bytes of a statement.
-pub const STATEMENT_LIMIT: usize = 2_481;
+pub const STATEMENT_LIMIT: usize = 2_514;
 
 /// The most bytes of the record of a region.
 pub const REGION_LIMIT: usize = 4_087;
@@ -88,6 +88,27 @@ pub const CUT_LIMIT: u32 = 100_000;
 
 /// The longest fill of a torn write, in bytes.
 pub const FILL_LIMIT: u8 = 16;
+
+/// The most values on the stack.
+pub const STACK_LIMIT: usize = 256;
+
+/// The most places that are kept for returns.
+pub const CALL_LIMIT: usize = 64;
+
+/// The length of the memory, in bytes.
+pub const MEMORY_LENGTH: usize = 1024;
+
+/// The most bytes of an output.
+pub const OUTPUT_LIMIT: usize = 4096;
+
+/// The most steps of a call.
+pub const CALL_STEPS: u32 = 1_000_000;
+
+/// The longest input of a call, in bytes.
+pub const INPUT_LIMIT: u16 = 4_096;
+
+/// What stands in a statement in place of the length of a message, if it is the statement of a call.
+pub const CALL_MARK: u8 = 129;
 
 /// The most write calls of a board from the handing out of an event to its answer.
 pub const WRITE_LIMIT: u16 = 35;

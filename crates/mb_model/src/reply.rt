@@ -50,6 +50,8 @@ pub enum Reply {
         index: u32,
         statement: Bytes,
     },
+    /// What the code of a layer answered to a call, without a key's signature.
+    Called(Bytes),
     /// The device's serial, its configuration number, the length of its log, and how its layers stand.
     Status {
         serial: [u8; 16],
@@ -101,6 +103,10 @@ pub enum Refusal {
     NoSuchKey,
     /// All indices of the key are used.
     KeySpent,
+    /// The layer's code takes calls, so that only calls reach its region; or it is called and takes none.
+    WrongCode,
+    /// The run of a call did not halt within its steps, its output is no action, or the region has no room for it.
+    RunFailed,
     /// The bytes spell no order.
     BadText,
     /// The order fails a check.
@@ -136,6 +142,8 @@ impl Refusal {
             Refusal::RegionFull => 5,
             Refusal::NoSuchKey => 6,
             Refusal::KeySpent => 7,
+            Refusal::WrongCode => 8,
+            Refusal::RunFailed => 9,
             Refusal::BadText => 10,
             Refusal::Order(refusal) => refusal.number(),
         }

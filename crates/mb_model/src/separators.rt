@@ -12,6 +12,9 @@ pub const ENTRY_TEXT: u8 = 0x03;
 /// Domain separator: the first byte of what a key of a region signs.
 pub const STATEMENT_TEXT: u8 = 0x04;
 
+/// Domain separator: the first byte of what a key of a region signs for a call.
+pub const CALL_TEXT: u8 = 0x06;
+
 /// Domain separator: the first byte of what is hashed for the secret SEED of a device's key.
 pub const KEY_SECRET: u8 = 0x10;
 

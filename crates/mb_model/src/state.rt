@@ -1,7 +1,7 @@
 //! The state of a device, and the part of it by which an order is judged.
 
 use crate::bytes::Bytes;
-use crate::entry::{Entries, Log};
+use crate::entry::{Entries, Log, Said};
 use crate::items::Items;
 use crate::key::{KeySeed, PublicKey};
 use crate::layer::{Layers, Pair};
@@ -153,6 +153,6 @@ pub struct Report {
     pub lives: Lives,
     /// How many entries the chain has.
     pub entries: u32,
-    /// The message of the chain's statement, if it has one.
-    pub message: Option<Bytes>,
+    /// What the chain's statement says, if it has one.
+    pub said: Option<Said>,
 }

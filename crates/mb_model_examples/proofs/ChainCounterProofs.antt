@@ -1,7 +1,8 @@
 -- The counterexamples of chains and statements, refuted.
-use Rattle.std.proofs.Common.{◌≡◌, ◌≢◌, ℕ, zero, suc, ◌≤◌, List, [], ◌∷◌, length, Option, None, Some, false, refl, sym, ap, subst, ◌∙◌, arith, length-append, lit<}
+use Rattle.std.proofs.Common.{◌≡◌, ◌≢◌, ℕ, zero, suc, ◌≤◌, List, [], ◌∷◌, length, Option, None, Some, Bool, true, false, refl, sym, ap, subst, ◌∙◌, arith, length-append, lit<}
 use Rattle.std.proofs.lemmas.List.{length-map}
-use Rattle.std.specs.Prelude.{Contains}
+use Rattle.mb_format.specs.Combinators.{either}
+use Rattle.std.specs.Prelude.{Contains, ◌==◌}
 use Rattle.std.proofs.lemmas.Bool.{false≢true}
 use Rattle.mb_format.specs.Format.{IsBytes, Spells, IsClearWhole}
 use Rattle.mb_format.specs.Combinators.{items}
@@ -15,7 +16,8 @@ use Rattle.mb_model.specs.declared.entry.Statement.{Statement}
 use Rattle.mb_model.specs.declared.state.Report.{Report}
 use Rattle.mb_model.specs.declared.state.State.{State}
 use Rattle.mb_model.specs.owners.Log.{entries_of, number_of}
-use Rattle.mb_model.specs.records.ChainFormat.{statement_format, chain_format}
+use Rattle.mb_model.specs.declared.entry.Said.TheVariants.{Message, Answer}
+use Rattle.mb_model.specs.records.ChainFormat.{answered_format, asked_format, said_format, statement_format, chain_format}
 use Rattle.mb_model.specs.chains.Attach.{cut_at, stated_chain}
 use Rattle.mb_model.specs.chains.Acceptance.{ChainRefusal, KeyEntry, IfStatement, IsCurrent, key_of, Accepts, bad_signature, bad_order, key_ended}
 use Rattle.mb_model.specs.machine.Runs.{StaysAccepted}
@@ -76,9 +78,26 @@ large_number : (bytes : List ℕ) (statement : Statement) → 4294967296 ≤ sta
 unfolding statement_format
 large_number bytes statement large spelled = omega (arith, large, spelled.allowed.0)
 
-long_message : (bytes : List ℕ) (statement : Statement) → length statement.message ≡ 300 → Spells statement_format bytes statement → ⊥
-unfolding statement_format
-long_message bytes statement long spelled = omega (arith, long, spelled.allowed.1.0.0.1)
+-- after the byte 129 stands no message
+no_message : (size : ℕ) (b : Bool) → (size == 129) ≡ b → size ≡ 129 → (message : List ℕ) → (either b answered_format (asked_format size)).Allowed (Message message) → ⊥
+unfolding answered_format
+no_message size true e is message allowed = allowed
+no_message size false e is message allowed = grind (arith, e, is)
+
+long_message : (bytes message signature : List ℕ) (number : ℕ) → length message ≡ 129
+    → Spells statement_format bytes (record { number = number; said = Message message; signature = signature }) → ⊥
+unfolding statement_format said_format
+long_message bytes message signature number long spelled = no_message (length message) (length message == 129) refl long message spelled.allowed.1.0.1
+
+long_answer : (bytes input answer signature : List ℕ) (number : ℕ) → length answer ≡ 129
+    → Spells statement_format bytes (record { number = number; said = Answer input answer; signature = signature }) → ⊥
+unfolding statement_format said_format answered_format
+long_answer bytes input answer signature number long spelled = omega (arith, long, spelled.allowed.1.0.1.1.1)
+
+short_hash : (bytes input answer signature : List ℕ) (number : ℕ) → length input ≡ 31
+    → Spells statement_format bytes (record { number = number; said = Answer input answer; signature = signature }) → ⊥
+unfolding statement_format said_format answered_format
+short_hash bytes input answer signature number short spelled = omega (arith, short, spelled.allowed.1.0.1.0)
 
 no_empty_chain : (bytes : List ℕ) (statement : Statement) → Spells chain_format bytes (stated_chain [] statement) → ⊥
 unfolding chain_format
@@ -97,6 +116,8 @@ pub statements : (maker : PublicKey) (n : ℕ) → StatementCounterExamples make
 statements maker n = record {
   large_number = large_number;
   long_message = long_message;
+  long_answer = long_answer;
+  short_hash = short_hash;
   no_statement = λ log stays. no_statement stays.statement stays.spelled;
   unmade = no_key maker n;
   no_log = λ bytes stays. no_empty_chain stays.chain stays.statement stays.attached;

@@ -1,5 +1,5 @@
 -- The examples of what layers do, computed.
-use Rattle.std.proofs.Common.{ℕ, List, [], refl}
+use Rattle.std.proofs.Common.{ℕ, List, [], inl, refl}
 use Rattle.std.specs.Prelude.{codes}
 use Rattle.mb_model.specs.declared.event.Event.TheVariants as event
 use Rattle.mb_model.specs.declared.reply.Reply.TheVariants as reply
@@ -25,9 +25,27 @@ signs message signature = record { first = refl; last = refl; spent = refl; unkn
 
 pub closed : (signature : List ℕ) → ClosedExamples signature
 closed signature = record {
-  past = record { put = λ name value. refl; get = λ name. refl; drop = λ name. refl; sign = λ key message. refl };
-  doubted = record { put = λ name value. refl; get = λ name. refl; drop = λ name. refl; sign = λ key message. refl };
-  over_doubted = record { put = λ name value. refl; get = λ name. refl; drop = λ name. refl; sign = λ key message. refl };
+  past = record {
+    put = λ name value. refl;
+    get = λ name. refl;
+    drop = λ name. refl;
+    sign = λ key message. refl;
+    call = λ key input. (_, inl (refl, refl), refl, refl);
+  };
+  doubted = record {
+    put = λ name value. refl;
+    get = λ name. refl;
+    drop = λ name. refl;
+    sign = λ key message. refl;
+    call = λ key input. (_, inl (refl, refl), refl, refl);
+  };
+  over_doubted = record {
+    put = λ name value. refl;
+    get = λ name. refl;
+    drop = λ name. refl;
+    sign = λ key message. refl;
+    call = λ key input. (_, inl (refl, refl), refl, refl);
+  };
 }
 
 pub stopped : (signature : List ℕ) → StoppedExamples signature

@@ -8,6 +8,7 @@ pub mod RecordProofs
 pub mod HeaderProofs
 pub mod StepProofs
 pub mod LayerProofs
+pub mod CallExampleProofs
 pub mod OrderProofs
 pub mod SignedOrderProofs
 pub mod MemoryCounterProofs

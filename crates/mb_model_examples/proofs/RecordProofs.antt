@@ -18,9 +18,9 @@ use Rattle.mb_model.specs.records.EntryFormat.{key_kind_format, pair_format, bir
 use Rattle.mb_model.specs.records.RootFormat.{region_key_format, outgoing_format, fate_format, pending_format}
 use Rattle.mb_model.specs.records.RootFormat.{root_format}
 use Rattle.mb_model.specs.records.RegionFormat.{secret_format, secrets_format, keys_format, region_by, region_format}
-use Rattle.mb_model.specs.records.ChainFormat.{statement_format, chain_format}
+use Rattle.mb_model.specs.records.ChainFormat.{answered_format, asked_format, said_format, statement_format, chain_format}
 use Rattle.mb_model.specs.memories.PublicRecord.{code_format, codes_format, public_entry_format, public_format}
-use Rattle.mb_model.specs.machine.SignedTexts.{statement_text}
+use Rattle.mb_model.specs.machine.SignedTexts.{statement_text, call_text}
 use Rattle.mb_model.specs.signatures.Key.{key_bytes}
 use Rattle.mb_model.specs.owners.Born.{officer_key}
 use Rattle.mb_model.specs.records.OrderFormat.{target_format, payload_format, body_format}
@@ -28,7 +28,7 @@ use Rattle.mb_model.proofs.OrderFormatLaws.{body_exact}
 use Rattle.mb_model.proofs.KeyFormatLaws.{public_key_exact, keyfile_exact, layer_exact}
 use Rattle.mb_model.proofs.EntryFormatLaws.{entry_exact, statement_exact, chain_exact}
 use Rattle.mb_model.proofs.RecordFormatLaws.{root_exact, region_exact, public_exact}
-use Rattle.mb_model_examples.specs.RecordValues.{bytes_of, officer_file, officer_file_digits, officer_public, officer_public_digits, surrender_body, new_key_body, load_three_body, load_one_body, load_one_body_digits, emergency_body, emergency_body_digits, split_load_body, split_load_body_digits, split_establish_body, split_establish_body_digits, split_emergency_body, split_emergency_body_digits, area_of_a_key, reliable_layer, reliable_layer_digits, doubted_layer, doubted_layer_digits, bare_layer, bare_layer_digits, split_layer, split_layer_digits, wary_layer, wary_layer_digits, birth_of_version_two, birth_of_version_two_digits, load_of_version_two, load_of_version_two_digits, birth, birth_digits, load_of_one, load_of_one_digits, emergency_of_two, emergency_of_two_digits, new_key_entry, new_key_digits, succession, succession_digits, settled_root_value, settled_root_digits, busy_root, busy_root_digits, small_root, small_root_digits, region_of_both, region_of_both_digits, region_of_a_key, region_of_a_key_digits, statement, statement_bytes, chain_example, chain_bytes, stored, stored_bytes}
+use Rattle.mb_model_examples.specs.RecordValues.{bytes_of, officer_file, officer_file_digits, officer_public, officer_public_digits, surrender_body, new_key_body, load_three_body, load_one_body, load_one_body_digits, emergency_body, emergency_body_digits, split_load_body, split_load_body_digits, split_establish_body, split_establish_body_digits, split_emergency_body, split_emergency_body_digits, area_of_a_key, reliable_layer, reliable_layer_digits, doubted_layer, doubted_layer_digits, bare_layer, bare_layer_digits, split_layer, split_layer_digits, wary_layer, wary_layer_digits, birth_of_version_two, birth_of_version_two_digits, load_of_version_two, load_of_version_two_digits, birth, birth_digits, load_of_one, load_of_one_digits, emergency_of_two, emergency_of_two_digits, new_key_entry, new_key_digits, succession, succession_digits, settled_root_value, settled_root_digits, busy_root, busy_root_digits, small_root, small_root_digits, region_of_both, region_of_both_digits, region_of_a_key, region_of_a_key_digits, statement, statement_bytes, answer_statement, answer_statement_bytes, hash_of_pin_digits, chain_example, chain_bytes, stored, stored_bytes}
 use Rattle.mb_model_examples.specs.RecordExamples.{KeyRecords, LayerRecords, BodyRecords, EntryRecords, RootRecords, RegionRecords, StatementRecords, ChainRecords, PublicRecords, with_byte, FailingRecords}
 
 -- ---- bytes
@@ -59,6 +59,14 @@ area_hash = refl
 statement_hash : sha256 statement_bytes ≡ bytes_of (codes "310582fae6f5ee04275da2139d407709f673eef60211116bfd57c6744084992b")
 unfolding first_words schedule rounds compress hash_after digest_bytes sha256 decode_pairs
 statement_hash = refl
+
+answer_hash : sha256 answer_statement_bytes ≡ bytes_of (codes "69edf641c6a776dfbdd0b3308b1db036e8a94a2db6b723e1db45f918182bfeb6")
+unfolding first_words schedule rounds compress hash_after digest_bytes sha256 decode_pairs
+answer_hash = refl
+
+input_hash : sha256 (codes "pin") ≡ bytes_of hash_of_pin_digits
+unfolding first_words schedule rounds compress hash_after digest_bytes sha256 decode_pairs
+input_hash = refl
 
 chain_hash : sha256 chain_bytes ≡ bytes_of (codes "b866a07f0ca69f80354b819af17f1d31ffeb8fc295377b8c04a98bd339319593")
 unfolding first_words schedule rounds compress hash_after digest_bytes sha256 decode_pairs
@@ -135,11 +143,21 @@ regions = record {
 }
 
 pub statements : StatementRecords
-unfolding decode_pairs number_bytes number_at raw_at statement_format statement_text
-statements = record { spelled = spells statement_exact statement_bytes statement refl refl; first = refl; hash = statement_hash; signed = refl }
+unfolding decode_pairs number_bytes number_at raw_at answered_format asked_format said_format statement_format statement_text call_text
+statements = record {
+  spelled = spells statement_exact statement_bytes statement refl refl;
+  first = refl;
+  hash = statement_hash;
+  signed = refl;
+  answer_spelled = spells statement_exact answer_statement_bytes answer_statement refl refl;
+  answer_size = refl;
+  answer_hash = answer_hash;
+  answer_signed = refl;
+  input_hash = input_hash;
+}
 
 pub chains : ChainRecords
-unfolding decode_pairs number_bytes number_at raw_at items public_key_format trust_format code_name_format layer_format layers_format key_kind_format birth_format new_key_format entry_format signed_entry_format statement_format chain_format
+unfolding decode_pairs number_bytes number_at raw_at items public_key_format trust_format code_name_format layer_format layers_format key_kind_format birth_format new_key_format entry_format signed_entry_format answered_format asked_format said_format statement_format chain_format
 chains = record { spelled = spells chain_exact chain_bytes chain_example refl refl; size = refl; first = refl; hash = chain_hash }
 
 pub publics : PublicRecords

@@ -11,12 +11,12 @@ use Rattle.mb_model.specs.declared.state.State.{State}
 use Rattle.mb_model.specs.owners.Layers.{is_runnable}
 use Rattle.mb_model.specs.owners.Log.{number_of}
 use Rattle.mb_model.specs.declared.reply.Refusal.{Refusal}
-use Rattle.mb_model.specs.declared.reply.Refusal.TheVariants.{PoweredOff, Zeroised, WrongLayer}
+use Rattle.mb_model.specs.declared.reply.Refusal.TheVariants.{PoweredOff, Zeroised, WrongLayer, WrongCode}
 use Rattle.mb_model.specs.machine.Refusals.{refusal_number, refusal_reply}
 use Rattle.mb_model.specs.owners.Regions.{region_of}
 use Rattle.mb_model.specs.machine.LayerEvents.{Outcome, has_name, value_reply, put_event, get_event, drop_event}
-use Rattle.mb_model.specs.machine.LayerEvents.{sign_event}
-use Rattle.mb_model.specs.machine.Machine.{off, dead, World, Told, running_state_in, status_of, status_event, go_event, region_event, CommandStep, Machine, may_want_memory, may_be_cut, Step, machine_step, lacks_memory, loses_power}
+use Rattle.mb_model.specs.machine.LayerEvents.{sign_event, code_in, takes_calls}
+use Rattle.mb_model.specs.machine.Machine.{off, dead, World, Told, running_state_in, status_of, status_event, go_event, region_event, CommandStep, CallTold, Machine, may_want_memory, may_be_cut, Step, machine_step, lacks_memory, loses_power}
 use Rattle.mb_model_lemmas.specs.RefusalLaws.{BringsBytes}
 use Rattle.mb_model_lemmas.proofs.RefusalLemmas.{machine_is_whole, machine_is_function}
 use Rattle.mb_model_examples.specs.Device.{world_at, dead_world}
@@ -47,6 +47,8 @@ refuses_others world refusal e = record {
   get = λ L name. ap (region_event world L (get_event L name)) (sym e);
   drop = λ L name. ap (region_event world L (drop_event L name)) (sym e);
   sign = λ L key message. ap (region_event world L (sign_event L key message)) (sym e);
+  call = λ L key input.
+      subst (λ (on : Result (ℕ × State) Refusal). CallTold world (record { layer = L; key = key; input = input }) on (refusal_reply refusal) world) (sym e) (refl, refl);
 }
 
 pub sleeping : (state : State) → SleepingExamples state
@@ -118,8 +120,9 @@ get_uncut : (world : World) (L : ℕ) (name : List ℕ) (on : Result (ℕ × Sta
 unfolding get_event
 get_uncut world L name (Err refusal) = refl
 get_uncut world L name (Ok on) =
-    either_outcome_uncut (nat_lt L on.0 || not (is_runnable on.1.layers L)) (refusal_reply WrongLayer, on.1) (get_event L name on.1) refl
-    (value_uncut (find (has_name name) (region_of on.1 L).secrets))
+    either_outcome_uncut (nat_lt L on.0 || not (is_runnable on.1.layers L)) (refusal_reply WrongLayer, on.1) _ refl
+    (either_outcome_uncut (takes_calls (code_in on.1.codes L)) (refusal_reply WrongCode, on.1) (get_event L name on.1) refl
+    (value_uncut (find (has_name name) (region_of on.1 L).secrets)))
 
 pub stops : (world : World) → StopExamples world
 stops world = record {
@@ -198,6 +201,7 @@ memory world = record {
   get = λ L name. lacks_memory (record { answered = refl; wanted = refl; stays = refl });
   drop = λ L name. lacks_memory (record { answered = refl; wanted = refl; stays = refl });
   sign = λ L key message. lacks_memory (record { answered = refl; wanted = refl; stays = refl });
+  call = λ L key input. lacks_memory (record { answered = refl; wanted = refl; stays = refl });
   go = never_wants world event.Go refl;
   off_event = never_wants world event.Off refl;
   tamper = never_wants world event.Tamper refl;

@@ -70,6 +70,8 @@ scripts = record {
   no_call = λ tear is. omega (arith, is.1.least);
   region_one = λ name value is. false≢true is.0;
   large_key = λ message is. omega (arith, is.1);
+  large_called_key = λ input is. omega (arith, is.1);
+  long_input = λ key input long is. omega (arith, long, is.2);
 }
 
 -- ---- drafts, orders and statements

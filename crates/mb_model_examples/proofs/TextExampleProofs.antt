@@ -1,7 +1,7 @@
 -- The examples of texts, computed.
 use Rattle.mb_model.specs.owners.Layers.{equal_trusts}
 use Rattle.std.proofs.Common.{◌≡◌, ℕ, ◌≤◌, inl, inr, List, [], ◌∷◌, ◌++◌, length, replicate, refl, sym, ap, ◌∙◌, arith, true, Bool, not, ◌&&◌, eq-eqb, lit≤}
-use Rattle.std.specs.Prelude.{All, codes, ◌==◌, filter, Ok}
+use Rattle.std.specs.Prelude.{All, codes, ◌==◌, filter, None, Ok, Some}
 use Rattle.std.specs.List.{AllZip}
 use Rattle.std.specs.Fmt.{digits}
 use Rattle.std.proofs.lemmas.Bool.{and_parts}
@@ -67,7 +67,7 @@ lines = record {
 abbrev script_lines : List (List ℕ)
 script_lines =
     codes "boot" ∷ codes "# a secret, and a cut" ∷ codes "put 2 pin 31323334" ∷ [] ∷ codes "cut 3 keep 5 fill fF"
-    ∷ codes "cut 3 fill 00" ∷ codes "command -" ∷ codes "sign 3 1 68656c6c6f" ∷ []
+    ∷ codes "cut 3 fill 00" ∷ codes "command -" ∷ codes "sign 3 1 68656c6c6f" ∷ codes "call 2 1 00ff" ∷ codes "call 3 - -" ∷ []
 
 abbrev is_printed : ℕ → Type 0
 is_printed byte = (0x21 ≤ byte) × (byte ≤ 0x7E)
@@ -120,11 +120,19 @@ sign_said : SaysEvent (codes "sign 3 1 68656c6c6f") (event.Sign 3 1 (codes "hell
 unfolding digits decode_pairs
 sign_said = (refl, lit≤ tt, lit≤ tt, (codes "68656c6c6f", hex (codes "68656c6c6f") 54 (codes "8656c6c6f") (codes "hello") refl refl, refl))
 
+call_said : SaysEvent (codes "call 2 1 00ff") (event.Call 2 (Some 1) (0 ∷ 255 ∷ []))
+unfolding digits decode_pairs
+call_said = (refl, lit≤ tt, lit≤ tt, (codes "00ff", hex (codes "00ff") 48 (codes "0ff") (0 ∷ 255 ∷ []) refl refl, refl))
+
+empty_call_said : SaysEvent (codes "call 3 - -") (event.Call 3 None [])
+unfolding digits
+empty_call_said = (refl, tt, lit≤ tt, (codes "-", inl (refl, refl), refl))
+
 script : ReadsLines IsScript script_text script_events
 script = record {
   lines = script_lines;
   has = record { plain = lines_plain script_lines refl; whole = inl refl };
-  stands = record { said = (refl, (put_said, (kept_said, (cut_said, (command_said, (sign_said, tt)))))); most = lit≤ tt };
+  stands = record { said = (refl, (put_said, (kept_said, (cut_said, (command_said, (sign_said, (call_said, (empty_call_said, tt)))))))); most = lit≤ tt };
 }
 
 -- no event has these letters
@@ -140,6 +148,7 @@ no_jump (event.Put region name value) e = omega (arith, e)
 no_jump (event.Get region name) e = omega (arith, e)
 no_jump (event.Drop region name) e = omega (arith, e)
 no_jump (event.Sign region key message) e = omega (arith, e)
+no_jump (event.Call region key input) e = omega (arith, e)
 
 second_says : (first second : List ℕ) (later : List (List ℕ)) (events : List Event) → AllZip SaysEvent (first ∷ second ∷ later) events
     → (e : Event) × SaysEvent second e
@@ -182,6 +191,10 @@ replies = record {
   empty_value = refl;
   signed = refl;
   status = refl;
+  called = refl;
+  called_empty = refl;
+  code = refl;
+  run = refl;
   text = refl;
   log_full = refl;
   no_memory = refl;
@@ -247,7 +260,7 @@ drafts = record {
 
 pub listings : ListingExamples
 unfolding digits encode_with summary
-listings = record { unowned_layer = refl; summary = refl }
+listings = record { unowned_layer = refl; message = refl; answer = refl; summary = refl }
 
 pub order_lines : OrderLineExamples
 order_lines = record {

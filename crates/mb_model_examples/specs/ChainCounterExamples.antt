@@ -5,6 +5,7 @@ use Rattle.mb_format.specs.Format.{IsBytes, Spells}
 use Rattle.mb_model.specs.declared.key.PublicKey.{PublicKey}
 use Rattle.mb_model.specs.declared.entry.Chain.{Chain}
 use Rattle.mb_model.specs.declared.entry.SignedEntry.{SignedEntry}
+use Rattle.mb_model.specs.declared.entry.Said.TheVariants.{Message, Answer}
 use Rattle.mb_model.specs.declared.entry.Statement.{Statement}
 use Rattle.mb_model.specs.declared.state.Report.{Report}
 use Rattle.mb_model.specs.declared.state.State.{State}
@@ -49,9 +50,16 @@ pub record StatementCounterExamples (maker : PublicKey) (n : ℕ) : Type 0 where
   -- a number of more than 32 bits has no spelling, though its last four bytes are those of another number
   pub large_number : (bytes : List ℕ) (statement : Statement) → 4294967296 ≤ statement.number
       → Spells statement_format bytes statement → ⊥
-  -- a message of 300 bytes has no spelling: 128 are the most
-  pub long_message : (bytes : List ℕ) (statement : Statement) → length statement.message ≡ 300
-      → Spells statement_format bytes statement → ⊥
+  -- a message of 129 bytes has no spelling: 128 are the most
+  pub long_message : (bytes message signature : List ℕ) (number : ℕ) → length message ≡ 129
+      → Spells statement_format bytes (record { number = number; said = Message message; signature = signature }) → ⊥
+  -- nor has an answer of 129 bytes, or one to an input whose hash has 31
+  pub long_answer : (bytes input answer signature : List ℕ) (number : ℕ) → length answer ≡ 129
+      → Spells statement_format bytes (record { number = number; said = Answer input answer; signature = signature })
+      → ⊥
+  pub short_hash : (bytes input answer signature : List ℕ) (number : ℕ) → length input ≡ 31
+      → Spells statement_format bytes (record { number = number; said = Answer input answer; signature = signature })
+      → ⊥
   -- the empty list of bytes, which spells no statement, with any log
   pub no_statement : (log : List SignedEntry) → StaysAccepted maker log n [] → ⊥
   -- a statement of a key that no entry of the chain makes

@@ -1,6 +1,6 @@
 -- What layers do with their regions, on a small device; the checker computes each line. Who reads which secret, and
 -- what does a key sign?
-use Rattle.std.specs.Prelude.{ℕ, List, [], ◌∷◌, codes}
+use Rattle.std.specs.Prelude.{ℕ, List, [], ◌∷◌, Option, codes}
 use Rattle.mb_model.specs.declared.event.Event.{Event}
 use Rattle.mb_model.specs.declared.event.Event.TheVariants as event
 use Rattle.mb_model.specs.declared.reply.Reply.{Reply}
@@ -81,6 +81,7 @@ pub record IsClosed (r L : ℕ) (state : State) : Type 0 where
   pub get : (name : List ℕ) → Refuses (world_at (ratchet r) state) (event.Get L name) 4
   pub drop : (name : List ℕ) → Refuses (world_at (ratchet r) state) (event.Drop L name) 4
   pub sign : (key : ℕ) (message : List ℕ) → Refuses (world_at (ratchet r) state) (event.Sign L key message) 4
+  pub call : (key : Option ℕ) (input : List ℕ) → Refuses (world_at (ratchet r) state) (event.Call L key input) 4
 
 pub record ClosedExamples (signature : List ℕ) : Type 0 where
   pub past : IsClosed 3 2 (alive signature)

@@ -9,6 +9,7 @@ pub mod HeaderExamples
 pub mod Device
 pub mod StepExamples
 pub mod LayerExamples
+pub mod CallExamples
 pub mod OrderExamples
 pub mod SignedOrder
 pub mod MemoryCounterExamples

@@ -15,7 +15,7 @@ use Rattle.mb_model.specs.records.RegionFormat.{region_format, written_region}
 use Rattle.mb_model.specs.memories.Memory.{HoldsRecord}
 use Rattle.mb_model.specs.records.ChainFormat.{statement_format, chain_format}
 use Rattle.mb_model.specs.memories.PublicRecord.{public_format}
-use Rattle.mb_model.specs.machine.SignedTexts.{statement_text}
+use Rattle.mb_model.specs.machine.SignedTexts.{statement_text, call_text}
 use Rattle.mb_model_examples.specs.RecordValues.{bytes_of, reliable_layer, reliable_layer_digits, doubted_layer}
 use Rattle.mb_model_examples.specs.RecordValues.{doubted_layer_digits, bare_layer}
 use Rattle.mb_model_examples.specs.RecordValues.{bare_layer_digits, birth, birth_digits}
@@ -26,6 +26,8 @@ use Rattle.mb_model_examples.specs.RecordValues.{settled_root_value, settled_roo
 use Rattle.mb_model_examples.specs.RecordValues.{small_root, small_root_digits, region_of_both, region_of_both_digits}
 use Rattle.mb_model_examples.specs.RecordValues.{region_of_a_key, region_of_a_key_digits, area_of_a_key}
 use Rattle.mb_model_examples.specs.RecordValues.{statement, statement_bytes, statement_text_digits}
+use Rattle.mb_model_examples.specs.RecordValues.{answer_statement, hash_of_pin_digits, answer_statement_bytes}
+use Rattle.mb_model_examples.specs.RecordValues.{answer_text_digits}
 use Rattle.mb_model_examples.specs.RecordValues.{chain_example, chain_bytes}
 use Rattle.mb_model_examples.specs.RecordValues.{stored, stored_bytes}
 use Rattle.mb_model_examples.specs.RecordValues.{noise_digits, officer_file, officer_file_digits, officer_public}
@@ -95,6 +97,14 @@ pub record StatementRecords : Type 0 where
       ≡ bytes_of (codes "310582fae6f5ee04275da2139d407709f673eef60211116bfd57c6744084992b")
   -- what key 9 signed of the statement, on the device of serial 0x41..
   pub signed : statement_text (replicate 16 0x41) 9 5 (codes "hello") ≡ bytes_of statement_text_digits
+  -- a statement of a call, and what key 9 signed of it
+  pub answer_spelled : Spells statement_format answer_statement_bytes answer_statement
+  pub answer_size : length answer_statement_bytes ≡ 2391
+  pub answer_hash : sha256 answer_statement_bytes
+      ≡ bytes_of (codes "69edf641c6a776dfbdd0b3308b1db036e8a94a2db6b723e1db45f918182bfeb6")
+  pub answer_signed : call_text (replicate 16 0x41) 9 5 (bytes_of hash_of_pin_digits) (codes "hello")
+      ≡ bytes_of answer_text_digits
+  pub input_hash : sha256 (codes "pin") ≡ bytes_of hash_of_pin_digits
 
 pub record ChainRecords : Type 0 where
   pub spelled : Spells chain_format chain_bytes chain_example

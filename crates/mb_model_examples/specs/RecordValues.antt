@@ -14,6 +14,7 @@ use Rattle.mb_model.specs.declared.order.ChangeKind.TheVariants.{Load, Emergency
 use Rattle.mb_model.specs.declared.order.KeyKind.TheVariants.{Epoch, Configuration}
 use Rattle.mb_model.specs.declared.entry.Entry.{Entry}
 use Rattle.mb_model.specs.declared.entry.Entry.TheVariants.{Birth, Change, NewKey, Succession}
+use Rattle.mb_model.specs.declared.entry.Said.TheVariants.{Message, Answer}
 use Rattle.mb_model.specs.declared.entry.Statement.{Statement}
 use Rattle.mb_model.specs.declared.entry.Chain.{Chain}
 use Rattle.mb_model.specs.declared.region.RegionKey.{RegionKey}
@@ -324,7 +325,7 @@ area_of_a_key =
 -- ---- what a device hands out
 
 abbrev pub statement : Statement
-statement = record { number = 5; message = codes "hello"; signature = replicate 2348 0x63 }
+statement = record { number = 5; said = Message (codes "hello"); signature = replicate 2348 0x63 }
 
 abbrev pub statement_bytes : List ℕ
 statement_bytes = bytes_of (codes "000000050568656c6c6f") ++ replicate 2348 0x63
@@ -332,6 +333,27 @@ statement_bytes = bytes_of (codes "000000050568656c6c6f") ++ replicate 2348 0x63
 -- what key 9 signed of the statement
 abbrev pub statement_text_digits : List ℕ
 statement_text_digits = codes "0441414141414141414141414141414141000000090000000568656c6c6f"
+
+-- the hash of the input `pin`
+abbrev pub hash_of_pin_digits : List ℕ
+hash_of_pin_digits = codes "64f46a7526a186d2346552453ae478ca51244674f5b21ba150bd483b39f7c812"
+
+-- a statement of a call: the answer `hello` to the input `pin`
+abbrev pub answer_statement : Statement
+answer_statement = record {
+  number = 5;
+  said = Answer (bytes_of hash_of_pin_digits) (codes "hello");
+  signature = replicate 2348 0x63;
+}
+
+abbrev pub answer_statement_bytes : List ℕ
+answer_statement_bytes =
+    bytes_of (codes "0000000581" ++ hash_of_pin_digits ++ codes "0568656c6c6f") ++ replicate 2348 0x63
+
+-- what key 9 signed of it
+abbrev pub answer_text_digits : List ℕ
+answer_text_digits =
+    codes "06414141414141414141414141414141410000000900000005" ++ hash_of_pin_digits ++ codes "68656c6c6f"
 
 abbrev pub chain_example : Chain
 chain_example =

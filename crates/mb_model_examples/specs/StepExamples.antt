@@ -1,6 +1,6 @@
 -- The machine at work on a small device; the checker computes each line. What does each event do in each phase, and
 -- what can a power loss leave?
-use Rattle.std.specs.Prelude.{◌≡◌, ◌⊎◌, ℕ, List, replicate, true, false, None}
+use Rattle.std.specs.Prelude.{◌≡◌, ◌⊎◌, ℕ, List, replicate, true, false, Option, None}
 use Rattle.mb_model.specs.declared.event.Event.{Event}
 use Rattle.mb_model.specs.declared.event.Event.TheVariants as event
 use Rattle.mb_model.specs.declared.event.Tear.{Tear}
@@ -43,6 +43,7 @@ pub record RefusesOthers (world : World) (n : ℕ) : Type 0 where
   pub get : (L : ℕ) (name : List ℕ) → Refuses world (event.Get L name) n
   pub drop : (L : ℕ) (name : List ℕ) → Refuses world (event.Drop L name) n
   pub sign : (L key : ℕ) (message : List ℕ) → Refuses world (event.Sign L key message) n
+  pub call : (L : ℕ) (key : Option ℕ) (input : List ℕ) → Refuses world (event.Call L key input) n
 
 pub record SleepingExamples (state : State) : Type 0 where
   pub at_off : RefusesOthers (world_at off state) 1
@@ -115,6 +116,7 @@ pub record MemoryExamples (world : World) : Type 0 where
   pub get : (L : ℕ) (name : List ℕ) → Step world (event.Get L name) reply.NoMemory world
   pub drop : (L : ℕ) (name : List ℕ) → Step world (event.Drop L name) reply.NoMemory world
   pub sign : (L key : ℕ) (message : List ℕ) → Step world (event.Sign L key message) reply.NoMemory world
+  pub call : (L : ℕ) (key : Option ℕ) (input : List ℕ) → Step world (event.Call L key input) reply.NoMemory world
   pub go : NeverWantsMemory world event.Go
   pub off_event : NeverWantsMemory world event.Off
   pub tamper : NeverWantsMemory world event.Tamper

@@ -1,6 +1,6 @@
 -- Texts, draws and new devices for which the definitions do not hold; the checker refutes each line. Can a text be read
 -- as anything?
-use Rattle.std.specs.Prelude.{◌≡◌, ℕ, List, [], ◌∷◌, ◌++◌, length, codes, Some}
+use Rattle.std.specs.Prelude.{◌≡◌, ℕ, List, [], ◌∷◌, ◌++◌, length, codes, Option, Some}
 use Rattle.mb_model.specs.declared.entry.Statement.{Statement}
 use Rattle.mb_model.specs.declared.event.Event.{Event}
 use Rattle.mb_model.specs.declared.event.Event.TheVariants as event
@@ -44,6 +44,9 @@ pub record ScriptCounterExamples : Type 0 where
   pub no_call : (tear : Tear) → IsScriptEvent (event.Cut 0 tear) → ⊥
   pub region_one : (name value : List ℕ) → IsScriptEvent (event.Put 1 name value) → ⊥
   pub large_key : (message : List ℕ) → IsScriptEvent (event.Sign 3 4294967296 message) → ⊥
+  pub large_called_key : (input : List ℕ) → IsScriptEvent (event.Call 3 (Some 4294967296) input) → ⊥
+  pub long_input : (key : Option ℕ) (input : List ℕ) → length input ≡ 4097
+      → IsScriptEvent (event.Call 3 key input) → ⊥
 
 -- ---- drafts, orders and statements
 

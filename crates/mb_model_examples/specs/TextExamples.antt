@@ -1,8 +1,9 @@
 -- Texts and what they mean; the checker computes each line. Do the definitions say what their words say?
-use Rattle.std.specs.Prelude.{◌≡◌, ℕ, List, [], ◌∷◌, ◌++◌, replicate, codes}
+use Rattle.std.specs.Prelude.{◌≡◌, ℕ, List, [], ◌∷◌, ◌++◌, replicate, codes, None, Some}
 use Rattle.mb_model.specs.declared.key.Trust.TheVariants.{Never}
 use Rattle.mb_model.specs.declared.order.Act.TheVariants as act
 use Rattle.mb_model.specs.declared.order.Order.{Order}
+use Rattle.mb_model.specs.declared.entry.Said.TheVariants.{Message, Answer}
 use Rattle.mb_model.specs.declared.event.Event.{Event}
 use Rattle.mb_model.specs.declared.event.Event.TheVariants as event
 use Rattle.mb_model.specs.declared.reply.Reply.TheVariants as reply
@@ -13,7 +14,7 @@ use Rattle.mb_model.specs.chains.Script.{IsScript, drawn_events}
 use Rattle.mb_model.specs.chains.Replies.{reply_line}
 use Rattle.mb_model.specs.chains.Drafts.{IsDraft}
 use Rattle.mb_model.specs.chains.OrderLines.{IsOrderLine, order_line}
-use Rattle.mb_model.specs.chains.Listing.{layer_line, summary}
+use Rattle.mb_model.specs.chains.Listing.{layer_line, statement_lines, summary}
 use Rattle.mb_model_lemmas.specs.SampleOrder.{surrender, surrender_line}
 
 -- ---- lines
@@ -32,7 +33,8 @@ abbrev pub script_text : List ℕ
 script_text =
     codes "boot" ++ 10 ∷ codes "# a secret, and a cut" ++ 10
     ∷ codes "put 2 pin 31323334" ++ 10 ∷ 10 ∷ codes "cut 3 keep 5 fill fF"
-    ++ 10 ∷ codes "cut 3 fill 00" ++ 10 ∷ codes "command -" ++ 10 ∷ codes "sign 3 1 68656c6c6f" ++ 10 ∷ []
+    ++ 10 ∷ codes "cut 3 fill 00" ++ 10 ∷ codes "command -" ++ 10 ∷ codes "sign 3 1 68656c6c6f" ++ 10
+    ∷ codes "call 2 1 00ff" ++ 10 ∷ codes "call 3 - -" ++ 10 ∷ []
 
 abbrev pub script_events : List Event
 script_events =
@@ -42,6 +44,8 @@ script_events =
     ∷ event.Cut 3 (record { keep = 0; fill = replicate 16 0; fill_length = 1 })
     ∷ event.Order [] (replicate 32 0)
     ∷ event.Sign 3 1 (codes "hello")
+    ∷ event.Call 2 (Some 1) (0 ∷ 255 ∷ [])
+    ∷ event.Call 3 None []
     ∷ []
 
 -- what scripts mean, and where they fail
@@ -68,6 +72,10 @@ pub record ReplyExamples : Type 0 where
   pub signed : reply_line (reply.Signed 1 0 (0xAB ∷ [])) ≡ codes "signed 1 0 ab"
   pub status : reply_line (reply.Status (replicate 16 7) 1 2 stands.Runnable stands.Unreliable stands.Unowned)
       ≡ codes "status 07070707070707070707070707070707 1 2 runnable unreliable unowned"
+  pub called : reply_line (reply.Called (0xAB ∷ [])) ≡ codes "called ab"
+  pub called_empty : reply_line (reply.Called []) ≡ codes "called -"
+  pub code : reply_line (reply.Refused 8) ≡ codes "refused 8 code"
+  pub run : reply_line (reply.Refused 9) ≡ codes "refused 9 run"
   pub text : reply_line (reply.Refused 10) ≡ codes "refused 10 text"
   pub log_full : reply_line (reply.Refused 15) ≡ codes "refused 15 log full"
   pub no_memory : reply_line reply.NoMemory ≡ codes "no memory"
@@ -107,6 +115,9 @@ pub record OrderLineExamples : Type 0 where
 
 pub record ListingExamples : Type 0 where
   pub unowned_layer : layer_line 3 layer_without_owner ≡ codes "layer 3 - - - unreliable never"
+  -- what a statement says, in the last line of a listing
+  pub message : statement_lines (Some (Message (codes "hello"))) ≡ codes "statement 68656c6c6f" ∷ []
+  pub answer : statement_lines (Some (Answer (0xAB ∷ []) [])) ≡ codes "called ab -" ∷ []
   pub summary : summary
       (record { event = event.Boot; reply = reply.Booted }
       ∷ record { event = event.Order [] []; reply = reply.Done 1 2 }

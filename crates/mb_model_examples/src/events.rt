@@ -4,6 +4,7 @@ ghost use Rattle.std.specs.Prelude.{List, ℕ};
 ghost use Rattle.mb_model.specs.machine.Machine.{World};
 ghost use Rattle.mb_model.specs.declared.state.State.{State};
 ghost use Rattle.mb_model_examples.specs.StepExamples.{BootExamples, AlwaysExamples, SleepingExamples, AwakeExamples, GoExamples, StopExamples, MemoryExamples};
+ghost use Rattle.mb_model_examples.specs.CallExamples.{CodeExamples, ActionExamples, DemandExamples, CallExamples, SealedExamples, StoppedCallExamples};
 ghost use Rattle.mb_model_examples.specs.LayerExamples.{PutExamples, GetExamples, SignExamples, ClosedExamples, StoppedExamples};
 
 /// Each event in each phase.
@@ -21,6 +22,16 @@ pub fn layer_examples()
     ensures get { (signature : List ℕ) → GetExamples signature }
     ensures sign { (message signature : List ℕ) → SignExamples message signature }
     ensures closed { (signature : List ℕ) → ClosedExamples signature }
+{}
+
+/// Which code takes calls, what outputs ask for, and what calls come to.
+pub fn call_examples()
+    ensures code { CodeExamples }
+    ensures actions { ActionExamples }
+    ensures demands { (signature : List ℕ) → DemandExamples signature }
+    ensures calls { (input signature : List ℕ) → CallExamples input signature }
+    ensures sealed { (code signature : List ℕ) → SealedExamples code signature }
+    ensures stopped { (input signature : List ℕ) → StoppedCallExamples input signature }
 {}
 
 /// Which events never end in a stop.

@@ -19,7 +19,8 @@ pub use counter_examples::{
     segment_counter_examples, text_counter_examples, write_counter_examples,
 };
 pub use events::{
-    layer_examples, memory_examples, phase_examples, power_examples, stopped_examples,
+    call_examples, layer_examples, memory_examples, phase_examples, power_examples,
+    stopped_examples,
 };
 pub use formats::{failing_examples, spelling_examples};
 pub use orders::{obeyed_orders, refused_orders, succession_examples, verified_orders};

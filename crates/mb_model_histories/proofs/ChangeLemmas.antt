@@ -5,13 +5,14 @@ use Rattle.mb_model.specs.declared.event.Event.{Event}
 use Rattle.mb_model.specs.declared.event.Event.TheVariants as event
 use Rattle.mb_model.specs.declared.region.Region.{Region}
 use Rattle.mb_model.specs.declared.reply.Refusal.{Refusal}
-use Rattle.mb_model.specs.declared.reply.Refusal.TheVariants.{WrongPhase, WrongLayer}
+use Rattle.mb_model.specs.declared.reply.Refusal.TheVariants.{WrongPhase, WrongLayer, WrongCode}
 use Rattle.mb_model.specs.declared.reply.Reply.{Reply}
 use Rattle.mb_model.specs.declared.reply.Reply.TheVariants as reply
 use Rattle.mb_model.specs.declared.state.State.{State}
 use Rattle.mb_model.specs.owners.Layers.{is_runnable}
-use Rattle.mb_model.specs.machine.LayerEvents.{Outcome, on_region, put_event, get_event, drop_event, sign_event}
-use Rattle.mb_model.specs.machine.Machine.{Phase, off, dead, ratchet, World, Told, boot_event, running_state, running_state_in, status_of, status_event, go_event, region_event, CommandStep, Machine, may_want_memory, Step, machine_step, lacks_memory, loses_power}
+use Rattle.mb_model.specs.machine.LayerEvents.{Outcome, code_in, takes_calls, on_region, put_event, get_event, drop_event, sign_event}
+use Rattle.mb_model.specs.machine.Machine.{Phase, off, dead, ratchet, World, Told, boot_event, running_state, running_state_in, status_of, status_event, go_event, region_event, CommandStep, CallTold, Machine, may_want_memory, Step, machine_step, lacks_memory, loses_power}
+use Rattle.mb_model.specs.machine.Calls.{Call, WithCode, OnLayer}
 use Rattle.mb_model.specs.machine.OrderStep.{OrderStep}
 use Rattle.mb_model.specs.machine.Refusals.{refusal_reply}
 use Rattle.mb_model.specs.owners.Regions.{empty_region, region_of, with_region}
@@ -42,6 +43,13 @@ module _ (change : ℕ → Region → Region) (value : ℕ → List ℕ → List
   Commutes phase layer does other =
       (level : ℕ) → phase ≡ ratchet level → (nat_lt layer level ≡ true) ⊎ ((state : State) → other (changed state) ≡ seen_outcome (does state))
 
+  -- what a call comes to commutes with the change, or a layer that runs is past the called one
+  abbrev pub CallCommutes : Phase → Call → Type 0
+  CallCommutes phase call =
+      (level : ℕ) → phase ≡ ratchet level → (nat_lt call.layer level ≡ true)
+      ⊎ ((state : State) (outcome : Outcome) → WithCode state call (code_in state.codes call.layer) outcome
+      → WithCode (changed state) call (code_in state.codes call.layer) (seen_outcome outcome))
+
   -- what is wanted of an event
   abbrev pub Agrees : Phase → Event → Type 0
   Agrees phase event.Boot = Unit {0}
@@ -56,6 +64,7 @@ module _ (change : ℕ → Region → Region) (value : ℕ → List ℕ → List
   Agrees phase (event.Get layer name) = Commutes phase layer (get_event layer name) (get_event layer name)
   Agrees phase (event.Drop layer name) = Commutes phase layer (drop_event layer name) (drop_event layer name)
   Agrees phase (event.Sign layer key message) = Commutes phase layer (sign_event layer key message) (sign_event layer key message)
+  Agrees phase (event.Call layer key input) = CallCommutes phase (record { layer = layer; key = key; input = input })
 
   abbrev seen_told : Told → Told
   seen_told told = (told.0, seen told.1)
@@ -106,12 +115,14 @@ module _ (change : ℕ → Region → Region) (value : ℕ → List ℕ → List
       → on_region level layer other (changed state) ≡ seen_outcome (on_region level layer does state)
   on_region_seen level layer does other state (inl past) =
       let barred : Bool = not (is_runnable state.layers layer) in
-      refused_if (nat_lt layer level) barred (refusal_reply WrongLayer, changed state) (other (changed state)) past
-      ∙ ap seen_outcome (sym (refused_if (nat_lt layer level) barred (refusal_reply WrongLayer, state) (does state) past))
+      refused_if (nat_lt layer level) barred (refusal_reply WrongLayer, changed state) _ past
+      ∙ ap seen_outcome (sym (refused_if (nat_lt layer level) barred (refusal_reply WrongLayer, state) _ past))
   on_region_seen level layer does other state (inr same) =
       let barred : Bool = nat_lt layer level || not (is_runnable state.layers layer) in
-      ap (λ (rest : Outcome). if barred then (refusal_reply WrongLayer, changed state) else rest) same
-      ∙ sym (outcome_if barred (refusal_reply WrongLayer, state) (does state))
+      let taken : Bool = takes_calls (code_in state.codes layer) in
+      ap (λ (rest : Outcome). if barred then (refusal_reply WrongLayer, changed state) else if taken then (refusal_reply WrongCode, changed state) else rest) same
+      ∙ ap (λ (rest : Outcome). if barred then (refusal_reply WrongLayer, changed state) else rest) (sym (outcome_if taken (refusal_reply WrongCode, state) (does state)))
+      ∙ sym (outcome_if barred (refusal_reply WrongLayer, state) (if taken then (refusal_reply WrongCode, state) else does state))
 
   region_seen : (world : World) (layer : ℕ) (does other : State → Outcome) (on : Result (ℕ × State) Refusal) → running_state_in world ≡ on
       → Commutes world.phase layer does other → region_event (seen world) layer other (seen_on on) ≡ seen_told (region_event world layer does on)
@@ -134,6 +145,28 @@ module _ (change : ℕ → Region → Region) (value : ℕ → List ℕ → List
       let first : world.phase ≡ ratchet 1 = awake_phase world.phase world.state on is ∙ ap ratchet x.0 in
       inl (x.0, (changed x.1.0, agrees first on.1 x.1.0 answer x.1.1, ap seen x.1.2))
   command_seen world text draw (Ok on) answer next is agrees (inr x) = inr (x.0, x.1, ap seen x.2)
+
+  -- a call is refused to both if a layer that runs is past it
+  refused_past : (past barred : Bool) → past ≡ true → (past || barred) ≡ false → ⊥
+  refused_past true barred is e = grind (arith, e)
+  refused_past false barred is e = grind (arith, is)
+
+  on_layer_seen : (level : ℕ) (call : Call) (state : State) (outcome : Outcome)
+      → (nat_lt call.layer level ≡ true)
+      ⊎ (WithCode state call (code_in state.codes call.layer) outcome → WithCode (changed state) call (code_in state.codes call.layer) (seen_outcome outcome))
+      → OnLayer level call state outcome → OnLayer level call (changed state) (seen_outcome outcome)
+  on_layer_seen level call state outcome commutes (inl barred) = inl (barred.0, ap seen_outcome barred.1)
+  on_layer_seen level call state outcome (inl past) (inr free) =
+      absurd (refused_past (nat_lt call.layer level) (not (is_runnable state.layers call.layer)) past free.0)
+  on_layer_seen level call state outcome (inr each) (inr free) = inr (free.0, each free.1)
+
+  call_seen : (world : World) (call : Call) (on : Result (ℕ × State) Refusal) (answer : Reply) (next : World) → running_state_in world ≡ on
+      → CallCommutes world.phase call → CallTold world call on answer next → CallTold (seen world) call (seen_on on) answer (seen next)
+  call_seen world call (Err refusal) answer next is commutes x = (x.0, ap seen x.1)
+  call_seen world call (Ok on) answer next is commutes (outcome, at, told, follows) =
+      let here = on_layer_seen on.0 call on.1 outcome
+      (elim (commutes on.0 (awake_phase world.phase world.state on is)) [ inl past ↦ inl past | inr each ↦ inr (each on.1 outcome) ]) at in
+      (seen_outcome outcome, here, told, ap seen follows)
 
   -- a region's event, whatever it is
   region_told : (world : World) (layer : ℕ) (does other : State → Outcome) (answer : Reply) (next : World) → Commutes world.phase layer does other
@@ -165,6 +198,9 @@ module _ (change : ℕ → Region → Region) (value : ℕ → List ℕ → List
   machine_seen world (event.Drop layer name) answer next agrees x = region_told world layer (drop_event layer name) (drop_event layer name) answer next agrees x
   machine_seen world (event.Sign layer key message) answer next agrees x =
       region_told world layer (sign_event layer key message) (sign_event layer key message) answer next agrees x
+  machine_seen world (event.Call layer key input) answer next agrees x =
+      subst (λ (on : Result (ℕ × State) Refusal). CallTold (seen world) (record { layer = layer; key = key; input = input }) on answer (seen next)) (sym (running_seen world.phase world.state))
+      (call_seen world _ (running_state_in world) answer next refl agrees x)
 
   wanted_same : (this : Event) → may_want_memory (with_value this) ≡ may_want_memory this
   wanted_same (event.Put layer name given) = refl

@@ -3,22 +3,21 @@ use Rattle.std.proofs.Common.{◌≡◌, ◌<◌, ℕ, List, [], ◌∷◌, ◌+
 use Rattle.std.specs.Prelude.{All, AllPairs, Contains}
 use Rattle.mb_model.specs.declared.entry.Chain.{Chain}
 use Rattle.mb_model.specs.declared.entry.Entry.{Entry}
+use Rattle.mb_model.specs.declared.entry.Said.{Said}
 use Rattle.mb_model.specs.declared.entry.SignedEntry.{SignedEntry}
 use Rattle.mb_model.specs.declared.entry.Statement.{Statement}
 use Rattle.mb_model.specs.declared.event.Answered.{Answered}
-use Rattle.mb_model.specs.declared.event.Event.TheVariants.{Sign}
 use Rattle.mb_model.specs.declared.key.PublicKey.{PublicKey}
 use Rattle.mb_model.specs.declared.region.RegionKey.{RegionKey}
 use Rattle.mb_model.specs.declared.reply.Reply.TheVariants as reply
 use Rattle.mb_model.specs.declared.state.Report.{Report}
 use Rattle.mb_model.specs.declared.state.State.{State}
 use Rattle.mb_model.specs.chains.Acceptance.{key_of, IsCurrent, report_of, Honest}
-use Rattle.mb_model.specs.machine.LayerEvents.{statement_of}
 use Rattle.mb_model.specs.owners.Log.{entries_of, number_of, serial_of, RuledLog}
 use Rattle.mb_model.specs.machine.Machine.{World, Run}
 use Rattle.mb_model.specs.signatures.Merkle.{Verifies}
 use Rattle.mb_model.specs.owners.Regions.{region_of}
-use Rattle.mb_model.specs.machine.SignedTexts.{statement_text}
+use Rattle.mb_model.specs.machine.SignedTexts.{said_text}
 use Rattle.mb_model.specs.signatures.Signing.{public_of, signature_of}
 use Rattle.mb_model.specs.memories.Valid.{IsValidState, Valid}
 use Rattle.mb_model_lemmas.proofs.ReaderLemmas.{living_is_flagged}
@@ -26,7 +25,7 @@ use Rattle.mb_model_lemmas.proofs.SignatureLemmas.{signature_verifies}
 use Rattle.mb_model_lemmas.proofs.Splits.{All-split}
 use Rattle.mb_model_lemmas.proofs.ValidStates.{valid_is_ruled}
 use Rattle.mb_model_lemmas.proofs.ListLemmas.{pairs_head, pairs_back}
-use Rattle.mb_model_runs.specs.StatementLaws.{key_entry_of}
+use Rattle.mb_model_runs.specs.StatementLaws.{statement_saying, key_entry_of}
 use Rattle.mb_model_runs.proofs.BirthLemmas.{log_is_good, key_of-split}
 use Rattle.mb_model_runs.proofs.KeyLemmas.{key_lives}
 use Rattle.mb_model_runs.proofs.SpentLemmas.{Goes, indices_increase}
@@ -46,14 +45,14 @@ key_named state layer key valid within =
     ∙ key_of-split alive.before alive.position alive.number key.number layer key.kind (public_of key.seed) alive.later (subst RuledLog alive.split (valid_is_ruled state valid))
 
 -- the key signed it, in the last configuration, and is alive
-pub statement_current : (state : State) (layer : ℕ) (key : RegionKey) (message : List ℕ) → IsValidState state → Contains (region_of state layer).keys key → key.uses < 32
-    → IsCurrent (entries_of state.log) key.number (key_entry_of layer key) (statement_of state key message)
-unfolding statement_of
-statement_current state layer key message valid within few =
-    let text : List ℕ = statement_text state.serial key.number (number_of (entries_of state.log)) message in
+pub statement_current : (state : State) (layer : ℕ) (key : RegionKey) (said : Said) → IsValidState state → Contains (region_of state layer).keys key → key.uses < 32
+    → IsCurrent (entries_of state.log) key.number (key_entry_of layer key) (statement_saying state key said)
+unfolding statement_saying
+statement_current state layer key said valid within few =
+    let text : List ℕ = said_text state.serial key.number (number_of (entries_of state.log)) said in
     record {
       signed = stated_by (serial_of (entries_of state.log)) state.serial
-          (λ serial. Verifies (public_of key.seed) (statement_text serial key.number (number_of (entries_of state.log)) message) (signature_of key.seed key.uses text))
+          (λ serial. Verifies (public_of key.seed) (said_text serial key.number (number_of (entries_of state.log)) said) (signature_of key.seed key.uses text))
           valid.serial (signature_verifies key.seed key.uses text few);
       number = refl;
       alive = living_is_flagged (entries_of state.log) key.number (key_entry_of layer key) (key_lives state layer key valid within);
@@ -81,7 +80,7 @@ module _ (world here after : World) (key_number index : ℕ) (bytes : List ℕ) 
 
 never_made : (world : World) (state : State) (key_number : ℕ) (report : Report) (statement : Statement) → Valid world.state → world.state ≡ Some state → WasMade world world key_number report statement → ⊥
 never_made world state key_number report statement valid was made =
-    let this : Answered = record { event = Sign report.layer key_number statement.message; reply = reply.Signed key_number made.index made.bytes } in
+    let this : Answered = record { event = made.event; reply = reply.Signed key_number made.index made.bytes } in
     let sooner = runs_lead world made.here made.state made.before made.is in
     let later = runs_lead made.after world state made.later was in
     no_loop world made.here made.after key_number made.index made.bytes this sooner.0 later.0 valid refl
@@ -90,8 +89,8 @@ never_made world state key_number report statement valid was made =
 -- ---- the statement
 
 pub statements_may_be_made_elsewhere : StatementsMayBeMadeElsewhere
-statements_may_be_made_elsewhere maker bytes message world state layer key valid was within few born spelled =
-    let chain : Chain = whole_chain state.log (statement_of state key message) in
+statements_may_be_made_elsewhere maker bytes said world state layer key valid was within few born spelled =
+    let chain : Chain = whole_chain state.log (statement_saying state key said) in
     let report : Report = report_of chain key.number (key_entry_of layer key) in (
       report,
       record {
@@ -100,10 +99,10 @@ statements_may_be_made_elsewhere maker bytes message world state layer key valid
         good = log_is_good maker state valid born;
         made = key_entry_of layer key;
         named = key_named state layer key valid within;
-        current = statement_current state layer key message valid within few;
+        current = statement_current state layer key said valid within few;
         report_is = refl;
       },
       refl,
       log_is_honest state.log maker,
-      never_made world state key.number report (statement_of state key message) (subst Valid (sym was) valid) was,
+      never_made world state key.number report (statement_saying state key said) (subst Valid (sym was) valid) was,
     )

@@ -19,6 +19,7 @@ use Rattle.mb_model.specs.declared.order.Order.{Order}
 use Rattle.mb_model.specs.declared.region.Region.{Region}
 use Rattle.mb_model.specs.declared.region.RegionKey.{RegionKey}
 use Rattle.mb_model.specs.declared.separators.TheConstants.{KEY_SECRET, OFFICER_SECRET}
+use Rattle.mb_model.specs.declared.region.Secret.{Secret}
 use Rattle.mb_model.specs.declared.state.State.{State}
 use Rattle.mb_model.specs.owners.Born.{born_key, officer_key}
 use Rattle.mb_model.specs.memories.Factory.{state_at_birth}
@@ -35,7 +36,8 @@ use Rattle.mb_model_lemmas.proofs.FactoryLemmas.{birth_is_valid}
 use Rattle.mb_model_lemmas.proofs.LineLemmas.{cons_same}
 use Rattle.mb_model_lemmas.proofs.LogLemmas.{made-le-length, length-entries_of}
 use Rattle.mb_model_lemmas.proofs.ValidStates.{valid_is_ruled, region_is_valid}
-use Rattle.mb_model_runs.proofs.KeptByRuns.{IsKept, run_kept}
+use Rattle.mb_model_lemmas.proofs.DemandLemmas.{with_secrets}
+use Rattle.mb_model_runs.proofs.KeptByRuns.{with_one_use, IsKept, run_kept}
 use Rattle.mb_model_runs.proofs.KeyLemmas.{upper_of}
 use Rattle.mb_model_histories.specs.Histories.{History}
 use Rattle.mb_model_histories.specs.KeyLaws.{Collide, device_key_text, officer_key_text, DeviceKeysDiffer, OfficersKeysDiffer, KeysOfDevicesAreNoOfficers, OneNoiseMakesOneKey, IsDerived, HasDerivedKeys, KeysAreDerived, KeysOfOneDeviceDiffer}
@@ -169,19 +171,26 @@ Derived (Some state) = HasDerivedKeys state
 abbrev StaysDerived : Option State → Option State → Type 0
 StaysDerived before after = Derived before → Derived after
 
+secrets_derived : (state : State) (layer : ℕ) (secrets : List Secret) → HasDerivedKeys state → HasDerivedKeys (with_secrets state layer secrets)
+secrets_derived state layer secrets has =
+    let own : AreDerived state.serial (region_of state layer).keys = region_derived state.serial (layer == 2) (layer == 3) state.two state.three has.two has.three in
+    let both = instead_derived state.serial (layer == 2) (layer == 3) state.two state.three (record (region_of state layer) { secrets = secrets }) has.two has.three own in
+    record { two = both.0; three = both.1 }
+
+use_derived : (state : State) (layer number : ℕ) → HasDerivedKeys state → HasDerivedKeys (with_one_use state layer number)
+use_derived state layer number has =
+    let own : AreDerived state.serial (region_of state layer).keys = region_derived state.serial (layer == 2) (layer == 3) state.two state.three has.two has.three in
+    let once = used_derived state.serial number (region_of state layer).keys own in
+    let both = instead_derived state.serial (layer == 2) (layer == 3) state.two state.three (record (region_of state layer) { keys = with_use number (region_of state layer).keys }) has.two has.three once in
+    record { two = both.0; three = both.1 }
+
 derived_kept : IsKept StaysDerived
 derived_kept = record {
   same = λ o has. has;
   dies = λ o has. tt;
-  secrets = λ state layer secrets has.
-      let own : AreDerived state.serial (region_of state layer).keys = region_derived state.serial (layer == 2) (layer == 3) state.two state.three has.two has.three in
-      let both = instead_derived state.serial (layer == 2) (layer == 3) state.two state.three (record (region_of state layer) { secrets = secrets }) has.two has.three own in
-      record { two = both.0; three = both.1 };
-  used = λ state layer number has.
-      let own : AreDerived state.serial (region_of state layer).keys = region_derived state.serial (layer == 2) (layer == 3) state.two state.three has.two has.three in
-      let once = used_derived state.serial number (region_of state layer).keys own in
-      let both = instead_derived state.serial (layer == 2) (layer == 3) state.two state.three (record (region_of state layer) { keys = with_use number (region_of state layer).keys }) has.two has.three once in
-      record { two = both.0; three = both.1 };
+  secrets = secrets_derived;
+  used = use_derived;
+  called = λ state layer secrets number has. use_derived (with_secrets state layer secrets) layer number (secrets_derived state layer secrets has);
   order = order_derived;
 }
 

@@ -1,66 +1,41 @@
 -- What a draw decides: keys, and what they sign.
-use Rattle.std.proofs.Common.{◌≡◌, ◌≤◌, ℕ, ◌+◌, ◌-◌, List, [], ◌∷◌, ◌++◌, length, inl, inr, Option, None, Some, Bool, true, false, true≢false, refl, sym, ap, subst, ◌∙◌, arith, take, reverse, length-append}
-use Rattle.std.specs.Prelude.{◌⊎◌, not, nat_lt, nat_le, ◌&&◌, ◌||◌, ◌==◌, IsTrue, find, filter, map, cond, All, option_map, take_while, is_none, count_by, sum_by, Result, Ok, Err, if◌then◌else◌}
-use Rattle.std.specs.Int.{w8, w32, to_be_bytes}
-use Rattle.std.specs.List.{list_any}
-use Rattle.std.proofs.lemmas.List.{length-map, map-append, append_assoc, reverse-append, take-append-le}
+use Rattle.std.proofs.Common.{◌≡◌, ℕ, ◌+◌, List, [], ◌∷◌, length, inl, inr, Option, None, Some, Bool, true, false, true≢false, refl, sym, ap, subst, ◌∙◌, arith}
+use Rattle.std.specs.Prelude.{◌⊎◌, not, nat_lt, ◌&&◌, ◌||◌, ◌==◌, IsTrue, map, All, option_map, Result, Ok, Err, if◌then◌else◌}
 use Rattle.std.proofs.lemmas.List.Elements.{All-head, All-tail, All-nil, All-cons}
-use Rattle.std.proofs.lemmas.List.Sums.{sum_by-cons, take_while-cons}
-use Rattle.std.proofs.Math.Seq.{take-append_seam}
 use Rattle.std.proofs.lemmas.Option.{same_Some}
 use Rattle.mb_model.specs.declared.entry.Entry.{Entry}
-use Rattle.mb_model.specs.declared.entry.Entry.TheVariants.{Birth, Change, NewKey, Succession}
-use Rattle.mb_model.specs.declared.entry.SignedEntry.{SignedEntry}
+use Rattle.mb_model.specs.declared.entry.Entry.TheVariants.{Change}
 use Rattle.mb_model.specs.declared.event.Answered.{Answered}
 use Rattle.mb_model.specs.declared.event.Event.{Event}
 use Rattle.mb_model.specs.declared.event.Event.TheVariants as event
-use Rattle.mb_model.specs.declared.key.KeySeed.{KeySeed}
-use Rattle.mb_model.specs.declared.key.PublicKey.{PublicKey}
 use Rattle.mb_model.specs.declared.layer.Layers.{Layers}
-use Rattle.mb_model.specs.declared.layer.Pair.{Pair}
 use Rattle.mb_model.specs.declared.order.Act.{Act}
 use Rattle.mb_model.specs.declared.order.Act.TheVariants as act
 use Rattle.mb_model.specs.declared.order.ChangeKind.{ChangeKind}
 use Rattle.mb_model.specs.declared.order.ChangeKind.TheVariants.{Establish, Surrender, Load, Emergency}
-use Rattle.mb_model.specs.declared.order.KeyKind.{KeyKind}
 use Rattle.mb_model.specs.declared.order.Order.{Order}
-use Rattle.mb_model.specs.declared.region.Region.{Region}
-use Rattle.mb_model.specs.declared.region.RegionKey.{RegionKey}
-use Rattle.mb_model.specs.declared.region.Secret.{Secret}
-use Rattle.mb_model.specs.declared.reply.OrderRefusal.{OrderRefusal}
 use Rattle.mb_model.specs.declared.reply.Refusal.{Refusal}
 use Rattle.mb_model.specs.declared.reply.Refusal.TheVariants as refusal
 use Rattle.mb_model.specs.declared.reply.Reply.{Reply}
 use Rattle.mb_model.specs.declared.reply.Reply.TheVariants as reply
-use Rattle.mb_model.specs.declared.state.Codes.{Codes}
 use Rattle.mb_model.specs.declared.state.State.{State}
-use Rattle.mb_model.specs.declared.state.View.{View}
 use Rattle.mb_model.specs.owners.Born.{born_key}
-use Rattle.mb_model.specs.records.ChainFormat.{statement_format}
-use Rattle.mb_model.specs.machine.LayerEvents.{Outcome, has_name, has_number, with_secret, with_use, on_region, put_event, get_event, drop_event, sign_with, sign_event, statement_of, value_reply}
+use Rattle.mb_model.specs.machine.LayerEvents.{Outcome, put_event, get_event, drop_event, sign_event}
 use Rattle.mb_model.specs.owners.Layers.{is_runnable, layer_standing, layer_of}
-use Rattle.mb_model.specs.owners.Log.{entries_of, is_change, device_in, keys_in, number_of, uses_of_device_key}
+use Rattle.mb_model.specs.owners.Log.{entries_of, number_of, uses_of_device_key}
 use Rattle.mb_model.specs.owners.Log.{keys_made_by}
-use Rattle.mb_model.specs.machine.Machine.{Phase, off, dead, ratchet, World, Told, boot_event, running_state, running_state_in, status_of, status_event, go_event, region_event, CommandStep, Machine, may_want_memory, may_be_cut, Step, machine_step, lacks_memory, loses_power}
-use Rattle.mb_model.specs.machine.OrderChecks.{view_of, change_by, needs_succession, Check, checks_of, EachHolds, IsFirstRefusal, Passes, Fails}
-use Rattle.mb_model.specs.machine.OrderEffects.{cosigners_of, change_fact, entry_of, next_device_key, next_key, device_after, succession_entry, key_made, codes_after, entry_signed_by, log_with, state_after_succession, state_after_change, state_after_new_key, state_after_act, state_after_order, ready_for}
-use Rattle.mb_model.specs.declared.state.Fact.TheVariants as fact
-use Rattle.mb_format.specs.Combinators.{number_bytes}
-use Rattle.mb_model.specs.machine.OrderStep.{OrderStep, spells_none, fails_check, is_obeyed}
+use Rattle.mb_model.specs.machine.Machine.{Phase, off, dead, ratchet, World, Told, boot_event, running_state, running_state_in, status_of, status_event, go_event, region_event, CommandStep, CallTold, Machine, may_want_memory, may_be_cut, Step, machine_step, lacks_memory, loses_power}
+use Rattle.mb_model.specs.machine.OrderChecks.{view_of, change_by, needs_succession}
+use Rattle.mb_model.specs.machine.OrderEffects.{cosigners_of, next_device_key, next_key, device_after, log_with, state_after_succession, state_after_change, state_after_act, state_after_order}
+use Rattle.mb_model.specs.machine.OrderStep.{spells_none, fails_check, is_obeyed}
 use Rattle.mb_model.specs.machine.Refusals.{refusal_reply}
-use Rattle.mb_model.specs.owners.Regions.{empty_region, is_epoch, region_of, with_region, region_after, without_configuration_keys, with_key}
-use Rattle.mb_model.specs.owners.Rules.{admits, renews, change_of, kind_of, after, layer_from_order, kept_regions}
-use Rattle.mb_model.specs.signatures.Signing.{signature_of, randomizer_of, signed_values, signed_digits, path_from}
-use Rattle.mb_model.specs.machine.SignedTexts.{entry_text}
+use Rattle.mb_model.specs.owners.Rules.{renews, change_of, kind_of, after, layer_from_order, kept_regions}
 use Rattle.mb_model_lemmas.proofs.LineLemmas.{cons_same}
-use Rattle.mb_model_lemmas.proofs.SignatureLemmas.{length-signature_of}
-use Rattle.mb_model_lemmas.proofs.ValidRegions.{filter-map}
-use Rattle.mb_model_histories.specs.NoiseLaws.{no_key, no_public_key, keyless_entry, keyless_signed, keyless_key, keyless_region, keyless_state, keyless_world, keyless_reply, undrawn_event, is_new_key, makes_key, NoiseMattersToKeysAlone, DrawsChangeSignaturesAlone, DrawsMatterToNewKeysAlone, DrawsMakeTheDeviceKey}
+use Rattle.mb_model_histories.specs.NoiseLaws.{keyless_state, keyless_world, keyless_reply, undrawn_event, is_new_key, makes_key, NoiseMattersToKeysAlone, DrawsChangeSignaturesAlone, DrawsMatterToNewKeysAlone, DrawsMakeTheDeviceKey}
 use Rattle.mb_model_histories.specs.PowerLaws.{HasOwnAnswer}
 use Rattle.mb_model_histories.proofs.KeyLemmas.{device_keys_differ}
 use Rattle.mb_model_histories.proofs.PowerLemmas.{runs_are_determined}
-use Rattle.mb_model_histories.proofs.ChangeLemmas.{region_changed, put_changed}
-use Rattle.mb_model_histories.proofs.NoiseStates.{Twins, Shares, shares, same_length, same_number, same_layers, order_step_alike, TwinOutcomes, put_alike, get_alike, drop_alike, sign_alike, on_region_alike}
+use Rattle.mb_model_histories.proofs.NoiseStates.{on_layer_alike, Twins, Shares, shares, same_length, same_number, same_layers, order_step_alike, TwinOutcomes, put_alike, get_alike, drop_alike, sign_alike, on_region_alike}
 
 -- ---- the machine
 
@@ -212,6 +187,24 @@ command_alike armed draw text old answer next (ratchet level) (Some state) (Some
 command_alike armed draw text old answer next (ratchet level) None (Some twin) pair x = elim pair [ ]
 command_alike armed draw text old answer next (ratchet level) (Some state) None pair x = elim pair [ ]
 
+call_alike : (armed : Bool) (layer : ℕ) (key : Option ℕ) (input : List ℕ) (answer : Reply) (next : World) (phase : Phase) (one other : Option State) → TwinStates one other
+    → CallTold (world_of phase armed one) (record { layer = layer; key = key; input = input }) (running_state phase one) answer next
+    → TwinMachine (world_of phase armed other) (event.Call layer key input) answer next
+call_alike armed layer key input answer next off one other pair x = refused_alike armed off one other pair refusal.PoweredOff answer next _ (refl, refl) x.0 x.1
+call_alike armed layer key input answer next dead one other pair x = refused_alike armed dead one other pair refusal.Zeroised answer next _ (refl, refl) x.0 x.1
+call_alike armed layer key input answer next (ratchet level) None None both_dead x = refused_alike armed (ratchet level) None None both_dead refusal.Zeroised answer next _ (refl, refl) x.0 x.1
+call_alike armed layer key input answer next (ratchet level) (Some state) (Some twin) (both_alive same) (outcome, at, told, follows) =
+    let second = on_layer_alike state twin same (record { layer = layer; key = key; input = input }) level outcome at in
+    record {
+      told = second.0.0;
+      end = world_of (ratchet level) armed (Some second.0.1);
+      machine = (second.0, second.1, refl, refl);
+      replies = ap keyless_reply told ∙ ap (λ (o : Outcome). o.0) second.2;
+      worlds = ap keyless_world follows ∙ worlds_alike (ratchet level) armed (Some outcome.1) (Some second.0.1) (both_alive (ap (λ (o : Outcome). o.1) second.2));
+    }
+call_alike armed layer key input answer next (ratchet level) None (Some twin) pair x = elim pair [ ]
+call_alike armed layer key input answer next (ratchet level) (Some state) None pair x = elim pair [ ]
+
 module _ (phase : Phase) (armed : Bool) (draw : List ℕ) (one other : Option State) (pair : TwinStates one other) where
   abbrev here : World
   here = world_of phase armed one
@@ -247,6 +240,7 @@ module _ (phase : Phase) (armed : Bool) (draw : List ℕ) (one other : Option St
       on_region_of layer (drop_event layer name) (λ state twin same. drop_alike state twin same layer name) (event.Drop layer name) answer next refl x
   machine_alike (event.Sign layer key message) answer next x =
       on_region_of layer (sign_event layer key message) (λ state twin same. sign_alike state twin same layer key message) (event.Sign layer key message) answer next refl x
+  machine_alike (event.Call layer key input) answer next x = call_alike armed layer key input answer next phase one other pair x
 
 cut_kept : (answer : Reply) → may_be_cut (keyless_reply answer) ≡ may_be_cut answer
 cut_kept (reply.Signed key index statement) = refl

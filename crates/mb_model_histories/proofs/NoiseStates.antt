@@ -1,19 +1,19 @@
 -- Two states that are the same but for keys: what orders and layers do to them.
-use Rattle.std.proofs.Common.{◌≡◌, ◌≤◌, ℕ, ◌+◌, ◌-◌, List, [], ◌∷◌, ◌++◌, length, inl, inr, Option, None, Some, Bool, true, false, true≢false, refl, sym, ap, subst, ◌∙◌, arith, take, reverse, length-append}
-use Rattle.std.specs.Prelude.{◌⊎◌, not, nat_lt, nat_le, ◌&&◌, ◌||◌, ◌==◌, IsTrue, find, filter, map, cond, All, option_map, take_while, is_none, count_by, sum_by, Result, Ok, Err, if◌then◌else◌}
-use Rattle.std.specs.Int.{w8, w32, to_be_bytes}
+use Rattle.std.proofs.Common.{◌≡◌, ◌≤◌, ℕ, ◌+◌, ◌-◌, List, [], ◌∷◌, ◌++◌, length, inl, inr, Option, None, Some, Bool, true, false, refl, sym, ap, subst, ◌∙◌, arith, take, reverse, length-append}
+use Rattle.std.specs.Prelude.{not, nat_lt, nat_le, ◌&&◌, ◌||◌, find, filter, map, cond, option_map, take_while, is_none, count_by, sum_by, Result, Ok, Err, if◌then◌else◌}
+use Rattle.std.proofs.Math.Path.{fun_ext}
+use Rattle.std.specs.Int.{w32, to_be_bytes}
+use Rattle.sha2.specs.Sha256.{sha256}
 use Rattle.std.specs.List.{list_any}
 use Rattle.std.proofs.lemmas.List.{length-map, map-append, append_assoc, reverse-append, take-append-le}
-use Rattle.std.proofs.lemmas.List.Elements.{All-head, All-tail, All-nil, All-cons}
 use Rattle.std.proofs.lemmas.List.Sums.{sum_by-cons, take_while-cons}
 use Rattle.std.proofs.Math.Seq.{take-append_seam}
 use Rattle.std.proofs.lemmas.Option.{same_Some}
 use Rattle.mb_model.specs.declared.entry.Entry.{Entry}
 use Rattle.mb_model.specs.declared.entry.Entry.TheVariants.{Birth, Change, NewKey, Succession}
+use Rattle.mb_model.specs.declared.entry.Said.{Said}
+use Rattle.mb_model.specs.declared.entry.Said.TheVariants.{Message, Answer}
 use Rattle.mb_model.specs.declared.entry.SignedEntry.{SignedEntry}
-use Rattle.mb_model.specs.declared.event.Answered.{Answered}
-use Rattle.mb_model.specs.declared.event.Event.{Event}
-use Rattle.mb_model.specs.declared.event.Event.TheVariants as event
 use Rattle.mb_model.specs.declared.key.KeySeed.{KeySeed}
 use Rattle.mb_model.specs.declared.key.PublicKey.{PublicKey}
 use Rattle.mb_model.specs.declared.layer.Layers.{Layers}
@@ -35,30 +35,31 @@ use Rattle.mb_model.specs.declared.reply.Reply.TheVariants as reply
 use Rattle.mb_model.specs.declared.state.Codes.{Codes}
 use Rattle.mb_model.specs.declared.state.State.{State}
 use Rattle.mb_model.specs.declared.state.View.{View}
-use Rattle.mb_model.specs.owners.Born.{born_key}
-use Rattle.mb_model.specs.records.ChainFormat.{statement_format}
-use Rattle.mb_model.specs.machine.LayerEvents.{Outcome, has_name, has_number, with_secret, with_use, on_region, put_event, get_event, drop_event, sign_with, sign_event, statement_of, value_reply}
-use Rattle.mb_model.specs.owners.Layers.{is_runnable, layer_standing, layer_of}
+use Rattle.mb_model.specs.records.ChainFormat.{said_format, statement_format}
+use Rattle.mb_model.specs.machine.LayerEvents.{Outcome, code_in, takes_calls, has_name, has_number, with_secret, with_use, on_region, put_event, get_event, drop_event, sign_with, sign_event, statement_of, value_reply}
+use Rattle.mb_model.specs.owners.Layers.{is_runnable, layer_of}
 use Rattle.mb_model.specs.owners.Log.{entries_of, is_change, device_in, keys_in, number_of, uses_of_device_key}
 use Rattle.mb_model.specs.owners.Log.{keys_made_by}
-use Rattle.mb_model.specs.machine.Machine.{Phase, off, dead, ratchet, World, Told, boot_event, running_state, running_state_in, status_of, status_event, go_event, region_event, CommandStep, Machine, may_want_memory, may_be_cut, Step, machine_step, lacks_memory, loses_power}
-use Rattle.mb_model.specs.machine.OrderChecks.{view_of, change_by, needs_succession, Check, checks_of, EachHolds, IsFirstRefusal, Passes, Fails}
-use Rattle.mb_model.specs.machine.OrderEffects.{cosigners_of, change_fact, entry_of, next_device_key, next_key, device_after, succession_entry, key_made, codes_after, entry_signed_by, log_with, state_after_succession, state_after_change, state_after_new_key, state_after_act, state_after_order, ready_for}
+use Rattle.mb_model.specs.machine.OrderChecks.{view_of, needs_succession, Check, checks_of, EachHolds, IsFirstRefusal, Passes, Fails}
+use Rattle.mb_model.specs.machine.OrderEffects.{cosigners_of, change_fact, entry_of, next_device_key, succession_entry, key_made, codes_after, entry_signed_by, log_with, state_after_succession, state_after_change, state_after_new_key, state_after_act, state_after_order, ready_for}
 use Rattle.mb_model.specs.declared.state.Fact.TheVariants as fact
 use Rattle.mb_format.specs.Combinators.{number_bytes}
 use Rattle.mb_model.specs.machine.OrderStep.{OrderStep, spells_none, fails_check, is_obeyed}
 use Rattle.mb_model.specs.machine.Refusals.{refusal_reply}
 use Rattle.mb_model.specs.owners.Regions.{empty_region, is_epoch, region_of, with_region, region_after, without_configuration_keys, with_key}
-use Rattle.mb_model.specs.owners.Rules.{admits, renews, change_of, kind_of, after, layer_from_order, kept_regions}
+use Rattle.mb_model.specs.owners.Rules.{admits, renews, after, layer_from_order, kept_regions}
 use Rattle.mb_model.specs.signatures.Signing.{signature_of, randomizer_of, signed_values, signed_digits, path_from}
 use Rattle.mb_model.specs.machine.SignedTexts.{entry_text}
-use Rattle.mb_model_lemmas.proofs.LineLemmas.{cons_same}
+use Rattle.mb_model.specs.declared.limits.TheConstants.{CALL_STEPS}
+use Rattle.mb_model.specs.declared.running.AppEnd.{AppEnd}
+use Rattle.mb_model.specs.declared.running.AppEnd.TheVariants as end
+use Rattle.mb_model.specs.application.Runs.{AppRun, readable_secrets}
+use Rattle.mb_model.specs.machine.Actions.{Demand, to_keep, to_drop}
+use Rattle.mb_model.specs.machine.Calls.{Call, refuses, usable_key, key_for, demand_outcome, after_demands, call_statement_of, answer_by, act_on, does_act, asks_nothing, EndsIn, WithKey, WithCode, OnLayer}
+use Rattle.mb_model_runs.specs.StatementLaws.{statement_saying}
 use Rattle.mb_model_lemmas.proofs.SignatureLemmas.{length-signature_of}
 use Rattle.mb_model_lemmas.proofs.ValidRegions.{filter-map}
-use Rattle.mb_model_histories.specs.NoiseLaws.{no_key, no_public_key, keyless_entry, keyless_signed, keyless_key, keyless_region, keyless_state, keyless_world, keyless_reply, undrawn_event, is_new_key, makes_key, NoiseMattersToKeysAlone, DrawsChangeSignaturesAlone, DrawsMatterToNewKeysAlone, DrawsMakeTheDeviceKey}
-use Rattle.mb_model_histories.specs.PowerLaws.{HasOwnAnswer}
-use Rattle.mb_model_histories.proofs.KeyLemmas.{device_keys_differ}
-use Rattle.mb_model_histories.proofs.PowerLemmas.{runs_are_determined}
+use Rattle.mb_model_histories.specs.NoiseLaws.{no_key, no_public_key, keyless_entry, keyless_signed, keyless_key, keyless_region, keyless_state, keyless_reply}
 use Rattle.mb_model_histories.proofs.ChangeLemmas.{region_changed, put_changed}
 
 -- ---- signatures
@@ -516,26 +517,38 @@ front_kept x y long =
 abbrev unsigned : List ℕ → List ℕ
 unsigned statement = take (length statement - 2348) statement
 
-statement_kept : (number : ℕ) (message signature : List ℕ) → length signature ≡ 2348
-    → unsigned (statement_format.spelling (record { number = number; message = message; signature = signature })) ≡ to_be_bytes w32 number ++ (to_be_bytes w8 (length message) ++ message)
+statement_kept : (number : ℕ) (said : Said) (signature : List ℕ) → length signature ≡ 2348
+    → unsigned (statement_format.spelling (record { number = number; said = said; signature = signature })) ≡ to_be_bytes w32 number ++ said_format.spelling said
 unfolding statement_format number_bytes
-statement_kept number message signature long =
-    let front : List ℕ = to_be_bytes w32 number ++ (to_be_bytes w8 (length message) ++ message) in
-    ap unsigned (sym (append_assoc (to_be_bytes w32 number) (to_be_bytes w8 (length message) ++ message) signature)) ∙ front_kept front signature long
+statement_kept number said signature long =
+    let front : List ℕ = to_be_bytes w32 number ++ said_format.spelling said in
+    ap unsigned (sym (append_assoc (to_be_bytes w32 number) (said_format.spelling said) signature)) ∙ front_kept front signature long
 
-statement_said : (state : State) (key : RegionKey) (message : List ℕ)
-    → unsigned (statement_format.spelling (statement_of state key message)) ≡ to_be_bytes w32 (number_of (entries_of state.log)) ++ (to_be_bytes w8 (length message) ++ message)
-unfolding statement_of
-statement_said state key message = statement_kept (number_of (entries_of state.log)) message _ (length-signature_of key.seed key.uses _)
+-- one statement by two keys
+said_alike : (state twin : State) → Twins state twin → (one other : RegionKey) (said : Said) → one.number ≡ other.number → one.uses ≡ other.uses
+    → keyless_reply (reply.Signed one.number one.uses (statement_format.spelling (statement_saying state one said)))
+    ≡ keyless_reply (reply.Signed other.number other.uses (statement_format.spelling (statement_saying twin other said)))
+unfolding statement_saying
+said_alike state twin same one other said number uses =
+    let again : List ℕ = unsigned (statement_format.spelling (statement_saying twin other said)) in
+    ap (reply.Signed one.number one.uses)
+    (statement_kept (number_of (entries_of state.log)) said _ (length-signature_of one.seed one.uses _)
+    ∙ ap (λ (n : ℕ). to_be_bytes w32 n ++ said_format.spelling said) (same_number state twin same)
+    ∙ sym (statement_kept (number_of (entries_of twin.log)) said _ (length-signature_of other.seed other.uses _)))
+    ∙ ap (λ (n : ℕ). reply.Signed n one.uses again) number
+    ∙ ap (λ (n : ℕ). reply.Signed other.number n again) uses
 
 statements_alike : (state twin : State) → Twins state twin → (one other : RegionKey) (message : List ℕ) → one.number ≡ other.number → one.uses ≡ other.uses
     → keyless_reply (reply.Signed one.number one.uses (statement_format.spelling (statement_of state one message)))
     ≡ keyless_reply (reply.Signed other.number other.uses (statement_format.spelling (statement_of twin other message)))
-statements_alike state twin same one other message number uses =
-    ap (reply.Signed one.number one.uses)
-    (statement_said state one message ∙ ap (λ (n : ℕ). to_be_bytes w32 n ++ (to_be_bytes w8 (length message) ++ message)) (same_number state twin same) ∙ sym (statement_said twin other message))
-    ∙ ap (λ (n : ℕ). reply.Signed n one.uses (unsigned (statement_format.spelling (statement_of twin other message)))) number
-    ∙ ap (λ (n : ℕ). reply.Signed other.number n (unsigned (statement_format.spelling (statement_of twin other message)))) uses
+unfolding statement_of statement_saying
+statements_alike state twin same one other message number uses = said_alike state twin same one other (Message message) number uses
+
+call_statements_alike : (state twin : State) → Twins state twin → (one other : RegionKey) (input answer : List ℕ) → one.number ≡ other.number → one.uses ≡ other.uses
+    → keyless_reply (reply.Signed one.number one.uses (statement_format.spelling (call_statement_of state one input answer)))
+    ≡ keyless_reply (reply.Signed other.number other.uses (statement_format.spelling (call_statement_of twin other input answer)))
+unfolding call_statement_of statement_saying
+call_statements_alike state twin same one other input answer number uses = said_alike state twin same one other (Answer (sha256 input) answer) number uses
 
 module _ (state twin : State) (same : Twins state twin) (layer : ℕ) where
   abbrev region : Region
@@ -618,6 +631,143 @@ module _ (state twin : State) (same : Twins state twin) (layer : ℕ) where
 
   pub on_region_alike : (level : ℕ) (does : State → Outcome) → TwinOutcomes (does state) (does twin) → TwinOutcomes (on_region level layer does state) (on_region level layer does twin)
   on_region_alike level does alike =
-      either_alike (nat_lt layer level || not (is_runnable state.layers layer)) (nat_lt layer level || not (is_runnable twin.layers layer)) (refusal_reply refusal.WrongLayer, state) (does state) (refusal_reply refusal.WrongLayer, twin) (does twin)
+      either_alike (nat_lt layer level || not (is_runnable state.layers layer)) (nat_lt layer level || not (is_runnable twin.layers layer)) (refusal_reply refusal.WrongLayer, state) _ (refusal_reply refusal.WrongLayer, twin) _
       (ap (λ (l : Layers). nat_lt layer level || not (is_runnable l layer)) (same_layers state twin same))
-      (outcome_of (refusal_reply refusal.WrongLayer) state twin same) alike
+      (outcome_of (refusal_reply refusal.WrongLayer) state twin same)
+      (either_alike (takes_calls (code_in state.codes layer)) (takes_calls (code_in twin.codes layer)) (refusal_reply refusal.WrongCode, state) (does state) (refusal_reply refusal.WrongCode, twin) (does twin)
+      (ap (λ (s : State). takes_calls (code_in s.codes layer)) same) (outcome_of (refusal_reply refusal.WrongCode) state twin same) alike)
+
+-- ---- calls
+
+demand_alike : (layer : ℕ) (demand : Demand) (state twin : State) → Twins state twin → TwinOutcomes (demand_outcome layer demand state) (demand_outcome layer demand twin)
+demand_alike layer (to_keep name value) state twin same = put_alike state twin same layer name value
+demand_alike layer (to_drop name) state twin same = drop_alike state twin same layer name
+
+refuses_kept : (answer : Reply) → refuses (keyless_reply answer) ≡ refuses answer
+refuses_kept (reply.Signed key index statement) = refl
+refuses_kept other = refl
+
+demands_alike : (layer : ℕ) (demands : List Demand) (state twin : State) → Twins state twin
+    → option_map keyless_state (after_demands layer demands state) ≡ option_map keyless_state (after_demands layer demands twin)
+unfolding after_demands
+demands_alike layer [] state twin same = ap Some same
+demands_alike layer (demand ∷ later) state twin same =
+    let one : Outcome = demand_outcome layer demand state in
+    let other : Outcome = demand_outcome layer demand twin in
+    let alike : TwinOutcomes one other = demand_alike layer demand state twin same in
+    let refused : refuses one.0 ≡ refuses other.0 = sym (refuses_kept one.0) ∙ ap (λ (o : Outcome). refuses o.0) alike ∙ refuses_kept other.0 in
+    by (refuses one.0) (after_demands layer later one.1) (after_demands layer later other.1) (demands_alike layer later one.1 other.1 (ap (λ (o : Outcome). o.1) alike))
+    ∙ ap (λ (b : Bool). option_map keyless_state (if b then None else after_demands layer later other.1)) refused
+  where
+    by : (b : Bool) (x y : Option State) → option_map keyless_state x ≡ option_map keyless_state y
+        → option_map keyless_state (if b then None else x) ≡ option_map keyless_state (if b then None else y)
+    by true x y equal = refl
+    by false x y equal = equal
+
+module _ (state twin : State) (same : Twins state twin) (call : Call) where
+  answer_alike : (key other : Option RegionKey) (answer : List ℕ) (after beyond : State) → option_map keyless_key key ≡ option_map keyless_key other → Twins after beyond
+      → TwinOutcomes (answer_by call.layer key call.input answer state after) (answer_by call.layer other call.input answer twin beyond)
+  answer_alike None None answer after beyond equal alike = outcome_of (reply.Called answer) after beyond alike
+  answer_alike None (Some other) answer after beyond equal alike = absurd (grind (arith, equal))
+  answer_alike (Some key) None answer after beyond equal alike = absurd (grind (arith, equal))
+  answer_alike (Some key) (Some other) answer after beyond equal alike =
+      let keyless : keyless_key key ≡ keyless_key other = same_Some (keyless_key key) (keyless_key other) equal in
+      let number : key.number ≡ other.number = ap (λ (k : RegionKey). k.number) keyless in
+      let uses : key.uses ≡ other.uses = ap (λ (k : RegionKey). k.uses) keyless in
+      let again : Reply = reply.Signed other.number other.uses (statement_format.spelling (call_statement_of twin other call.input answer)) in
+      let with_uses : State → ℕ → State = λ s n. with_region s call.layer (record (region_of s call.layer) { keys = with_use n (region_of s call.layer).keys }) in
+      ap {B = Outcome} (λ (r : Reply). (r, keyless_state (with_uses after key.number))) (call_statements_alike state twin same key other call.input answer number uses)
+      ∙ ap {B = Outcome} (λ (s : State). (keyless_reply again, s)) (used_alike after beyond alike call.layer key.number ∙ ap (λ (n : ℕ). keyless_state (with_uses beyond n)) number)
+
+  act_alike-of : (key other : Option RegionKey) (answer : List ℕ) (after beyond : Option State) → option_map keyless_key key ≡ option_map keyless_key other
+      → option_map keyless_state after ≡ option_map keyless_state beyond
+      → TwinOutcomes (act_on call.layer key call.input answer state after) (act_on call.layer other call.input answer twin beyond)
+  act_alike-of key other answer None None equal alike = outcome_of (refusal_reply refusal.RunFailed) state twin same
+  act_alike-of key other answer None (Some beyond) equal alike = absurd (grind (arith, alike))
+  act_alike-of key other answer (Some after) None equal alike = absurd (grind (arith, alike))
+  act_alike-of key other answer (Some after) (Some beyond) equal alike =
+      answer_alike key other answer after beyond equal (same_Some (keyless_state after) (keyless_state beyond) alike)
+
+  -- an outcome of the twin that is like this one
+  abbrev pub Alike : (Outcome → Type 0) → Outcome → Type 0
+  Alike Comes outcome = (second : Outcome) × Comes second × TwinOutcomes outcome second
+
+  refused_alike : (why : Refusal) (outcome : Outcome) → outcome ≡ (refusal_reply why, state) → Alike (λ second. second ≡ (refusal_reply why, twin)) outcome
+  refused_alike why outcome is = ((refusal_reply why, twin), refl, ap keyless_outcome is ∙ outcome_of (refusal_reply why) state twin same)
+
+  ends_alike : (key other : Option RegionKey) → option_map keyless_key key ≡ option_map keyless_key other → (ending : AppEnd) (outcome : Outcome)
+      → EndsIn state call.layer key call.input ending outcome → Alike (EndsIn twin call.layer other call.input ending) outcome
+  ends_alike key other equal (end.Halted steps output) outcome (does_act action spelled is) = (
+    act_on call.layer other call.input action.answer twin (after_demands call.layer action.demands twin),
+    does_act action spelled refl,
+    ap keyless_outcome is
+        ∙ act_alike-of key other action.answer (after_demands call.layer action.demands state) (after_demands call.layer action.demands twin) equal (demands_alike call.layer action.demands state twin same),
+  )
+  ends_alike key other equal (end.Halted steps output) outcome (asks_nothing none is) =
+      let refused = refused_alike refusal.RunFailed outcome is in
+      (refused.0, asks_nothing none refused.1, refused.2)
+  ends_alike key other equal (end.Trap cause place output) outcome is = refused_alike refusal.RunFailed outcome is
+  ends_alike key other equal (end.OutOfSteps output) outcome is = refused_alike refusal.RunFailed outcome is
+
+  -- what code sees has no key
+  sees_alike : readable_secrets state.layers call.layer state.two state.three ≡ readable_secrets twin.layers call.layer twin.two twin.three
+  sees_alike =
+      let sees : State → ℕ → Option (List Secret) = λ s. readable_secrets s.layers call.layer s.two s.three in
+      fun_ext (λ region. refl) ∙ ap sees same ∙ fun_ext (λ region. refl)
+
+  -- both calls are refused a key for the same reason, or both have one or none
+  data TwinKeys : Result (Option RegionKey) Refusal → Result (Option RegionKey) Refusal → Type 0 where
+    both_refused : (why : Refusal) → TwinKeys (Err why) (Err why)
+    both_found : (key other : Option RegionKey) → option_map keyless_key key ≡ option_map keyless_key other → TwinKeys (Ok key) (Ok other)
+
+  usable_alike : (one other : Option RegionKey) → option_map keyless_key one ≡ option_map keyless_key other → TwinKeys (usable_key one) (usable_key other)
+  usable_alike None None equal = both_refused refusal.NoSuchKey
+  usable_alike None (Some other) equal = absurd (grind (arith, equal))
+  usable_alike (Some one) None equal = absurd (grind (arith, equal))
+  usable_alike (Some one) (Some other) equal =
+      let uses : one.uses ≡ other.uses = ap (λ (k : RegionKey). k.uses) (same_Some (keyless_key one) (keyless_key other) equal) in
+      subst (λ (b : Bool). TwinKeys (usable_key (Some one)) (if b then Err refusal.KeySpent else Ok (Some other))) (ap (nat_le 32) uses) (by (nat_le 32 one.uses))
+    where
+      by : (b : Bool) → TwinKeys (if b then Err refusal.KeySpent else Ok (Some one)) (if b then Err refusal.KeySpent else Ok (Some other))
+      by true = both_refused refusal.KeySpent
+      by false = both_found (Some one) (Some other) equal
+
+  key_alike : (asked : Option ℕ) → TwinKeys (key_for asked (region_of state call.layer)) (key_for asked (region_of twin call.layer))
+  key_alike None = both_found None None refl
+  key_alike (Some number) =
+      let region : Region = region_of state call.layer in
+      let beside : Region = region_of twin call.layer in
+      usable_alike (find (has_number number) region.keys) (find (has_number number) beside.keys)
+      (sym (found_kept number region.keys) ∙ ap (λ (r : Region). find (has_number number) r.keys) (same_region state twin call.layer same) ∙ found_kept number beside.keys)
+
+  keyed_alike : (code : List ℕ) (one other : Result (Option RegionKey) Refusal) → TwinKeys one other → (outcome : Outcome) → WithKey state call code one outcome
+      → Alike (WithKey twin call code other) outcome
+  keyed_alike code (Err why) (Err other) (both_refused reason) outcome is = refused_alike reason outcome is
+  keyed_alike code (Ok key) (Ok other) (both_found first second equal) outcome is =
+      let ends = ends_alike first second equal is.ending outcome is.ends in (
+        ends.0,
+        record { ending = is.ending; run = subst (λ (seen : ℕ → Option (List Secret)). AppRun code call.input seen CALL_STEPS is.ending) sees_alike is.run; ends = ends.1 },
+        ends.2,
+      )
+  keyed_alike code (Err why) (Ok other) pair outcome is = elim pair [ ]
+  keyed_alike code (Ok key) (Err other) pair outcome is = elim pair [ ]
+
+  coded_alike : (code : Option (List ℕ)) (outcome : Outcome) → WithCode state call code outcome → Alike (WithCode twin call code) outcome
+  coded_alike None outcome is = refused_alike refusal.WrongCode outcome is
+  coded_alike (Some code) outcome (inl is) =
+      let refused = refused_alike refusal.WrongCode outcome is.1 in
+      (refused.0, inl (is.0, refused.1), refused.2)
+  coded_alike (Some code) outcome (inr is) =
+      let keyed = keyed_alike code _ _ (key_alike call.key) outcome is.1 in
+      (keyed.0, inr (is.0, keyed.1), keyed.2)
+
+  pub on_layer_alike : (level : ℕ) (outcome : Outcome) → OnLayer level call state outcome → Alike (OnLayer level call twin) outcome
+  on_layer_alike level outcome (inl is) =
+      let refused = refused_alike refusal.WrongLayer outcome is.1 in
+      let barred = ap (λ (l : Layers). nat_lt call.layer level || not (is_runnable l call.layer)) (same_layers state twin same) in
+      (refused.0, inl (sym barred ∙ is.0, refused.1), refused.2)
+  on_layer_alike level outcome (inr is) =
+      let barred = ap (λ (l : Layers). nat_lt call.layer level || not (is_runnable l call.layer)) (same_layers state twin same) in
+      let codes : code_in state.codes call.layer ≡ code_in twin.codes call.layer = ap (λ (s : State). code_in s.codes call.layer) same in
+      let coded = coded_alike (code_in state.codes call.layer) outcome is.1 in
+      (coded.0, inr (sym barred ∙ is.0, subst (λ (code : Option (List ℕ)). WithCode twin call code coded.0) codes coded.1), coded.2)

@@ -13,6 +13,7 @@ use Rattle.mb_model.specs.declared.order.KeyKind.{KeyKind}
 use Rattle.mb_model.specs.declared.order.Order.{Order}
 use Rattle.mb_model.specs.declared.region.Region.{Region}
 use Rattle.mb_model.specs.declared.region.RegionKey.{RegionKey}
+use Rattle.mb_model.specs.declared.region.Secret.{Secret}
 use Rattle.mb_model.specs.declared.state.State.{State}
 use Rattle.mb_model.specs.machine.LayerEvents.{has_number, with_use}
 use Rattle.mb_model.specs.owners.Log.{entries_of, keys_in, keys_made_by}
@@ -23,7 +24,8 @@ use Rattle.mb_model.specs.owners.Regions.{empty_region, is_epoch, with_key}
 use Rattle.mb_model.specs.owners.Rules.{admits}
 use Rattle.mb_model.specs.machine.Runs.{BeginsWith}
 use Rattle.mb_model_runs.proofs.GrowthLemmas.{obeyed_begins}
-use Rattle.mb_model_runs.proofs.KeptByRuns.{IsKept, run_kept}
+use Rattle.mb_model_lemmas.proofs.DemandLemmas.{with_secrets}
+use Rattle.mb_model_runs.proofs.KeptByRuns.{with_one_use, IsKept, run_kept}
 use Rattle.mb_model_histories.specs.Histories.{ComesAfter, in_this_run, in_a_later_run}
 use Rattle.mb_model_histories.specs.NoiseLaws.{WasThere, OldKeysStay}
 
@@ -166,26 +168,6 @@ keeps_dead : (o : Option State) → KeepsKeys o None
 keeps_dead None = tt
 keeps_dead (Some state) = tt
 
-keys_kept : IsKept KeepsKeys
-unfolding made_in
-keys_kept = record {
-  same = keeps_same;
-  dies = keeps_dead;
-  secrets = λ state layer secrets. record {
-    counted = omega arith;
-    has = changed_there (made_in state) state.two.keys state.three.keys (λ region. record region { secrets = secrets }) (λ keys region all. all) state _ layer (own_keys state) refl refl;
-  };
-  used = λ state layer number. record {
-    counted = omega arith;
-    has = changed_there (made_in state) state.two.keys state.three.keys (λ region. record region { keys = with_use number region.keys })
-        (λ keys region all. used_there (made_in state) keys number region.keys all) state _ layer (own_keys state) refl refl;
-  };
-  order = λ state order draw. record {
-    counted = made_grows state.log (state_after_order state order draw).log (obeyed_begins state order draw);
-    has = order_there (made_in state) state.two.keys state.three.keys state order draw (omega arith) (own_keys state);
-  };
-}
-
 -- keys that were kept twice
 kept_on : (made later_made : ℕ) (keys between list : List RegionKey) → made ≤ later_made → AreOldOrNew made keys between → AreOldOrNew later_made between list → AreOldOrNew made keys list
 kept_on made later_made keys between list grown first second =
@@ -207,6 +189,37 @@ keeps_on (Some sooner) (Some between) (Some later) first second = record {
   has = record {
     of_two = kept_on (made_in sooner) (made_in between) sooner.two.keys between.two.keys later.two.keys first.counted first.has.of_two second.has.of_two;
     of_three = kept_on (made_in sooner) (made_in between) sooner.three.keys between.three.keys later.three.keys first.counted first.has.of_three second.has.of_three;
+  };
+}
+
+secrets_there : (state : State) (layer : ℕ) (secrets : List Secret) → Kept state (with_secrets state layer secrets)
+unfolding made_in
+secrets_there state layer secrets = record {
+  counted = omega arith;
+  has = changed_there (made_in state) state.two.keys state.three.keys (λ region. record region { secrets = secrets }) (λ keys region all. all) state _ layer (own_keys state) refl refl;
+}
+
+use_there : (state : State) (layer number : ℕ) → Kept state (with_one_use state layer number)
+unfolding made_in
+use_there state layer number = record {
+  counted = omega arith;
+  has = changed_there (made_in state) state.two.keys state.three.keys (λ region. record region { keys = with_use number region.keys })
+      (λ keys region all. used_there (made_in state) keys number region.keys all) state _ layer (own_keys state) refl refl;
+}
+
+keys_kept : IsKept KeepsKeys
+unfolding made_in
+keys_kept = record {
+  same = keeps_same;
+  dies = keeps_dead;
+  secrets = secrets_there;
+  used = use_there;
+  called = λ state layer secrets number.
+      keeps_on (Some state) (Some (with_secrets state layer secrets)) (Some (with_one_use (with_secrets state layer secrets) layer number))
+      (secrets_there state layer secrets) (use_there (with_secrets state layer secrets) layer number);
+  order = λ state order draw. record {
+    counted = made_grows state.log (state_after_order state order draw).log (obeyed_begins state order draw);
+    has = order_there (made_in state) state.two.keys state.three.keys state order draw (omega arith) (own_keys state);
   };
 }
 

@@ -9,11 +9,11 @@ use Rattle.mb_model.specs.declared.event.Event.TheVariants as event
 use Rattle.mb_model.specs.declared.event.Tear.{Tear}
 use Rattle.mb_model.specs.declared.region.Region.{Region}
 use Rattle.mb_model.specs.declared.reply.Refusal.{Refusal}
-use Rattle.mb_model.specs.declared.reply.Refusal.TheVariants.{WrongLayer}
+use Rattle.mb_model.specs.declared.reply.Refusal.TheVariants.{WrongLayer, WrongCode}
 use Rattle.mb_model.specs.declared.reply.Reply.{Reply}
 use Rattle.mb_model.specs.declared.reply.Reply.TheVariants as reply
 use Rattle.mb_model.specs.declared.state.State.{State}
-use Rattle.mb_model.specs.machine.LayerEvents.{Outcome, with_secret, put_event}
+use Rattle.mb_model.specs.machine.LayerEvents.{Outcome, code_in, takes_calls, with_secret, put_event}
 use Rattle.mb_model.specs.machine.Machine.{Phase, ratchet, World, Told, opening_world, status_event, running_state_in, Machine, LosesPower, may_be_cut, Step, machine_step, lacks_memory, loses_power, Run}
 use Rattle.mb_model.specs.owners.Layers.{is_runnable}
 use Rattle.mb_model.specs.machine.Refusals.{refusal_reply}
@@ -50,6 +50,7 @@ same_event (event.Put layer name value) = refl
 same_event (event.Get layer name) = refl
 same_event (event.Drop layer name) = refl
 same_event (event.Sign layer key message) = refl
+same_event (event.Call layer key input) = refl
 
 agrees_unarmed : (phase : Phase) (this : Event) → arms_power_loss this ≡ false → Agrees same_region same_value never phase this
 agrees_unarmed phase event.Boot free = tt
@@ -63,6 +64,7 @@ agrees_unarmed phase (event.Put layer name value) free = λ level at. inr (λ st
 agrees_unarmed phase (event.Get layer name) free = λ level at. inr (λ state. refl)
 agrees_unarmed phase (event.Drop layer name) free = λ level at. inr (λ state. refl)
 agrees_unarmed phase (event.Sign layer key message) free = λ level at. inr (λ state. refl)
+agrees_unarmed phase (event.Call layer key input) free = λ level at. inr (λ state outcome comes. comes)
 
 machine_unarmed : (world : World) (this : Event) (answer : Reply) (next : World) → arms_power_loss this ≡ false → Machine world this answer next
     → Machine (unarmed_world world) this answer (unarmed_world next)
@@ -95,6 +97,7 @@ arms_only world next (event.Put layer name value) answer e x = absurd (grind (ar
 arms_only world next (event.Get layer name) answer e x = absurd (grind (arith, e))
 arms_only world next (event.Drop layer name) answer e x = absurd (grind (arith, e))
 arms_only world next (event.Sign layer key message) answer e x = absurd (grind (arith, e))
+arms_only world next (event.Call layer key input) answer e x = absurd (grind (arith, e))
 
 machine_smooth : (world : World) (this : Answered) (next : World) → Machine world this.event this.reply next → Smooths world this next
 machine_smooth world this next x = by (arms_power_loss this.event) refl
@@ -230,21 +233,22 @@ one_choice_a_cut world next this are (loses_power p) =
 
 -- ---- both are left
 
-put_in_empty : (runs : Bool) (state : State) (name value : List ℕ) → runs ≡ true
-    → (if not runs then (refusal_reply WrongLayer, record state { two = empty_region }) else put_event 2 name value (record state { two = empty_region }))
-    ≡ put_event 2 name value (record state { two = empty_region })
-put_in_empty true state name value is = refl
-put_in_empty false state name value is = absurd (grind (arith, is))
+pub put_in_empty : (runs taken : Bool) (state : State) (name value : List ℕ) → runs ≡ true → taken ≡ false
+    → let empty : State = record state { two = empty_region } in
+    (if not runs then (refusal_reply WrongLayer, empty) else if taken then (refusal_reply WrongCode, empty) else put_event 2 name value empty) ≡ put_event 2 name value empty
+put_in_empty true false state name value is unsealed = refl
+put_in_empty true true state name value is unsealed = absurd (grind (arith, unsealed))
+put_in_empty false taken state name value is unsealed = absurd (grind (arith, is))
 
 pub either_is_left : EitherIsLeft
 unfolding put_event with_secret
-either_is_left state name value runs =
+either_is_left state name value runs unsealed =
     let before : State = record state { two = empty_region } in
     let world : World = record { state = Some before; phase = ratchet 1; armed = true } in
     let after : State = (put_event 2 name value before).1 in
     let whole : World = record world { state = Some after } in
     let machine : Machine world (event.Put 2 name value) reply.Kept whole =
-    ap {B = Told} (λ (outcome : Outcome). (outcome.0, record world { state = Some outcome.1 })) (sym (put_in_empty (is_runnable state.layers 2) state name value runs)) in (
+    ap {B = Told} (λ (outcome : Outcome). (outcome.0, record world { state = Some outcome.1 })) (sym (put_in_empty (is_runnable state.layers 2) (takes_calls (code_in state.codes 2)) state name value runs unsealed)) in (
       after,
       λ same. absurd (omega (arith, ap (λ (s : State). length s.two.secrets) same)),
       loses_power (record { told = reply.Kept; whole = whole; machine = machine; armed = refl; writes = refl; state = Some before; counts = inl refl; answered = refl; follows = refl }),

@@ -14,7 +14,7 @@ use Rattle.mb_model.specs.declared.reply.Refusal.{Refusal}
 use Rattle.mb_model.specs.declared.reply.Reply.TheVariants as reply
 use Rattle.mb_model.specs.declared.state.State.{State}
 use Rattle.mb_model.specs.owners.Layers.{layer_without_owner, unowned_layers, is_runnable}
-use Rattle.mb_model.specs.machine.LayerEvents.{Outcome, has_name, value_reply, get_event}
+use Rattle.mb_model.specs.machine.LayerEvents.{Outcome, code_in, takes_calls, has_name, value_reply, get_event}
 use Rattle.mb_model.specs.owners.Log.{entries_of, layers_of}
 use Rattle.mb_model.specs.machine.Machine.{ratchet, World, Told, running_state_in, region_event, Step, machine_step, lacks_memory, loses_power}
 use Rattle.mb_model.specs.owners.Regions.{empty_region, region_of, AdmittedSince}
@@ -30,11 +30,13 @@ value_found : (found : Option Secret) (value : List ℕ) → value_reply found �
 value_found None value e = absurd (grind (arith, e))
 value_found (Some secret) value e = (secret, refl, cc)
 
-not_refused : (past runs : Bool) (n : ℕ) (value : List ℕ) (x : Outcome) (state : State)
-    → (if past || not runs then (reply.Refused n, state) else x).0 ≡ reply.Value value → (past ≡ false) × (runs ≡ true) × (x.0 ≡ reply.Value value)
-not_refused true runs n value x state e = absurd (grind (arith, e))
-not_refused false true n value x state e = (refl, refl, e)
-not_refused false false n value x state e = absurd (grind (arith, e))
+not_refused : (past runs taken : Bool) (n m : ℕ) (value : List ℕ) (x : Outcome) (state : State)
+    → (if past || not runs then (reply.Refused n, state) else if taken then (reply.Refused m, state) else x).0 ≡ reply.Value value
+    → (past ≡ false) × (runs ≡ true) × (x.0 ≡ reply.Value value)
+not_refused true runs taken n m value x state e = absurd (grind (arith, e))
+not_refused false true true n m value x state e = absurd (grind (arith, e))
+not_refused false true false n m value x state e = (refl, refl, e)
+not_refused false false taken n m value x state e = absurd (grind (arith, e))
 
 region_reads : (here : World) (layer : ℕ) (name value : List ℕ) (on : Result (ℕ × State) Refusal) (next : World) → Valid here.state → running_state_in here ≡ on
     → ◌≡◌ {A = Told} (reply.Value value, next) (region_event here layer (get_event layer name) on) → ReadsSecret here layer name value
@@ -44,7 +46,7 @@ region_reads here layer name value (Err refusal) next valid is e =
     absurd (grind (arith, clash))
 region_reads here layer name value (Ok on) next valid is e =
     let was : here.state ≡ Some on.1 = awake_state here.phase here.state on is in
-    let parts = not_refused (nat_lt layer on.0) (is_runnable on.1.layers layer) _ value (get_event layer name on.1) on.1 (sym (ap (λ (t : Told). t.0) e)) in
+    let parts = not_refused (nat_lt layer on.0) (is_runnable on.1.layers layer) (takes_calls (code_in on.1.codes layer)) _ _ value (get_event layer name on.1) on.1 (sym (ap (λ (t : Told). t.0) e)) in
     let found = value_found (find (has_name name) (region_of on.1 layer).secrets) value parts.2 in
     let at = found_is (has_name name) (region_of on.1 layer).secrets found.0 found.1 in
     record {

@@ -9,43 +9,24 @@ use Rattle.mb_model.specs.declared.order.Order.{Order}
 use Rattle.mb_model.specs.declared.region.Region.{Region}
 use Rattle.mb_model.specs.declared.region.RegionKey.{RegionKey}
 use Rattle.mb_model.specs.declared.reply.Refusal.{Refusal}
-use Rattle.mb_model.specs.declared.reply.Refusal.TheVariants.{WrongLayer}
+use Rattle.mb_model.specs.declared.reply.Refusal.TheVariants.{WrongLayer, WrongCode}
 use Rattle.mb_model.specs.declared.reply.Reply.{Reply}
 use Rattle.mb_model.specs.declared.state.State.{State}
-use Rattle.mb_model.specs.machine.LayerEvents.{Outcome, on_region, has_name, has_number, put_event, get_event, drop_event, sign_with, sign_event}
+use Rattle.mb_model.specs.machine.LayerEvents.{Outcome, code_in, takes_calls, on_region, has_name, has_number, put_event, get_event, drop_event, sign_with, sign_event}
 use Rattle.mb_model.specs.owners.Layers.{is_runnable}
-use Rattle.mb_model.specs.machine.Machine.{off, ratchet, World, Told, boot_event, running_state_in, status_event, go_event, region_event, CommandStep, Machine, Step, machine_step, lacks_memory, loses_power}
+use Rattle.mb_model.specs.machine.Machine.{off, ratchet, World, Told, boot_event, running_state_in, status_event, go_event, region_event, CommandStep, CallTold, Machine, Step, machine_step, lacks_memory, loses_power}
 use Rattle.mb_model.specs.machine.OrderStep.{OrderStep, spells_none, fails_check, is_obeyed}
 use Rattle.mb_model.specs.machine.Refusals.{refusal_reply}
-use Rattle.mb_model.specs.owners.Regions.{empty_region, region_of, with_region}
+use Rattle.mb_model.specs.owners.Regions.{region_of, with_region}
+use Rattle.mb_model.specs.machine.Calls.{Call, answer_by}
+use Rattle.mb_model_lemmas.proofs.CallLemmas.{IsAnswered, IsRefusedCall, AnswersAt, on_layer_comes}
+use Rattle.mb_model_lemmas.proofs.DemandLemmas.{other_stays, demands_spare}
 use Rattle.mb_model_lemmas.proofs.RefusalLemmas.{awake_state}
 use Rattle.mb_model_lemmas.proofs.Splits.{none_is_some}
 use Rattle.mb_model_memory.proofs.StorableSteps.{booted_state, status_state, gone_state}
 use Rattle.mb_model_histories.specs.ObeyedOrders.{ObeysAt, layer_asked, ActsOnRegion}
 use Rattle.mb_model_histories.specs.OwnerLaws.{RegionsChangeByTheirLayer}
 use Rattle.mb_model_histories.proofs.StepLemmas.{awake_phase, obeyed_there}
-
--- ---- one region replaced
-
--- the regions by number, where two and three are these
-numbered : (at_two at_three : Bool) (two three : Region) → Region
-numbered at_two at_three two three = if at_two then two else if at_three then three else empty_region
-
--- another layer's region stays
-apart : (here_two here_three there_two there_three : Bool) (two three new : Region) → (here_two ≡ true → there_two ≡ false) → (here_three ≡ true → there_three ≡ false)
-    → numbered here_two here_three (if there_two then new else two) (if there_three then new else three) ≡ numbered here_two here_three two three
-unfolding numbered
-apart true here_three there_two there_three two three new not_two not_three = ap (λ b. if b then new else two) (not_two refl)
-apart false true there_two there_three two three new not_two not_three = ap (λ b. if b then new else three) (not_three refl)
-apart false false there_two there_three two three new not_two not_three = refl
-
-differs : (layer other n : ℕ) → layer ≢ other → (layer == n) ≡ true → (other == n) ≡ false
-differs layer other n apart is = grind (arith, apart, is)
-
-other_stays : (state : State) (layer other : ℕ) (new : Region) → layer ≢ other → region_of (with_region state other new) layer ≡ region_of state layer
-unfolding numbered
-other_stays state layer other new differ =
-    apart (layer == 2) (layer == 3) (other == 2) (other == 3) state.two state.three new (differs layer other 2 differ) (differs layer other 3 differ)
 
 -- ---- what layers do
 
@@ -107,13 +88,15 @@ same_or_not layer other = (elim (layer == other) as (λ b. (layer == other) ≡ 
 ]) refl
 
 -- where the event may be answered, another layer's region stays
-answered : (here : World) (this : Event) (layer other : ℕ) (on : ℕ × State) (past runs : Bool) (does : State → Outcome) → layer_asked this ≡ Some other → running_state_in here ≡ Ok on
+answered : (here : World) (this : Event) (layer other : ℕ) (on : ℕ × State) (past runs taken : Bool) (does : State → Outcome) → layer_asked this ≡ Some other → running_state_in here ≡ Ok on
     → nat_lt other on.0 ≡ past → is_runnable on.1.layers other ≡ runs → Replaces other on.1 (does on.1).1
-    → (region_of (if past || not runs then (refusal_reply WrongLayer, on.1) else does on.1).1 layer ≡ region_of on.1 layer) ⊎ ActsOnRegion here this layer
-answered here this layer other on true runs does asked is is_past is_runs replaces = inl refl
-answered here this layer other on false false does asked is is_past is_runs replaces = inl refl
-answered here this layer other on false true does asked is is_past is_runs (inl same) = inl (ap (λ (s : State). region_of s layer) same)
-answered here this layer other on false true does asked is is_past is_runs (inr (new, same)) =
+    → (region_of (if past || not runs then (refusal_reply WrongLayer, on.1) else if taken then (refusal_reply WrongCode, on.1) else does on.1).1 layer ≡ region_of on.1 layer)
+    ⊎ ActsOnRegion here this layer
+answered here this layer other on true runs taken does asked is is_past is_runs replaces = inl refl
+answered here this layer other on false false taken does asked is is_past is_runs replaces = inl refl
+answered here this layer other on false true true does asked is is_past is_runs replaces = inl refl
+answered here this layer other on false true false does asked is is_past is_runs (inl same) = inl (ap (λ (s : State). region_of s layer) same)
+answered here this layer other on false true false does asked is is_past is_runs (inr (new, same)) =
     elim (same_or_not layer other) [
       | inl equal ↦ inr (subst (ActsOnRegion here this) (sym equal) (acts here this other on false true asked is is_past is_runs refl refl))
       | inr differ ↦ inl (ap (λ (s : State). region_of s layer) same ∙ other_stays on.1 layer other new differ)
@@ -127,18 +110,44 @@ region_regional here this layer other does (Ok on) asked is each = λ before now
     let last : (on_region on.0 other does on.1).1 ≡ now = same_Some (on_region on.0 other does on.1).1 now now_is in
     subst (λ (s : State). (region_of now layer ≡ region_of s layer) ⊎ ActsOnRegion here this layer) one
     (subst (λ (s : State). (region_of s layer ≡ region_of on.1 layer) ⊎ ActsOnRegion here this layer) last
-    (answered here this layer other on (nat_lt other on.0) (is_runnable on.1.layers other) does asked is refl refl (each on.1)))
+    (answered here this layer other on (nat_lt other on.0) (is_runnable on.1.layers other) (takes_calls (code_in on.1.codes other)) does asked is refl refl (each on.1)))
 
 -- what leaves the state, leaves each region
 quiet_state : (here : World) (other : ℕ) (does : State → Outcome) (on : Result (ℕ × State) Refusal) → running_state_in here ≡ on → ((state : State) → (does state).1 ≡ state)
     → (region_event here other does on).1.state ≡ here.state
 quiet_state here other does (Err refusal) is each = refl
 quiet_state here other does (Ok on) is each =
-    ap Some (quiet (nat_lt other on.0 || not (is_runnable on.1.layers other))) ∙ sym (awake_state here.phase here.state on is)
+    ap Some (quiet (nat_lt other on.0 || not (is_runnable on.1.layers other)) (takes_calls (code_in on.1.codes other))) ∙ sym (awake_state here.phase here.state on is)
   where
-    quiet : (b : Bool) → (if b then (refusal_reply WrongLayer, on.1) else does on.1).1 ≡ on.1
-    quiet true = refl
-    quiet false = each on.1
+    quiet : (b c : Bool) → (if b then (refusal_reply WrongLayer, on.1) else if c then (refusal_reply WrongCode, on.1) else does on.1).1 ≡ on.1
+    quiet true c = refl
+    quiet false true = refl
+    quiet false false = each on.1
+
+-- a call that is answered leaves the region of each other layer
+pub answer_spares : (call : Call) (state : State) (outcome : Outcome) → IsAnswered state call outcome → (layer : ℕ) → layer ≢ call.layer → region_of outcome.1 layer ≡ region_of state layer
+answer_spares call state outcome is layer differ =
+    ap (λ (o : Outcome). region_of o.1 layer) is.comes ∙ by is.key ∙ (demands_spare call.layer is.action.demands state is.done is.met).others layer differ
+  where
+    by : (key : Option RegionKey) → region_of (answer_by call.layer key call.input is.action.answer state is.done).1 layer ≡ region_of is.done layer
+    by None = refl
+    by (Some key) = other_stays is.done layer call.layer _ differ
+
+call_regional : (here : World) (this : Event) (layer : ℕ) (call : Call) (on : Result (ℕ × State) Refusal) (answer : Reply) (next : World) → layer_asked this ≡ Some call.layer
+    → running_state_in here ≡ on → CallTold here call on answer next → Regional here this layer next.state
+call_regional here this layer call (Err refusal) answer next asked is x = regional_same here this layer next.state (ap (λ (w : World). w.state) x.1)
+call_regional here this layer call (Ok on) answer next asked is (outcome, at, told, follows) = λ before now was now_is.
+    let one : on.1 ≡ before = same_Some on.1 before (sym (awake_state here.phase here.state on is) ∙ was) in
+    let last : outcome.1 ≡ now = same_Some outcome.1 now (sym (ap (λ (w : World). w.state) follows) ∙ now_is) in
+    subst (λ (s : State). (region_of now layer ≡ region_of s layer) ⊎ ActsOnRegion here this layer) one
+    (subst (λ (s : State). (region_of s layer ≡ region_of on.1 layer) ⊎ ActsOnRegion here this layer) last (by (on_layer_comes on.0 call on.1 outcome at)))
+  where
+    by : AnswersAt on.0 call on.1 outcome ⊎ IsRefusedCall on.1 outcome → (region_of outcome.1 layer ≡ region_of on.1 layer) ⊎ ActsOnRegion here this layer
+    by (inl answers) = elim (same_or_not layer call.layer) [
+      | inl equal ↦ inr (subst (ActsOnRegion here this) (sym equal) (acts here this call.layer on false true asked is answers.in_control answers.runs refl refl))
+      | inr differ ↦ inl (answer_spares call on.1 outcome answers.is layer differ)
+    ]
+    by (inr refused) = inl (ap (λ (s : State). region_of s layer) refused.1)
 
 -- what a step leaves of a region
 abbrev Leaves : World → Event → ℕ → World → Type 0
@@ -203,6 +212,7 @@ machine_leaves here (event.Drop asked name) answer next layer x =
 machine_leaves here (event.Sign asked key message) answer next layer x =
     told_regional here _ layer answer next (region_event here asked (sign_event asked key message) (running_state_in here)) x
     (region_regional here (event.Sign asked key message) layer asked (sign_event asked key message) (running_state_in here) refl refl (sign_replaces asked key message))
+machine_leaves here (event.Call asked key input) answer next layer x = inl (call_regional here (event.Call asked key input) layer _ (running_state_in here) answer next refl refl x)
 
 cut_leaves : (here : World) (this : Event) (whole next : World) (layer : ℕ) → next.state ≡ whole.state → Leaves here this layer whole → Leaves here this layer next
 cut_leaves here this whole next layer same (inl regional) = inl (subst (Regional here this layer) (sym same) regional)

@@ -1,6 +1,7 @@
 -- What is out of sight: the region beneath layer 3, and secrets that are not asked for.
 use Rattle.std.proofs.Common.{◌≡◌, ℕ, ◌+◌, List, [], inl, inr, length, Option, None, Some, Bool, true, false, refl, sym, ap, subst, ◌∙◌, arith, ◌∷◌}
-use Rattle.std.specs.Prelude.{◌⊎◌, ◌==◌, not, nat_lt, nat_le, ◌&&◌, ◌||◌, find, filter, Result, Ok, Err, if◌then◌else◌}
+use Rattle.std.proofs.Math.Path.{fun_ext}
+use Rattle.std.specs.Prelude.{◌≢◌, ◌≤◌, option_map, ◌⊎◌, ◌==◌, not, nat_lt, nat_le, ◌&&◌, ◌||◌, find, filter, Result, Ok, Err, if◌then◌else◌}
 use Rattle.std.specs.List.{list_any}
 use Rattle.std.proofs.lemmas.Option.{same_Some}
 use Rattle.mb_model.specs.declared.event.Event.{Event}
@@ -9,20 +10,29 @@ use Rattle.mb_model.specs.declared.region.Region.{Region}
 use Rattle.mb_model.specs.declared.region.RegionKey.{RegionKey}
 use Rattle.mb_model.specs.declared.region.Secret.{Secret}
 use Rattle.mb_model.specs.declared.reply.Refusal.{Refusal}
-use Rattle.mb_model.specs.declared.reply.Refusal.TheVariants.{RegionFull, KeySpent, WrongPhase, WrongLayer}
+use Rattle.mb_model.specs.declared.reply.Refusal.TheVariants.{RegionFull, KeySpent, WrongPhase, WrongLayer, WrongCode}
 use Rattle.mb_model.specs.declared.reply.Reply.{Reply}
 use Rattle.mb_model.specs.declared.reply.Reply.TheVariants as reply
 use Rattle.mb_model.specs.declared.state.State.{State}
 use Rattle.mb_model.specs.records.ChainFormat.{statement_format}
-use Rattle.mb_model.specs.machine.LayerEvents.{Outcome, has_name, has_number, with_secret, with_use, value_reply, on_region, put_event, get_event, drop_event, sign_with, sign_event, statement_of}
-use Rattle.mb_model.specs.owners.Layers.{is_runnable}
+use Rattle.mb_model.specs.machine.LayerEvents.{Outcome, code_in, takes_calls, has_name, has_number, with_secret, with_use, value_reply, on_region, put_event, get_event, drop_event, sign_with, sign_event, statement_of}
+use Rattle.mb_model.specs.owners.Layers.{is_upper, is_runnable}
 use Rattle.mb_model.specs.owners.Log.{entries_of, number_of}
-use Rattle.mb_model.specs.machine.Machine.{Phase, off, dead, ratchet, World, Told, boot_event, running_state_in, status_event, go_event, region_event, CommandStep, Machine, Step, machine_step, lacks_memory, loses_power}
+use Rattle.mb_model.specs.machine.Machine.{Phase, off, dead, ratchet, World, Told, boot_event, running_state_in, status_event, go_event, region_event, CommandStep, CallTold, Machine, Step, machine_step, lacks_memory, loses_power}
 use Rattle.mb_model.specs.machine.Refusals.{refusal_reply}
 use Rattle.mb_model.specs.owners.Regions.{empty_region, region_of, with_region}
+use Rattle.mb_model.specs.declared.layer.Layers.{Layers}
+use Rattle.mb_model.specs.declared.limits.TheConstants.{CALL_STEPS}
+use Rattle.mb_model.specs.declared.running.AppEnd.{AppEnd}
+use Rattle.mb_model.specs.declared.running.AppEnd.TheVariants as end
+use Rattle.mb_model.specs.application.Runs.{AppRun, is_readable, readable_secrets}
+use Rattle.mb_model.specs.machine.Actions.{Demand, to_keep, to_drop}
+use Rattle.mb_model.specs.machine.Calls.{Call, refuses, key_for, demand_outcome, unless_refused, after_demands, call_statement_of, answer_by, act_on, Acts, does_act, asks_nothing, EndsIn, WithKey, WithCode}
+use Rattle.mb_model_lemmas.proofs.CallLemmas.{IsRefusedCall, AnswersAt, on_layer_comes}
 use Rattle.mb_model_lemmas.proofs.RefusalLemmas.{awake_state}
 use Rattle.mb_model_histories.specs.SightLaws.{without_region_two, WhatIsBeneathIsOutOfSight, OutOfSightInRuns, LayerTwoSeesItsRegion}
-use Rattle.mb_model_histories.proofs.ChangeLemmas.{Commutes, Agrees, with_value, step_seen, region_changed, put_changed}
+use Rattle.mb_model_histories.proofs.ChangeLemmas.{Commutes, CallCommutes, Agrees, with_value, step_seen, region_changed, put_changed}
+use Rattle.mb_model_histories.proofs.RegionEventLemmas.{answer_spares}
 use Rattle.mb_model_histories.proofs.StepLemmas.{awake_phase}
 
 -- ---- what layers do with a region that is changed
@@ -126,6 +136,143 @@ module _ (change : ℕ → Region → Region) (blank : (n : ℕ) → change n em
         ap {B = Outcome} (λ (r : Region). (value_reply (find (has_name name) r.secrets), changed state)) (here layer state)
         ∙ ap {B = Outcome} (λ (answer : Reply). (answer, changed state)) same
 
+-- a change that leaves each region is gentle
+pub same_gently : (change : Region → Region) → ((region : Region) → change region ≡ region) → IsGentle change (λ name value. value)
+same_gently change same = record {
+  any = λ region name. ap (λ (r : Region). list_any (has_name name) r.secrets) (same region);
+  count = λ region. ap (λ (r : Region). length r.secrets) (same region);
+  puts = λ region name given born.
+      let new : Secret = record { name = name; value = given; born = born } in
+      ap (λ (r : Region). record r { secrets = with_secret new r.secrets }) (same region) ∙ sym (same (record region { secrets = with_secret new region.secrets }));
+  drops = λ region name.
+      ap (λ (r : Region). record r { secrets = filter (λ secret. not (has_name name secret)) r.secrets }) (same region)
+      ∙ sym (same (record region { secrets = filter (λ secret. not (has_name name secret)) region.secrets }));
+  keys = λ region. ap (λ (r : Region). r.keys) (same region);
+  uses = λ region keys. ap (λ (r : Region). record r { keys = keys }) (same region) ∙ sym (same (record region { keys = keys }));
+}
+
+-- ---- calls, if what their code may read is not changed
+
+-- the change leaves the region of this layer, and of each layer above
+abbrev pub Untouched : (ℕ → Region → Region) → ℕ → Type 0
+Untouched change layer = (n : ℕ) (region : Region) → layer ≤ n → change n region ≡ region
+
+readable_parts : (upper below runs : Bool) → (upper && (below && runs)) ≡ true → (upper ≡ true) × (below ≡ true)
+readable_parts true true true e = (refl, refl)
+readable_parts true true false e = absurd (grind (arith, e))
+readable_parts true false runs e = absurd (grind (arith, e))
+readable_parts false below runs e = absurd (grind (arith, e))
+
+two_above : (layer region : ℕ) → nat_le layer region ≡ true → (region == 2) ≡ true → layer ≤ 2
+two_above layer region below is = grind (arith, below, is)
+
+three_above : (layer region : ℕ) → is_upper region ≡ true → nat_le layer region ≡ true → (region == 2) ≡ false → layer ≤ 3
+three_above layer region upper below is = grind (arith, upper, below, is)
+
+module _ (change : ℕ → Region → Region) (blank : (n : ℕ) → change n empty_region ≡ empty_region) (call : Call) (untouched : Untouched change call.layer) where
+  abbrev moved : State → State
+  moved state = changed change blank state
+
+  abbrev moved_outcome : Outcome → Outcome
+  moved_outcome outcome = outcome_changed change blank outcome
+
+  own : (region : Region) → change call.layer region ≡ region
+  own region = untouched call.layer region (omega arith)
+
+  own_gently : IsGentle (change call.layer) (λ name value. value)
+  own_gently = same_gently (change call.layer) own
+
+  own_region : (state : State) → region_of (moved state) call.layer ≡ region_of state call.layer
+  own_region state = here change blank call.layer state ∙ own (region_of state call.layer)
+
+  demand_seen : (demand : Demand) (state : State) → demand_outcome call.layer demand (moved state) ≡ moved_outcome (demand_outcome call.layer demand state)
+  demand_seen (to_keep name value) state = put_seen change blank call.layer (λ name value. value) own_gently state name value
+  demand_seen (to_drop name) state = drop_seen change blank call.layer (λ name value. value) own_gently state name
+
+  unless_seen : (b : Bool) (after : Option State) → (if b then None else option_map moved after) ≡ option_map moved (if b then None else after)
+  unless_seen true after = refl
+  unless_seen false after = refl
+
+  demands_seen : (demands : List Demand) (state : State) → after_demands call.layer demands (moved state) ≡ option_map moved (after_demands call.layer demands state)
+  unfolding after_demands
+  demands_seen [] state = refl
+  demands_seen (demand ∷ later) state =
+      let outcome : Outcome = demand_outcome call.layer demand state in
+      ap (λ (o : Outcome). unless_refused o (λ next. after_demands call.layer later next)) (demand_seen demand state)
+      ∙ ap (λ (after : Option State). if refuses outcome.0 then None else after) (demands_seen later outcome.1)
+      ∙ unless_seen (refuses outcome.0) (after_demands call.layer later outcome.1)
+
+  used_seen : (number : ℕ) (state : State)
+      → with_region (moved state) call.layer (record (region_of (moved state) call.layer) { keys = with_use number (region_of (moved state) call.layer).keys })
+      ≡ moved (with_region state call.layer (record (region_of state call.layer) { keys = with_use number (region_of state call.layer).keys }))
+  used_seen number state =
+      let used : Region → Region = λ region. record region { keys = with_use number region.keys } in
+      ap (λ (region : Region). with_region (moved state) call.layer (used region)) (own_region state)
+      ∙ ap (with_region (moved state) call.layer) (sym (own (used (region_of state call.layer))))
+      ∙ placed change blank call.layer (used (region_of state call.layer)) state
+
+  answer_seen : (key : Option RegionKey) (input answer : List ℕ) (before after : State)
+      → answer_by call.layer key input answer (moved before) (moved after) ≡ moved_outcome (answer_by call.layer key input answer before after)
+  unfolding call_statement_of
+  answer_seen None input answer before after = refl
+  answer_seen (Some key) input answer before after =
+      ap {B = Outcome} (λ (state : State). (reply.Signed key.number key.uses (statement_format.spelling (call_statement_of before key input answer)), state)) (used_seen key.number after)
+
+  act_seen : (key : Option RegionKey) (input answer : List ℕ) (state : State) (after : Option State)
+      → act_on call.layer key input answer (moved state) (option_map moved after) ≡ moved_outcome (act_on call.layer key input answer state after)
+  act_seen key input answer state None = refl
+  act_seen key input answer state (Some after) = answer_seen key input answer state after
+
+  acts_seen : (state : State) (key : Option RegionKey) (output : List ℕ) (outcome : Outcome) → Acts state call.layer key call.input output outcome
+      → Acts (moved state) call.layer key call.input output (moved_outcome outcome)
+  acts_seen state key output outcome (does_act action spelled is) =
+      does_act action spelled (ap moved_outcome is ∙ sym (act_seen key call.input action.answer state (after_demands call.layer action.demands state))
+      ∙ ap (act_on call.layer key call.input action.answer (moved state)) (sym (demands_seen action.demands state)))
+  acts_seen state key output outcome (asks_nothing none is) = asks_nothing none (ap moved_outcome is)
+
+  ends_seen : (state : State) (key : Option RegionKey) (ending : AppEnd) (outcome : Outcome) → EndsIn state call.layer key call.input ending outcome
+      → EndsIn (moved state) call.layer key call.input ending (moved_outcome outcome)
+  ends_seen state key (end.Halted steps output) outcome ends = acts_seen state key output outcome ends
+  ends_seen state key (end.Trap cause place output) outcome ends = ap moved_outcome ends
+  ends_seen state key (end.OutOfSteps output) outcome ends = ap moved_outcome ends
+
+  secrets_at : (layers : Layers) (two three : Region) (n : ℕ) (readable second : Bool) → is_readable layers call.layer n ≡ readable → (n == 2) ≡ second
+      → (if readable then Some (if second then (change 2 two).secrets else (change 3 three).secrets) else None)
+      ≡ (if readable then Some (if second then two.secrets else three.secrets) else None)
+  secrets_at layers two three n false second may is = refl
+  secrets_at layers two three n true true may is =
+      let parts = readable_parts (is_upper n) (nat_le call.layer n) (is_runnable layers n) may in
+      ap (λ (r : Region). Some r.secrets) (untouched 2 two (two_above call.layer n parts.1 is))
+  secrets_at layers two three n true false may is =
+      let parts = readable_parts (is_upper n) (nat_le call.layer n) (is_runnable layers n) may in
+      ap (λ (r : Region). Some r.secrets) (untouched 3 three (three_above call.layer n parts.0 parts.1 is))
+
+  secrets_seen : (layers : Layers) (two three : Region) → readable_secrets layers call.layer two three ≡ readable_secrets layers call.layer (change 2 two) (change 3 three)
+  secrets_seen layers two three = fun_ext (λ n. sym (secrets_at layers two three n (is_readable layers call.layer n) (n == 2) refl refl))
+
+  keyed_seen : (state : State) (code : List ℕ) (key : Result (Option RegionKey) Refusal) (outcome : Outcome) → WithKey state call code key outcome
+      → WithKey (moved state) call code key (moved_outcome outcome)
+  keyed_seen state code (Err refusal) outcome is = ap moved_outcome is
+  keyed_seen state code (Ok key) outcome is = record {
+    ending = is.ending;
+    run = subst (λ (seen : ℕ → Option (List Secret)). AppRun code call.input seen CALL_STEPS is.ending) (secrets_seen state.layers state.two state.three) is.run;
+    ends = ends_seen state key is.ending outcome is.ends;
+  }
+
+  coded_seen : (state : State) (code : Option (List ℕ)) (outcome : Outcome) → WithCode state call code outcome → WithCode (moved state) call code (moved_outcome outcome)
+  coded_seen state None outcome is = ap moved_outcome is
+  coded_seen state (Some code) outcome (inl is) = inl (is.0, ap moved_outcome is.1)
+  coded_seen state (Some code) outcome (inr is) =
+      inr (
+        is.0,
+        subst (λ (key : Result (Option RegionKey) Refusal). WithKey (moved state) call code key (moved_outcome outcome)) (sym (ap (key_for call.key) (own_region state)))
+            (keyed_seen state code (key_for call.key (region_of state call.layer)) outcome is.1),
+      )
+
+  pub call_seen : (state : State) (outcome : Outcome) → WithCode state call (code_in state.codes call.layer) outcome
+      → WithCode (moved state) call (code_in state.codes call.layer) (moved_outcome outcome)
+  call_seen state outcome is = coded_seen state (code_in state.codes call.layer) outcome is
+
 -- ---- the region beneath layer 3
 
 emptied : ℕ → Region → Region
@@ -163,20 +310,7 @@ same_region n region other = ap (λ (b : Bool). if b then empty_region else regi
 module _ (layer : ℕ) (other : (layer == 2) ≡ false) where
   emptied_gently : IsGentle (emptied layer) (same_value layer)
   unfolding same_value
-  emptied_gently =
-      let same : (r : Region) → emptied layer r ≡ r = λ r. same_region layer r other in
-      record {
-        any = λ region name. ap (λ (r : Region). list_any (has_name name) r.secrets) (same region);
-        count = λ region. ap (λ (r : Region). length r.secrets) (same region);
-        puts = λ region name given born.
-            let new : Secret = record { name = name; value = given; born = born } in
-            ap (λ (r : Region). record r { secrets = with_secret new r.secrets }) (same region) ∙ sym (same (record region { secrets = with_secret new region.secrets }));
-        drops = λ region name.
-            ap (λ (r : Region). record r { secrets = filter (λ secret. not (has_name name secret)) r.secrets }) (same region)
-            ∙ sym (same (record region { secrets = filter (λ secret. not (has_name name secret)) region.secrets }));
-        keys = λ region. ap (λ (r : Region). r.keys) (same region);
-        uses = λ region keys. ap (λ (r : Region). record r { keys = keys }) (same region) ∙ sym (same (record region { keys = keys }));
-      }
+  emptied_gently = same_gently (emptied layer) (λ region. same_region layer region other)
 
 -- what a layer does with a region, if none that runs is past it
 above_two : (phase : Phase) (layer : ℕ) (does again : State → Outcome) → phase ≡ ratchet 3
@@ -187,6 +321,20 @@ above_two phase layer does again at each level running = by (nat_lt layer 3) ref
     by : (b : Bool) → nat_lt layer 3 ≡ b → (nat_lt layer level ≡ true) ⊎ ((state : State) → again (changed emptied empty_blank state) ≡ outcome_changed emptied empty_blank (does state))
     by true is = inl (ap (nat_lt layer) (ap level_of (sym running ∙ at)) ∙ is)
     by false is = inr (each (not_two layer is))
+
+-- so does a call
+above_untouched : (layer : ℕ) → nat_lt layer 3 ≡ false → Untouched emptied layer
+above_untouched layer above n region more = same_region n region (grind (arith, above, more))
+
+call_above : (phase : Phase) (call : Call) → phase ≡ ratchet 3 → CallCommutes emptied same_value (λ b. b) phase call
+call_above phase call at level running = by (nat_lt call.layer 3) refl
+  where
+    by : (b : Bool) → nat_lt call.layer 3 ≡ b
+        → (nat_lt call.layer level ≡ true)
+        ⊎ ((state : State) (outcome : Outcome) → WithCode state call (code_in state.codes call.layer) outcome
+        → WithCode (changed emptied empty_blank state) call (code_in state.codes call.layer) (outcome_changed emptied empty_blank outcome))
+    by true is = inl (ap (nat_lt call.layer) (ap level_of (sym running ∙ at)) ∙ is)
+    by false is = inr (call_seen emptied empty_blank call (above_untouched call.layer is))
 
 agrees_above : (phase : Phase) (this : Event) → phase ≡ ratchet 3 → Agrees emptied same_value (λ b. b) phase this
 unfolding same_value
@@ -207,6 +355,7 @@ agrees_above phase (event.Drop layer name) at =
     above_two phase layer (drop_event layer name) (drop_event layer name) at (λ other state. drop_seen emptied empty_blank layer (same_value layer) (emptied_gently layer other) state name)
 agrees_above phase (event.Sign layer key message) at =
     above_two phase layer (sign_event layer key message) (sign_event layer key message) at (λ other state. sign_seen emptied empty_blank layer (same_value layer) (emptied_gently layer other) state key message)
+agrees_above phase (event.Call layer key input) at = call_above phase _ at
 
 beneath_seen : (world next : World) (this : Event) (answer : Reply) → world.phase ≡ ratchet 3 → Step world this answer next → Step (without_region_two world) this answer (without_region_two next)
 unfolding emptied
@@ -254,10 +403,12 @@ barred_two : (level layer : ℕ) (does : State → Outcome) (state : State) → 
     → (on_region level layer does state).1.two ≡ state.two
 barred_two level layer does state third each = by (nat_lt layer level) refl
   where
-    by : (b : Bool) → nat_lt layer level ≡ b → (if b || not (is_runnable state.layers layer) then (refusal_reply WrongLayer, state) else does state).1.two ≡ state.two
+    by : (b : Bool) → nat_lt layer level ≡ b
+        → (if b || not (is_runnable state.layers layer) then (refusal_reply WrongLayer, state) else if takes_calls (code_in state.codes layer) then (refusal_reply WrongCode, state) else does state).1.two ≡ state.two
     by true is = refl
-    by false is = either_two (not (is_runnable state.layers layer)) (refusal_reply WrongLayer, state) (does state) state.two refl
-        (each (not_two layer (ap (nat_lt layer) (sym third) ∙ is)))
+    by false is = either_two (not (is_runnable state.layers layer)) (refusal_reply WrongLayer, state) _ state.two refl
+        (either_two (takes_calls (code_in state.codes layer)) (refusal_reply WrongCode, state) (does state) state.two refl
+        (each (not_two layer (ap (nat_lt layer) (sym third) ∙ is))))
 
 module _ (world : World) (at : world.phase ≡ ratchet 3) where
   told_two : (answer : Reply) (next : World) (told : Told) → ◌≡◌ {A = Told} (answer, next) told → TwoStays world.state told.1.state → TwoStays world.state next.state
@@ -282,6 +433,21 @@ module _ (world : World) (at : world.phase ≡ ratchet 3) where
   command_two text draw (Err refusal) answer next is x = world_two next world x.1 (two_same world.state)
   command_two text draw (Ok on) answer next is (inl x) = absurd (omega (arith, x.0, on_third on is))
   command_two text draw (Ok on) answer next is (inr x) = world_two next world x.2 (two_same world.state)
+
+  not_below : (layer level : ℕ) → level ≡ 3 → nat_lt layer level ≡ false → 2 ≢ layer
+  not_below layer level third above is = grind (arith, third, above, is)
+
+  call_two : (call : Call) (on : Result (ℕ × State) Refusal) (answer : Reply) (next : World) → running_state_in world ≡ on
+      → CallTold world call on answer next → TwoStays world.state next.state
+  call_two call (Err refusal) answer next is x = world_two next world x.1 (two_same world.state)
+  call_two call (Ok on) answer next is (outcome, at, told, follows) = λ before after was becomes.
+      let from : before ≡ on.1 = same_Some before on.1 (sym was ∙ awake_state world.phase world.state on is) in
+      let to : after ≡ outcome.1 = same_Some after outcome.1 (sym becomes ∙ ap (λ (w : World). w.state) follows) in
+      ap (λ (s : State). s.two) to ∙ by (on_layer_comes on.0 call on.1 outcome at) ∙ sym (ap (λ (s : State). s.two) from)
+    where
+      by : AnswersAt on.0 call on.1 outcome ⊎ IsRefusedCall on.1 outcome → outcome.1.two ≡ on.1.two
+      by (inl answers) = answer_spares call on.1 outcome answers.is 2 (not_below call.layer on.0 (on_third on is) answers.in_control)
+      by (inr refused) = ap (λ (s : State). s.two) refused.1
 
   boot_two : (phase : Phase) (state : Option State) → TwoStays world.state (boot_event world phase state).1.state
   boot_two off (Some state) = two_same world.state
@@ -324,6 +490,7 @@ module _ (world : World) (at : world.phase ≡ ratchet 3) where
   machine_two (event.Sign layer key message) answer next x =
       told_two answer next (region_event world layer (sign_event layer key message) (running_state_in world)) x
       (region_two layer (sign_event layer key message) (running_state_in world) refl (λ other state. sign_two layer other state key message))
+  machine_two (event.Call layer key input) answer next x = call_two _ (running_state_in world) answer next refl x
 
   step_two : (this : Event) (answer : Reply) (next : World) → Step world this answer next → TwoStays world.state next.state
   step_two this answer next (machine_step x) = machine_two this answer next x
@@ -345,9 +512,9 @@ out_of_sight_in_runs world next (this ∷ rest) run third =
 -- ---- layer 2 sees its region
 
 -- what is answered to a `get` of region 2 with these secrets, while layer 2 is in control
-got : (runs : Bool) (state : State) (secrets : List Secret) (name : List ℕ) → Told
-got runs state secrets name =
-    let outcome : Outcome = if not runs then (refusal_reply WrongLayer, state) else (value_reply (find (has_name name) secrets), state) in
+got : (runs taken : Bool) (state : State) (secrets : List Secret) (name : List ℕ) → Told
+got runs taken state secrets name =
+    let outcome : Outcome = if not runs then (refusal_reply WrongLayer, state) else if taken then (refusal_reply WrongCode, state) else (value_reply (find (has_name name) secrets), state) in
     (outcome.0, record { state = Some outcome.1; phase = ratchet 2; armed = false })
 
 value_told : Option Secret → State → Told
@@ -355,8 +522,9 @@ value_told found state = (value_reply found, record { state = Some state; phase 
 
 pub layer_two_sees : LayerTwoSeesItsRegion
 unfolding get_event got value_told
-layer_two_sees state secret found runs =
-    let empty : State = record state { two = empty_region } in (
-      ap (λ (o : Option Secret). value_told o state) (sym found) ∙ ap (λ b. got b state state.two.secrets secret.name) (sym runs),
-      ap (λ b. got b empty [] secret.name) (sym runs),
+layer_two_sees state secret found runs unsealed =
+    let empty : State = record state { two = empty_region } in
+    let taken : Bool = takes_calls (code_in state.codes 2) in (
+      ap (λ (o : Option Secret). value_told o state) (sym found) ∙ ap (λ b. got true b state state.two.secrets secret.name) (sym unsealed) ∙ ap (λ b. got b taken state state.two.secrets secret.name) (sym runs),
+      ap (λ b. got true b empty [] secret.name) (sym unsealed) ∙ ap (λ b. got b taken empty [] secret.name) (sym runs),
     )

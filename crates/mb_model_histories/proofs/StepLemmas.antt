@@ -1,6 +1,6 @@
 -- What a step comes to: an order is obeyed, or all but the regions is kept and the answer is not `done`.
 use Rattle.std.proofs.Common.{◌≡◌, ℕ, ◌+◌, List, inl, inr, length, Option, None, Some, Bool, true, false, refl, sym, ap, ◌∙◌, subst, arith}
-use Rattle.std.specs.Prelude.{Result, Ok, Err, not, nat_lt, nat_le, ◌&&◌, ◌||◌, find, if◌then◌else◌}
+use Rattle.std.specs.Prelude.{◌⊎◌, Result, Ok, Err, not, nat_lt, nat_le, ◌&&◌, ◌||◌, find, if◌then◌else◌}
 use Rattle.std.specs.List.{list_any}
 use Rattle.mb_model.specs.declared.event.Event.{Event}
 use Rattle.mb_model.specs.declared.event.Event.TheVariants as event
@@ -11,15 +11,19 @@ use Rattle.mb_model.specs.declared.reply.Reply.{Reply}
 use Rattle.mb_model.specs.declared.reply.Reply.TheVariants as reply
 use Rattle.mb_model.specs.declared.reply.Refusal.{Refusal}
 use Rattle.mb_model.specs.declared.reply.Refusal.TheVariants as refused
-use Rattle.mb_model.specs.declared.reply.Refusal.TheVariants.{WrongPhase, WrongLayer, BadText}
+use Rattle.mb_model.specs.declared.reply.Refusal.TheVariants.{WrongPhase, WrongLayer, WrongCode, BadText}
 use Rattle.mb_model.specs.declared.state.State.{State}
 use Rattle.mb_model.specs.owners.Layers.{is_runnable}
-use Rattle.mb_model.specs.machine.LayerEvents.{Outcome, on_region, has_name, has_number, value_reply, put_event, get_event, drop_event, sign_with, sign_event}
+use Rattle.mb_model.specs.machine.LayerEvents.{Outcome, code_in, takes_calls, on_region, has_name, has_number, value_reply, put_event, get_event, drop_event, sign_with, sign_event}
 use Rattle.mb_model.specs.chains.Listing.{is_done}
-use Rattle.mb_model.specs.machine.Machine.{Phase, off, dead, ratchet, World, Told, boot_event, status_of, running_state, running_state_in, status_event, go_event, region_event, CommandStep, Machine, Step, machine_step, lacks_memory, loses_power}
+use Rattle.mb_model.specs.machine.Machine.{Phase, off, dead, ratchet, World, Told, boot_event, status_of, running_state, running_state_in, status_event, go_event, region_event, CommandStep, CallTold, Machine, Step, machine_step, lacks_memory, loses_power}
 use Rattle.mb_model.specs.machine.OrderStep.{OrderStep, spells_none, fails_check, is_obeyed}
 use Rattle.mb_model.specs.machine.Refusals.{refusal_reply}
 use Rattle.mb_model.specs.owners.Regions.{region_of}
+use Rattle.mb_model.specs.machine.Calls.{Call, answer_by}
+use Rattle.mb_model_lemmas.proofs.CallLemmas.{IsAnswered, IsRefusedCall, AnswersAt, on_layer_comes}
+use Rattle.mb_model_lemmas.proofs.DemandLemmas.{ChangesSecrets, demands_change}
+use Rattle.mb_model_runs.proofs.KeptByRuns.{with_one_use}
 use Rattle.mb_model_lemmas.proofs.RefusalLemmas.{awake_state}
 use Rattle.mb_model_histories.specs.ObeyedOrders.{ObeysAt, KeepsAllButRegions}
 
@@ -87,7 +91,8 @@ region_undone : (here : World) (L : ℕ) (does : State → Outcome) (on : Result
 region_undone here L does (Err refusal) is each = (keeps_same here.state, refl)
 region_undone here L does (Ok on) is each =
     let after : Outcome = on_region on.0 L does on.1 in
-    let undone : Undone on.1 after = either_undone on.1 (nat_lt L on.0 || not (is_runnable on.1.layers L)) (refusal_reply WrongLayer, on.1) (does on.1) (refl, refl) (each on.1) in
+    let undone : Undone on.1 after = either_undone on.1 (nat_lt L on.0 || not (is_runnable on.1.layers L)) (refusal_reply WrongLayer, on.1) _ (refl, refl)
+    (either_undone on.1 (takes_calls (code_in on.1.codes L)) (refusal_reply WrongCode, on.1) (does on.1) (refl, refl) (each on.1)) in
     (subst (λ (o : Option State). Keeps o (Some after.1)) (sym (awake_state here.phase here.state on is)) undone.0, undone.1)
 
 boot_undone : (here : World) (phase : Phase) (state : Option State) → ToldUndone here (boot_event here phase state)
@@ -156,6 +161,27 @@ command_comes here text draw (Err refusal) answer next is x = kept_in here _ ans
 command_comes here text draw (Ok on) answer next is (inl x) = order_comes here text draw on answer x.1.0 next is x.0 x.1.2 x.1.1
 command_comes here text draw (Ok on) answer next is (inr x) = kept_in here _ answer next here x.2 (keeps_same here.state) (ap is_done x.1)
 
+-- a call that is answered has changed its region
+answered_undone : (call : Call) (state : State) (outcome : Outcome) → IsAnswered state call outcome → Undone state outcome
+answered_undone call state outcome is =
+    subst (Undone state) (sym is.comes) (by is.key (demands_change call.layer is.action.demands state is.done is.met))
+  where
+    by : (key : Option RegionKey) → ChangesSecrets call.layer state is.done → Undone state (answer_by call.layer key call.input is.action.answer state is.done)
+    by None changed = (subst (KeepsAllButRegions state) (sym changed.1) refl, refl)
+    by (Some key) changed = (subst (λ (s : State). KeepsAllButRegions state (with_one_use s call.layer key.number)) (sym changed.1) refl, refl)
+
+call_comes : (here : World) (this : Event) (call : Call) (on : Result (ℕ × State) Refusal) (answer : Reply) (next : World) → running_state_in here ≡ on
+    → CallTold here call on answer next → ComesTo here this answer next
+call_comes here this call (Err refusal) answer next is x = kept_in here this answer next here x.1 (keeps_same here.state) (ap is_done x.0)
+call_comes here this call (Ok on) answer next is (outcome, at, told, follows) =
+    let undone : Undone on.1 outcome = by (on_layer_comes on.0 call on.1 outcome at) in
+    kept_in here this answer next (record here { state = Some outcome.1 }) follows
+    (subst (λ (o : Option State). Keeps o (Some outcome.1)) (sym (awake_state here.phase here.state on is)) undone.0) (ap is_done told ∙ undone.1)
+  where
+    by : AnswersAt on.0 call on.1 outcome ⊎ IsRefusedCall on.1 outcome → Undone on.1 outcome
+    by (inl answers) = answered_undone call on.1 outcome answers.is
+    by (inr refused) = (subst (KeepsAllButRegions on.1) (sym refused.1) refl, ap is_done refused.0.1)
+
 machine_comes : (here : World) (this : Event) (answer : Reply) (next : World) → Machine here this answer next → ComesTo here this answer next
 machine_comes here event.Boot answer next x = of_told here _ answer next (boot_event here here.phase here.state) x (boot_undone here here.phase here.state)
 machine_comes here event.Off answer next x = kept_in here _ answer next (record here { phase = off }) x.1 (keeps_same here.state) (ap is_done x.0)
@@ -172,6 +198,7 @@ machine_comes here (event.Drop L name) answer next x =
     of_told here _ answer next (region_event here L (drop_event L name) (running_state_in here)) x (region_undone here L (drop_event L name) (running_state_in here) refl (drop_undone L name))
 machine_comes here (event.Sign L key message) answer next x =
     of_told here _ answer next (region_event here L (sign_event L key message) (running_state_in here)) x (region_undone here L (sign_event L key message) (running_state_in here) refl (sign_undone L key message))
+machine_comes here (event.Call L key input) answer next x = call_comes here _ _ (running_state_in here) answer next refl x
 
 -- an order that was obeyed in another world, whose state is left here
 pub obeyed_there : (here : World) (this : Event) (whole next : World) (order : Order) → next.state ≡ whole.state → ObeysAt here this whole order → ObeysAt here this next order

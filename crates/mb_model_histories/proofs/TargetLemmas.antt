@@ -101,6 +101,7 @@ serial_kept = record {
   dies = λ o. tt;
   secrets = λ state L secrets. refl;
   used = λ state L number. refl;
+  called = λ state L secrets number. refl;
   order = obeyed_serial;
 }
 

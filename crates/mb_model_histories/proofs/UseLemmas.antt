@@ -4,8 +4,11 @@ use Rattle.std.specs.Prelude.{All, Contains, IsTrue, is_some, if◌then◌else�
 use Rattle.std.proofs.lemmas.List.Elements.{All-nil, All-cons, All-append, Contains-append_right}
 use Rattle.std.proofs.lemmas.Option.{same_Some}
 use Rattle.mb_model.specs.declared.entry.Chain.{Chain}
+use Rattle.mb_model.specs.declared.entry.Said.{Said}
+use Rattle.mb_model.specs.declared.entry.Said.TheVariants.{Message, Answer}
 use Rattle.mb_model.specs.declared.entry.Statement.{Statement}
 use Rattle.mb_model.specs.declared.event.Answered.{Answered}
+use Rattle.mb_model.specs.declared.event.Event.{Event}
 use Rattle.mb_model.specs.declared.event.Event.TheVariants as event
 use Rattle.mb_model.specs.declared.key.PublicKey.{PublicKey}
 use Rattle.mb_model.specs.declared.key.Trust.TheVariants.{Always}
@@ -19,13 +22,14 @@ use Rattle.mb_model.specs.declared.region.Region.{Region}
 use Rattle.mb_model.specs.declared.region.RegionKey.{RegionKey}
 use Rattle.mb_model.specs.declared.reply.Reply.{Reply}
 use Rattle.mb_model.specs.declared.reply.Reply.TheVariants as reply
+use Rattle.mb_model.specs.declared.state.Codes.{Codes}
 use Rattle.mb_model.specs.declared.state.State.{State}
 use Rattle.mb_model.specs.declared.tools.Keyfile.{Keyfile}
 use Rattle.mb_model.specs.chains.Acceptance.{IsBornOf, report_of, Honest}
-use Rattle.mb_model.specs.records.ChainFormat.{chain_format}
+use Rattle.mb_model.specs.records.ChainFormat.{said_format, statement_format, chain_format}
 use Rattle.mb_model.specs.records.EntryFormat.{key_kind_format}
-use Rattle.mb_model.specs.memories.Factory.{state_at_birth}
-use Rattle.mb_model.specs.machine.LayerEvents.{statement_of}
+use Rattle.mb_model.specs.memories.Factory.{state_at_birth, IsFactoryImage}
+use Rattle.mb_model.specs.machine.LayerEvents.{takes_calls}
 use Rattle.mb_model.specs.owners.Layers.{equal_trusts, layer_of, is_runnable, IsLayers, Runnable}
 use Rattle.mb_model.specs.owners.Log.{entries_of, number_of, layers_of, serial_of}
 use Rattle.mb_model.specs.machine.Machine.{World, opening_world, Step}
@@ -34,22 +38,26 @@ use Rattle.mb_model.specs.machine.OrderEffects.{key_made, state_after_succession
 use Rattle.mb_model.specs.owners.Regions.{empty_region, region_of}
 use Rattle.mb_model.specs.chains.Script.{IsScriptEvent}
 use Rattle.mb_model.specs.machine.SignedOrders.{keyfile_after_use}
-use Rattle.mb_model.specs.machine.SignedTexts.{statement_text}
-use Rattle.mb_model.specs.signatures.Signing.{public_of}
+use Rattle.mb_model.specs.machine.SignedTexts.{said_text}
+use Rattle.mb_model.specs.signatures.Signing.{public_of, signature_of}
 use Rattle.mb_model.specs.memories.Valid.{IsValidState, Valid}
+use Rattle.mb_model_lemmas.proofs.AttachLemmas.{statement_allowed}
 use Rattle.mb_model_lemmas.proofs.FactoryLemmas.{birth_is_valid}
 use Rattle.mb_model_lemmas.proofs.RuleLemmas.{ruled_are_layers}
-use Rattle.mb_model_lemmas.proofs.SignatureLemmas.{public_sized}
+use Rattle.mb_model_lemmas.proofs.SignatureLemmas.{public_sized, length-signature_of}
 use Rattle.mb_model_lemmas.proofs.ValidStates.{valid_is_ruled}
 use Rattle.mb_model_lemmas.proofs.ListLemmas.{All-front, All-back}
-use Rattle.mb_model_memory.proofs.StorableChains.{bare_allowed, statement_of-allowed}
+use Rattle.mb_model_memory.proofs.StorableChains.{bare_allowed}
+use Rattle.mb_model_memory.proofs.StorableOrders.{number_small}
 use Rattle.mb_model_memory.proofs.StorableSteps.{run_keeps_storable}
 use Rattle.mb_model_memory.specs.Storable.{Storable, IsStorableState}
-use Rattle.mb_model_runs.specs.StatementLaws.{key_entry_of}
+use Rattle.mb_model_runs.specs.StatementLaws.{statement_saying, AsksFor, key_entry_of}
 use Rattle.mb_model_runs.proofs.BirthLemmas.{log_is_good}
 use Rattle.mb_model_runs.proofs.StatementLemmas.{some_log}
 use Rattle.mb_model_histories.specs.AcceptanceLaws.{HonestStatement, whole_chain}
 use Rattle.mb_model_histories.specs.Histories.{History, all_answered, ComesAfter, in_this_run, in_a_later_run}
+use Rattle.mb_model_histories.specs.NoiseLaws.{no_key}
+use Rattle.mb_model_histories.specs.ObeyedOrders.{IsOpen}
 use Rattle.mb_model_histories.specs.PowerLaws.{power_off}
 use Rattle.mb_model_histories.specs.RepairLaws.{CanBeGiven, plain_order, power_on, answered_done}
 use Rattle.mb_model_histories.specs.UseLaws.{Beginning, CanBegin, state_begun, ComesToKey, KeysCanBeMade, ShowsStatement, StatementsCanBeMade}
@@ -60,7 +68,7 @@ use Rattle.mb_model_histories.proofs.HistoryLemmas.{histories_stay_valid}
 use Rattle.mb_model_histories.proofs.ObeyedLemmas.{ordered_few}
 use Rattle.mb_model_histories.proofs.OwnerLemmas.{owner_of_layer_one_stays}
 use Rattle.mb_model_histories.proofs.RepairLemmas.{ActAllowed, can_be_given_with, two_or_one, layers_can_be_given, layers_can_be_recovered}
-use Rattle.mb_model_histories.proofs.ReplayLemmas.{signed_bytes, signed_state, running_world, boot_step, sign_step}
+use Rattle.mb_model_histories.proofs.ReplayLemmas.{signed_state, running_world, boot_step, say_step}
 use Rattle.mb_model_histories.proofs.StepLemmas.{Keeps, keeps, obeys, step_comes}
 
 -- ---- one order a run
@@ -105,6 +113,11 @@ emergency_empties : (state : State) (keyfile : Keyfile) (payload : Payload) (dra
 unfolding state_after_order state_after_change
 emergency_empties state keyfile payload draw = refl
 
+-- and its code is the payload's
+emergency_stores : (state : State) (keyfile : Keyfile) (payload : Payload) (draw : List ℕ) → (state_after_order state (plain_order keyfile 2 (act.Emergency payload)) draw).codes.two ≡ Some payload.code
+unfolding state_after_order state_after_change
+emergency_stores state keyfile payload draw = refl
+
 module _ (state : State) (keyfile : Keyfile) (draw : List ℕ) where
   abbrev making : Order
   making = plain_order keyfile 2 (act.NewKey Epoch)
@@ -112,6 +125,15 @@ module _ (state : State) (keyfile : Keyfile) (draw : List ℕ) where
   -- the key that the order makes
   abbrev new_key : RegionKey
   new_key = key_made (view_of (ready_for state making draw)) Epoch draw
+
+  ready_codes : (b : Bool) → (if b then state_after_succession state draw else state).codes ≡ state.codes
+  unfolding state_after_succession
+  ready_codes true = refl
+  ready_codes false = refl
+
+  codes_stay : (state_after_order state making draw).codes ≡ state.codes
+  unfolding state_after_order state_after_new_key
+  codes_stay = ready_codes (needs_succession (view_of state) making)
 
   key_within : Contains (region_of (state_after_order state making draw) 2).keys new_key
   unfolding state_after_order state_after_new_key
@@ -218,7 +240,11 @@ module _ (its : Beginning) (can : CanBegin its) where
   keyed : State
   keyed = state_after_order loaded (making loaded its.second its.draw) its.draw
 
-  comes_to_key : ComesToKey (Some born) keyed (new_key loaded its.second its.draw)
+  keyed_stored : keyed.codes.two ≡ Some its.payload.code
+  unfolding keyed loaded
+  keyed_stored = ap (λ (codes : Codes). codes.two) (codes_stay loaded its.second its.draw) ∙ emergency_stores owned (keyfile_after_use its.first) its.payload its.draw
+
+  comes_to_key : ComesToKey (Some born) its.payload.code keyed (new_key loaded its.second its.draw)
   unfolding keyed owned loaded
   comes_to_key =
       let first : List Answered = order_run born giving its.draw in
@@ -234,6 +260,7 @@ module _ (its : Beginning) (can : CanBegin its) where
         within = key_within loaded its.second its.draw;
         unused = refl;
         may_run = subst (λ (layers : Layers). Runnable layers 2) (sym (layers_stay loaded its.second its.draw)) loaded_runs;
+        stored = keyed_stored;
       }
 
 pub keys_can_be_made : KeysCanBeMade
@@ -256,48 +283,53 @@ stays_storable first last (run ∷ runs) scripts valid stored history =
     (histories_stay_valid first history.0.state (run ∷ []) valid (history.0, history.1, refl))
     (run_keeps_storable (opening_world first) run history.0 now valid stored history.1) history.2
 
-chain_allowed : (state : State) (key : RegionKey) (message : List ℕ) → IsValidState state → IsStorableState state → length message ≤ 128
-    → chain_format.Allowed (whole_chain state.log (statement_of state key message))
-unfolding chain_format
-chain_allowed state key message valid stored short =
-    let bare = bare_allowed state valid stored in
-    (tt, (bare.1.0, (tt, statement_of-allowed state key message stored short)))
+saying_allowed : (state : State) (key : RegionKey) (said : Said) → IsStorableState state → said_format.Allowed said → statement_format.Allowed (statement_saying state key said)
+unfolding statement_saying statement_format
+saying_allowed state key said stored fits = (number_small state stored, (fits, length-signature_of key.seed key.uses (said_text state.serial key.number (number_of (entries_of state.log)) said)))
 
--- a signature leaves the log
-log_stays : (here : World) (layer n : ℕ) (message : List ℕ) (answer : Reply) (before after : State) → Step here (event.Sign layer n message) answer (running_world after) → here.state ≡ Some before → after.log ≡ before.log
-log_stays here layer n message answer before after step was =
-    elim (step_comes here (event.Sign layer n message) answer (running_world after) step) [
+chain_allowed : (state : State) (key : RegionKey) (said : Said) → IsValidState state → IsStorableState state → said_format.Allowed said
+    → chain_format.Allowed (whole_chain state.log (statement_saying state key said))
+unfolding chain_format
+chain_allowed state key said valid stored fits =
+    let bare = bare_allowed state valid stored in
+    (tt, (bare.1.0, (tt, saying_allowed state key said stored fits)))
+
+-- an event that asks for a statement is no order
+asked_no_order : (this : Event) (layer n : ℕ) (said : Said) (text draw : List ℕ) → AsksFor this layer n said → this ≡ event.Order text draw → ⊥
+asked_no_order this layer n (Message message) text draw asked is = absurd (grind (arith, sym asked ∙ is))
+asked_no_order this layer n (Answer hash answer) text draw asked is = absurd (grind (arith, sym asked.1 ∙ is))
+
+-- it leaves the log
+log_stays : (here : World) (this : Event) (layer n : ℕ) (said : Said) (answer : Reply) (before after : State) → AsksFor this layer n said → Step here this answer (running_world after) → here.state ≡ Some before
+    → after.log ≡ before.log
+log_stays here this layer n said answer before after asked step was =
+    elim (step_comes here this answer (running_world after) step) [
       | keeps kept undone ↦ ap (λ (s : State). s.log) (subst (λ (o : Option State). Keeps o (Some after)) was kept)
-      | obeys order by ↦ absurd (grind (arith, by.given))
+      | obeys order by ↦ absurd (asked_no_order this layer n said by.text by.draw asked by.given)
     ]
 
-module _ (maker : PublicKey) (first : World) (state : State) (key : RegionKey) (message : List ℕ) (valid : IsValidState state) (within : Contains (region_of state 2).keys key) (few : key.uses < 32)
-    (may_run : Runnable state.layers 2) (stored : IsStorableState state) (short : length message ≤ 128) (bears : IsBornOf maker state.log)
-    (comes : (there : World) → ComesAfter there (opening_world (Some state)) → ComesAfter there first) where
-  after : State
-  after = signed_state state 2 key.number message
-
+-- where a key of layer 2 says this, while layer 1 is in control, that is shown
+module _ (maker : PublicKey) (first : World) (state after : State) (key : RegionKey) (said : Said) (this : Event) (valid : IsValidState state) (within : Contains (region_of state 2).keys key) (few : key.uses < 32)
+    (stored : IsStorableState state) (fits : said_format.Allowed said) (bears : IsBornOf maker state.log) (comes : (there : World) → ComesAfter there (opening_world (Some state)) → ComesAfter there first)
+    (asked : AsksFor this 2 key.number said)
+    (signing : Step (running_world state) this (reply.Signed key.number key.uses (statement_format.spelling (statement_saying state key said))) (running_world after)) where
   abbrev here : World
   here = running_world state
 
   abbrev there : World
   there = running_world after
 
-  signing : Step here (event.Sign 2 key.number message) (reply.Signed key.number key.uses (signed_bytes state key message)) there
-  unfolding after
-  signing = sign_step state 2 key message valid within few may_run
-
   same_log : after.log ≡ state.log
-  same_log = log_stays here 2 key.number message _ state after signing refl
+  same_log = log_stays here this 2 key.number said _ state after asked signing refl
 
   abbrev statement : Statement
-  statement = statement_of state key message
+  statement = statement_saying state key said
 
   abbrev chain : Chain
   chain = whole_chain state.log statement
 
   signs_it : HonestStatement first there (entries_of after.log) key.number statement
-  unfolding statement_of
+  unfolding statement_saying
   signs_it made serial named serial_is verifies =
       let serial_in : serial_of (entries_of state.log) ≡ Some serial = subst (λ log. serial_of (entries_of log) ≡ Some serial) same_log serial_is in
       let same : serial ≡ state.serial = same_Some serial state.serial (sym serial_in ∙ valid.serial) in
@@ -305,20 +337,23 @@ module _ (maker : PublicKey) (first : World) (state : State) (key : RegionKey) (
         here = here;
         after = there;
         state = state;
+        event = this;
         layer = 2;
         index = key.uses;
-        message = message;
-        bytes = signed_bytes state key message;
+        said = said;
+        bytes = statement_format.spelling (statement_saying state key said);
         before = comes here (in_this_run (power_on ∷ []) (here, boot_step state, refl));
+        asked = asked;
         step = signing;
         later = in_this_run [] refl;
         is = refl;
-        text_is = ap (λ s. statement_text s key.number (number_of (entries_of state.log)) message) same;
+        stated = record { key = key; within = within; number_is = refl; index_is = refl; left = few; statement_is = refl };
+        text_is = ap (λ s. said_text s key.number (number_of (entries_of state.log)) said) same;
       }
 
-  shows : ShowsStatement maker first message
-  unfolding statement_of
-  shows = record {
+  pub shows_statement : ShowsStatement maker first said
+  unfolding statement_saying
+  shows_statement = record {
     last = there;
     live = after;
     bytes = chain_format.spelling chain;
@@ -327,11 +362,11 @@ module _ (maker : PublicKey) (first : World) (state : State) (key : RegionKey) (
     statement = statement;
     accepts = record {
       chain = chain;
-      spelled = record { allowed = chain_allowed state key message valid stored short; whole = refl };
+      spelled = record { allowed = chain_allowed state key said valid stored fits; whole = refl };
       good = log_is_good maker state valid bears;
       made = key_entry_of 2 key;
       named = key_named state 2 key valid within;
-      current = statement_current state 2 key message valid within few;
+      current = statement_current state 2 key said valid within few;
       report_is = refl;
     };
     comes = comes there (in_this_run (power_on ∷ _ ∷ []) (here, boot_step state, (there, signing, refl)));
@@ -339,19 +374,47 @@ module _ (maker : PublicKey) (first : World) (state : State) (key : RegionKey) (
     few = subst (λ log. length log ≤ 128) (sym same_log) stored.few;
     honest = subst (λ log. Honest state.log maker (entries_of log)) (sym same_log) (log_is_honest state.log maker);
     stated = refl;
-    message_is = refl;
+    said_is = refl;
     not_forged = signs_it;
   }
 
-pub statements_can_be_made : StatementsCanBeMade
+message_fits : (message : List ℕ) → length message ≤ 128 → said_format.Allowed (Message message)
+unfolding statement_format
+message_fits message short = (statement_allowed 0 message (signature_of no_key 0 []) (omega arith) short (length-signature_of no_key 0 [])).1.0
+
+-- a device with a key in layer 2, whose state can be had and stored
+pub record IsReady (its : Beginning) (image : List ℕ) : Type 0 where
+  pub state : State
+  pub key : RegionKey
+  pub at : ComesToKey (Some (state_begun its)) its.payload.code state key
+  pub valid : IsValidState state
+  pub stored : IsStorableState state
+  pub bears : IsBornOf (public_of its.maker) state.log
+
+pub comes_ready : (its : Beginning) (image : List ℕ) → CanBegin its → IsFactoryImage its.maker its.index (public_of its.first.seed) its.code its.noise image → IsReady its image
 unfolding born
-statements_can_be_made its image message can made short =
-    let state : State = keyed its can in
-    let key : RegionKey = new_key (loaded its can) its.second its.draw in
-    let at : ComesToKey (Some (born its can)) state key = comes_to_key its can in
-    let valid : IsValidState state = histories_stay_valid (Some (born its can)) (Some state) at.runs (born_is_valid its can) at.history in
-    let stored : IsStorableState state = stays_storable (Some (born its can)) (Some state) at.runs at.scripts (born_is_valid its can)
-    (birth_storable its.maker its.index (public_of its.first.seed) its.code its.noise image made) at.history in
-    shows (public_of its.maker) (opening_world (Some (born its can))) state key message valid at.within (omega (arith, at.unused)) at.may_run stored short
-    (born_of_their_maker its.maker its.index (public_of its.first.seed) its.code its.noise at.runs state can.index at.history)
-    (λ there. comes_on (Some (born its can)) at.runs (Some state) there at.history)
+comes_ready its image can made =
+    let at = comes_to_key its can in
+    let valid : IsValidState (keyed its can) = histories_stay_valid (Some (born its can)) (Some (keyed its can)) at.runs (born_is_valid its can) at.history in
+    record {
+      state = keyed its can;
+      key = new_key (loaded its can) its.second its.draw;
+      at = at;
+      valid = valid;
+      stored = stays_storable (Some (born its can)) (Some (keyed its can)) at.runs at.scripts (born_is_valid its can)
+          (birth_storable its.maker its.index (public_of its.first.seed) its.code its.noise image made) at.history;
+      bears = born_of_their_maker its.maker its.index (public_of its.first.seed) its.code its.noise at.runs (keyed its can) can.index at.history;
+    }
+
+-- what comes after the ready device comes after its birth
+pub ready_comes : (its : Beginning) (image : List ℕ) (ready : IsReady its image) (there : World) → ComesAfter there (opening_world (Some ready.state)) → ComesAfter there (opening_world (Some (state_begun its)))
+ready_comes its image ready there after = comes_on (Some (state_begun its)) ready.at.runs (Some ready.state) there ready.at.history after
+
+pub statements_can_be_made : StatementsCanBeMade
+statements_can_be_made its image message can made short plain =
+    let ready : IsReady its image = comes_ready its image can made in
+    let few : ready.key.uses < 32 = omega (arith, ready.at.unused) in
+    let unsealed : IsOpen ready.state 2 = ap takes_calls ready.at.stored ∙ plain in
+    shows_statement (public_of its.maker) (opening_world (Some (state_begun its))) ready.state (signed_state ready.state 2 ready.key.number message) ready.key (Message message)
+    (event.Sign 2 ready.key.number message) ready.valid ready.at.within few ready.stored (message_fits message short) ready.bears (ready_comes its image ready) refl
+    (say_step ready.state 2 ready.key message ready.valid ready.at.within few ready.at.may_run unsealed)

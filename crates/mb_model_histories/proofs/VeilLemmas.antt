@@ -21,12 +21,12 @@ use Rattle.mb_model.specs.declared.region.Region.{Region}
 use Rattle.mb_model.specs.declared.region.RegionKey.{RegionKey}
 use Rattle.mb_model.specs.declared.region.Secret.{Secret}
 use Rattle.mb_model.specs.declared.reply.Refusal.{Refusal}
-use Rattle.mb_model.specs.declared.reply.Refusal.TheVariants.{WrongLayer, Zeroised, PoweredOff}
+use Rattle.mb_model.specs.declared.reply.Refusal.TheVariants.{WrongLayer, WrongCode, Zeroised, PoweredOff}
 use Rattle.mb_model.specs.declared.reply.Reply.{Reply}
 use Rattle.mb_model.specs.declared.reply.Reply.TheVariants as reply
 use Rattle.mb_model.specs.declared.state.State.{State}
 use Rattle.mb_model.specs.owners.Layers.{is_runnable}
-use Rattle.mb_model.specs.machine.LayerEvents.{Outcome, has_name, with_secret, value_reply, get_event}
+use Rattle.mb_model.specs.machine.LayerEvents.{Outcome, code_in, takes_calls, has_name, with_secret, value_reply, get_event}
 use Rattle.mb_model.specs.machine.Machine.{Phase, off, dead, ratchet, World, Told, Machine, Step, Run}
 use Rattle.mb_model.specs.machine.OrderChecks.{view_of, needs_succession}
 use Rattle.mb_model.specs.machine.OrderEffects.{cosigners_of, state_after_succession, state_after_change, state_after_new_key, state_after_act, state_after_order, ready_for, key_made}
@@ -37,10 +37,10 @@ use Rattle.mb_model.specs.owners.Rules.{admits}
 use Rattle.mb_model_lemmas.specs.RefusalLaws.{BringsBytes}
 use Rattle.mb_model_lemmas.proofs.ValidRegions.{filter-map}
 use Rattle.mb_model_lemmas.proofs.ListLemmas.{found_is}
-use Rattle.mb_model_histories.specs.SightLaws.{HiddenSecrets, veiled_value, veiled_secret, veiled_region, veiled_state, veiled_world, veiled_event, veiled_answered, asks_hidden, HiddenValuesAreNotSeen, HiddenValuesAreNotSeenInRuns, HiddenValuesChangeNoAnswer, AskedValuesAreSeen}
+use Rattle.mb_model_histories.specs.SightLaws.{HiddenSecrets, veiled_value, veiled_secret, veiled_region, veiled_state, veiled_world, veiled_event, veiled_answered, AsksNoHidden, ReadsNoHidden, HiddenValuesAreNotSeen, HiddenValuesAreNotSeenInRuns, HiddenValuesChangeNoAnswer, AskedValuesAreSeen}
 use Rattle.mb_model_histories.specs.PowerLaws.{HasOwnAnswer}
 use Rattle.mb_model_histories.proofs.ChangeLemmas.{Agrees, with_value, step_seen, region_changed, put_changed}
-use Rattle.mb_model_histories.proofs.SightLemmas.{IsGentle, put_seen, get_seen, drop_seen, sign_seen}
+use Rattle.mb_model_histories.proofs.SightLemmas.{IsGentle, Untouched, call_seen, put_seen, get_seen, drop_seen, sign_seen}
 use Rattle.mb_model_histories.proofs.PowerLemmas.{runs_are_determined}
 
 -- ---- lists of secrets
@@ -213,8 +213,19 @@ module _ (hidden : HiddenSecrets) where
   given_same (event.Get layer name) = refl
   given_same (event.Drop layer name) = refl
   given_same (event.Sign layer key message) = refl
+  given_same (event.Call layer key input) = refl
 
-  agrees_veiled : (phase : Phase) (this : Event) → asks_hidden hidden this ≡ false → Agrees veils puts_value (λ b. b) phase this
+  -- where nothing is hidden, nothing is changed
+  bare_secrets : (n : ℕ) → ((name : List ℕ) → hidden n name ≡ false) → (secrets : List Secret) → map (veiled_secret (hidden n)) secrets ≡ secrets
+  bare_secrets n none [] = refl
+  bare_secrets n none (secret ∷ secrets) =
+      ap (λ (b : Bool). record secret { value = veiled_value b secret.value } ∷ map (veiled_secret (hidden n)) secrets) (none secret.name)
+      ∙ ap (λ (list : List Secret). secret ∷ list) (bare_secrets n none secrets)
+
+  bare_untouched : (layer : ℕ) → ReadsNoHidden hidden layer → Untouched veils layer
+  bare_untouched layer free n region above = ap (λ (list : List Secret). record region { secrets = list }) (bare_secrets n (λ name. free n name above) region.secrets)
+
+  agrees_veiled : (phase : Phase) (this : Event) → AsksNoHidden hidden this → Agrees veils puts_value (λ b. b) phase this
   agrees_veiled phase event.Boot free = tt
   agrees_veiled phase event.Off free = tt
   agrees_veiled phase event.Tamper free = tt
@@ -232,31 +243,33 @@ module _ (hidden : HiddenSecrets) where
       λ level at. inr (λ state. drop_seen veils blank layer (puts_value layer) (veiled_gently (hidden layer)) state name)
   agrees_veiled phase (event.Sign layer key message) free =
       λ level at. inr (λ state. sign_seen veils blank layer (puts_value layer) (veiled_gently (hidden layer)) state key message)
+  agrees_veiled phase (event.Call layer key input) free = λ level at. inr (call_seen veils blank _ (bare_untouched layer free))
 
-  step_veiled : (world next : World) (this : Event) (answer : Reply) → asks_hidden hidden this ≡ false → Step world this answer next
+  step_veiled : (world next : World) (this : Event) (answer : Reply) → AsksNoHidden hidden this → Step world this answer next
       → Step (veiled_world hidden world) (veiled_event hidden this) answer (veiled_world hidden next)
   step_veiled world next this answer free step =
       subst (λ (e : Event). Step (veiled_world hidden world) e answer (veiled_world hidden next)) (given_same this)
       (step_seen veils puts_value (λ b. b) world this answer next (λ b. refl) (agrees_veiled world.phase this free) step)
 
-  run_veiled : (world next : World) (answered : List Answered) → All (λ this. asks_hidden hidden this.event ≡ false) answered → Run world answered next
+  run_veiled : (world next : World) (answered : List Answered) → All (λ this. AsksNoHidden hidden this.event) answered → Run world answered next
       → Run (veiled_world hidden world) (map (veiled_answered hidden) answered) (veiled_world hidden next)
   run_veiled world next [] free run = ap (veiled_world hidden) run
   run_veiled world next (this ∷ rest) free run =
-      let P : Answered → Type 0 = λ this. asks_hidden hidden this.event ≡ false in
+      let P : Answered → Type 0 = λ this. AsksNoHidden hidden this.event in
       (veiled_world hidden run.0, step_veiled world run.0 this.event this.reply (All-head P this rest free) run.1, run_veiled run.0 next rest (All-tail P this rest free) run.2)
 
   -- ---- a `get` of a hidden secret
 
-  got : (barred : Bool) (state : State) (o : Option Secret) → Outcome
-  got barred state o = if barred then (refusal_reply WrongLayer, state) else (value_reply o, state)
+  got : (barred taken : Bool) (state : State) (o : Option Secret) → Outcome
+  got barred taken state o = if barred then (refusal_reply WrongLayer, state) else if taken then (refusal_reply WrongCode, state) else (value_reply o, state)
 
-  asked_got : (barred : Bool) (one other : State) (o : Option Secret) (layer : ℕ) (name value : List ℕ) (answer : Reply) → hidden layer name ≡ true
-      → ((secret : Secret) → o ≡ Some secret → secret.name ≡ name) → reply.Value value ≡ (got barred one o).0
-      → answer ≡ (got barred other (option_map (veiled_secret (hidden layer)) o)).0 → answer ≡ reply.Value []
+  asked_got : (barred taken : Bool) (one other : State) (o : Option Secret) (layer : ℕ) (name value : List ℕ) (answer : Reply) → hidden layer name ≡ true
+      → ((secret : Secret) → o ≡ Some secret → secret.name ≡ name) → reply.Value value ≡ (got barred taken one o).0
+      → answer ≡ (got barred taken other (option_map (veiled_secret (hidden layer)) o)).0 → answer ≡ reply.Value []
   unfolding got
-  asked_got true one other o layer name value answer is named x y = absurd (grind (arith, x))
-  asked_got false one other o layer name value answer is named x y = y ∙ value_hidden (hidden layer) name value o is named x
+  asked_got true taken one other o layer name value answer is named x y = absurd (grind (arith, x))
+  asked_got false true one other o layer name value answer is named x y = absurd (grind (arith, x))
+  asked_got false false one other o layer name value answer is named x y = y ∙ value_hidden (hidden layer) name value o is named x
 
   refused_value : (value : List ℕ) (refusal : Refusal) → reply.Value value ≡ refusal_reply refusal → ⊥
   refused_value value refusal e = grind (arith, e)
@@ -270,13 +283,14 @@ module _ (hidden : HiddenSecrets) where
   asked_at armed (ratchet level) None next other layer name value answer is x y = absurd (refused_value value Zeroised (ap (λ (t : Told). t.0) x))
   asked_at armed (ratchet level) (Some state) next other layer name value answer is x y =
       let barred : Bool = nat_lt layer level || not (is_runnable state.layers layer) in
+      let taken : Bool = takes_calls (code_in state.codes layer) in
       let secrets : List Secret = (region_of state layer).secrets in
       let veiled : State = veiled_state hidden state in
-      let second : answer ≡ (got barred veiled (find (has_name name) (region_of veiled layer).secrets)).0 = ap (λ (t : Told). t.0) y in
-      let third : answer ≡ (got barred veiled (option_map (veiled_secret (hidden layer)) (find (has_name name) secrets))).0 =
-      second ∙ ap (λ (r : Region). (got barred veiled (find (has_name name) r.secrets)).0) (region_changed veils blank layer state)
-      ∙ ap (λ (o : Option Secret). (got barred veiled o).0) (found_veiled (hidden layer) name secrets) in
-      asked_got barred state veiled (find (has_name name) secrets) layer name value answer is (found_name (hidden layer) name secrets) (ap (λ (t : Told). t.0) x) third
+      let second : answer ≡ (got barred taken veiled (find (has_name name) (region_of veiled layer).secrets)).0 = ap (λ (t : Told). t.0) y in
+      let third : answer ≡ (got barred taken veiled (option_map (veiled_secret (hidden layer)) (find (has_name name) secrets))).0 =
+      second ∙ ap (λ (r : Region). (got barred taken veiled (find (has_name name) r.secrets)).0) (region_changed veils blank layer state)
+      ∙ ap (λ (o : Option Secret). (got barred taken veiled o).0) (found_veiled (hidden layer) name secrets) in
+      asked_got barred taken state veiled (find (has_name name) secrets) layer name value answer is (found_name (hidden layer) name secrets) (ap (λ (t : Told). t.0) x) third
 
 pub hidden_values_are_not_seen : HiddenValuesAreNotSeen
 hidden_values_are_not_seen hidden world next this answer free step = step_veiled hidden world next this answer free step
@@ -301,6 +315,7 @@ brings_veiled hidden (event.Put layer name value) are = tt
 brings_veiled hidden (event.Get layer name) are = tt
 brings_veiled hidden (event.Drop layer name) are = tt
 brings_veiled hidden (event.Sign layer key message) are = tt
+brings_veiled hidden (event.Call layer key input) are = tt
 
 veiled_told : (hidden : HiddenSecrets) (answered : List Answered) → All HasOwnAnswer answered → All HasOwnAnswer (map (veiled_answered hidden) answered)
 veiled_told hidden answered told =

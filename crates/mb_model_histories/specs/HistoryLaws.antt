@@ -24,6 +24,7 @@ use Rattle.mb_model.specs.signatures.Signing.{public_of}
 use Rattle.mb_model.specs.memories.Valid.{IsValidState, Valid}
 use Rattle.mb_model_commands.specs.Inputs.{Image}
 use Rattle.mb_model_commands.specs.RunCommand.{IsServed}
+use Rattle.mb_model_histories.specs.ObeyedOrders.{IsOpen}
 use Rattle.mb_model_histories.specs.Histories.{History, all_answered, ComesAfter, IsJoined}
 
 -- ---- what holds over histories
@@ -75,12 +76,12 @@ RunsLeadWhereHistoriesDo =
     (here there : World) (live : State) → ComesAfter there here → there.state ≡ Some live
     → (answered : List Answered) × Run here answered there
 
--- From one and the same state a key signs whatever message at its next index. So an image that is used twice has a key
--- sign two messages with one index: a history is not all that can be done with a device.
+-- From one and the same state a key of an open region signs whatever message at its next index. So an image that is
+-- used twice has a key sign two messages with one index: a history is not all that can be done with a device.
 abbrev pub ReplayedImagesSignAgain : Type 0
 ReplayedImagesSignAgain =
     (state : State) (layer : ℕ) (key : RegionKey) (message : List ℕ) → IsValidState state
-    → Contains (region_of state layer).keys key → key.uses < 32 → Runnable state.layers layer
+    → Contains (region_of state layer).keys key → key.uses < 32 → Runnable state.layers layer → IsOpen state layer
     → (boot this : Answered) × (last : World) × Run (opening_world (Some state)) (boot ∷ this ∷ []) last
     × (this.event ≡ event.Sign layer key.number message) × IsSignedAt key.number key.uses this
 

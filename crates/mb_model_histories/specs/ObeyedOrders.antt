@@ -1,12 +1,13 @@
 -- When a device obeys an order, and what it keeps when it obeys none. Does anything else than an order change a device?
-use Rattle.std.specs.Prelude.{◌≡◌, ◌<◌, ◌≤◌, List, ℕ, false, Option, None, Some}
+use Rattle.std.specs.Prelude.{◌≡◌, ◌<◌, ◌≤◌, List, ℕ, true, false, Option, None, Some}
 use Rattle.mb_format.specs.Format.{Spells}
 use Rattle.mb_model.specs.declared.event.Event.{Event}
 use Rattle.mb_model.specs.declared.event.Event.TheVariants as event
-use Rattle.mb_model.specs.declared.event.Event.TheVariants.{Put, Drop, Sign}
+use Rattle.mb_model.specs.declared.event.Event.TheVariants.{Put, Drop, Sign, Call}
 use Rattle.mb_model.specs.declared.layer.Layer.{Layer}
 use Rattle.mb_model.specs.declared.order.Order.{Order}
 use Rattle.mb_model.specs.declared.state.State.{State}
+use Rattle.mb_model.specs.machine.LayerEvents.{code_in, takes_calls}
 use Rattle.mb_model.specs.owners.Layers.{layer_of, Runnable}
 use Rattle.mb_model.specs.machine.Machine.{ratchet, World}
 use Rattle.mb_model.specs.machine.OrderChecks.{view_of, IsSigned, Passes}
@@ -33,15 +34,24 @@ KeepsAllButRegions before after = after ≡ record before { two = after.two; thr
 
 -- ---- what a layer does with its region
 
+-- the region of a layer is open: the layer has no code that takes calls
+abbrev pub IsOpen : State → ℕ → Type 0
+IsOpen state layer = takes_calls (code_in state.codes layer) ≡ false
+
+-- the region of a layer is its code's alone, since the code takes calls
+abbrev pub IsSealed : State → ℕ → Type 0
+IsSealed state layer = takes_calls (code_in state.codes layer) ≡ true
+
 -- the layer whose region the event may change
 abbrev pub layer_asked : Event → Option ℕ
 layer_asked (Put layer name value) = Some layer
 layer_asked (Drop layer name) = Some layer
 layer_asked (Sign layer key message) = Some layer
+layer_asked (Call layer key input) = Some layer
 layer_asked other = None
 
--- At this event the region of a layer may change: it is a `put`, a `drop` or a `sign` of that layer, no layer above it
--- is in control, and it may run.
+-- At this event the region of a layer may change: it is a `put`, a `drop`, a `sign` or a `call` of that layer, no layer
+-- above it is in control, and it may run.
 pub record ActsOnRegion (here : World) (this : Event) (layer : ℕ) : Type 0 where
   pub state : State
   pub level : ℕ

@@ -12,6 +12,7 @@ use Rattle.mb_model.specs.owners.Layers.{is_runnable}
 use Rattle.mb_model.specs.machine.Machine.{ratchet, World, opening_world, Machine, Step, Run, may_be_cut}
 use Rattle.mb_model.specs.owners.Regions.{empty_region}
 use Rattle.mb_model_lemmas.specs.RefusalLaws.{BringsBytes}
+use Rattle.mb_model_histories.specs.ObeyedOrders.{IsOpen}
 
 -- ---- runs without power losses and want of memory
 
@@ -100,10 +101,11 @@ OneChoiceACut =
     × ((left : World) → Step world this reply.Stopped left
     ↔ ((left ≡ opening_world world.state) ⊎ (left ≡ opening_world whole.state)))
 
--- Both worlds of a power loss do come: a `put` into an empty region at which power fails has been done, or has not.
+-- Both worlds of a power loss do come: a `put` into a region that is empty and open, at which power fails, has been
+-- done, or has not.
 abbrev pub EitherIsLeft : Type 0
 EitherIsLeft =
-    (state : State) (name value : List ℕ) → is_runnable state.layers 2 ≡ true
+    (state : State) (name value : List ℕ) → is_runnable state.layers 2 ≡ true → IsOpen state 2
     → let before : State = record state { two = empty_region } in
     let world : World = record { state = Some before; phase = ratchet 1; armed = true } in
     (after : State) × (after ≢ before)

@@ -1,6 +1,6 @@
 -- Laws of what is out of sight. Does an answer tell of the region beneath the layer in control, or of a secret that was
 -- not asked for?
-use Rattle.std.specs.Prelude.{◌≡◌, ℕ, Bool, true, false, List, [], ◌∷◌, All, find, map, Some, option_map}
+use Rattle.std.specs.Prelude.{◌≡◌, ◌≤◌, ℕ, Bool, true, false, List, [], ◌∷◌, All, find, map, Some, option_map}
 use Rattle.std.specs.Prelude.{if◌then◌else◌}
 use Rattle.mb_model.specs.declared.event.Answered.{Answered}
 use Rattle.mb_model.specs.declared.event.Event.{Event}
@@ -19,6 +19,7 @@ use Rattle.mb_model.specs.owners.Regions.{empty_region}
 use Rattle.mb_model_commands.specs.ChainCommands.{ChainNames, chain_of}
 use Rattle.mb_model_commands.specs.Commands.{Past, Ended, CommandEnds}
 use Rattle.mb_model_lemmas.specs.RefusalLaws.{BringsBytes}
+use Rattle.mb_model_histories.specs.ObeyedOrders.{IsOpen}
 use Rattle.mb_model_histories.specs.PowerLaws.{HasOwnAnswer}
 
 -- the world, with the state changed if the device is alive
@@ -49,12 +50,12 @@ OutOfSightInRuns =
     (world next : World) (answered : List Answered) (run : Run world answered next)
     → RunsInThree world answered next run → Run (without_region_two world) answered (without_region_two next)
 
--- While layer 2 is in control, its secret is read, and is not found if region 2 is empty: that layer 3 is in control
--- cannot be left out.
+-- While layer 2 is in control, a secret of its region, if that is open, is read, and is not found if region 2 is empty:
+-- that layer 3 is in control cannot be left out.
 abbrev pub LayerTwoSeesItsRegion : Type 0
 LayerTwoSeesItsRegion =
     (state : State) (secret : Secret) → find (has_name secret.name) state.two.secrets ≡ Some secret
-    → is_runnable state.layers 2 ≡ true
+    → is_runnable state.layers 2 ≡ true → IsOpen state 2
     → let world : World = record { state = Some state; phase = ratchet 2; armed = false } in
     let empty : World = without_region_two world in
     Machine world (event.Get 2 secret.name) (reply.Value secret.value) world
@@ -94,16 +95,21 @@ abbrev pub veiled_event : HiddenSecrets → Event → Event
 veiled_event hidden (event.Put layer name value) = event.Put layer name (veiled_value (hidden layer name) value)
 veiled_event hidden other = other
 
--- the event is a `get` of a hidden secret
-abbrev pub asks_hidden : HiddenSecrets → Event → Bool
-asks_hidden hidden (event.Get layer name) = hidden layer name
-asks_hidden hidden other = false
+-- No secret of a layer is hidden, nor one of a layer above: none that the code of this layer may read.
+abbrev pub ReadsNoHidden : HiddenSecrets → ℕ → Type 0
+ReadsNoHidden hidden layer = (region : ℕ) (name : List ℕ) → layer ≤ region → hidden region name ≡ false
 
--- The values of hidden secrets change no answer but that of a `get` of one: each other step is one that would come if
--- they were empty.
+-- The event asks for no hidden secret: it is no `get` of one, and no `call` of a layer whose code may read one.
+abbrev pub AsksNoHidden : HiddenSecrets → Event → Type 0
+AsksNoHidden hidden (event.Get layer name) = hidden layer name ≡ false
+AsksNoHidden hidden (event.Call layer key input) = ReadsNoHidden hidden layer
+AsksNoHidden hidden other = Unit {0}
+
+-- The values of hidden secrets change no answer but that of a `get` of one, and of a `call` of code that may read one:
+-- each other step is one that would come if they were empty.
 abbrev pub HiddenValuesAreNotSeen : Type 0
 HiddenValuesAreNotSeen =
-    (hidden : HiddenSecrets) (world next : World) (this : Event) (answer : Reply) → asks_hidden hidden this ≡ false
+    (hidden : HiddenSecrets) (world next : World) (this : Event) (answer : Reply) → AsksNoHidden hidden this
     → Step world this answer next
     → Step (veiled_world hidden world) (veiled_event hidden this) answer (veiled_world hidden next)
 
@@ -115,7 +121,7 @@ veiled_answered hidden this = record this { event = veiled_event hidden this.eve
 abbrev pub HiddenValuesAreNotSeenInRuns : Type 0
 HiddenValuesAreNotSeenInRuns =
     (hidden : HiddenSecrets) (world next : World) (answered : List Answered)
-    → All (λ this. asks_hidden hidden this.event ≡ false) answered → Run world answered next
+    → All (λ this. AsksNoHidden hidden this.event) answered → Run world answered next
     → Run (veiled_world hidden world) (map (veiled_answered hidden) answered) (veiled_world hidden next)
 
 -- Two runs of worlds and events that differ in hidden values alone, and ask for none of them, have the same answers and
@@ -125,8 +131,7 @@ HiddenValuesChangeNoAnswer =
     (hidden : HiddenSecrets) (world other end other_end : World) (answered told : List Answered)
     → veiled_world hidden world ≡ veiled_world hidden other
     → map (λ this. veiled_event hidden this.event) answered ≡ map (λ this. veiled_event hidden this.event) told
-    → All (λ this. asks_hidden hidden this.event ≡ false) answered
-    → All (λ this. asks_hidden hidden this.event ≡ false) told
+    → All (λ this. AsksNoHidden hidden this.event) answered → All (λ this. AsksNoHidden hidden this.event) told
     → All (λ this. BringsBytes this.event) answered → All HasOwnAnswer answered → All HasOwnAnswer told
     → Run world answered end → Run other told other_end
     → (map (λ this. this.reply) answered ≡ map (λ this. this.reply) told)

@@ -34,7 +34,7 @@ pub fn calls_make_a_history()
     ensures history { TurnsAreHistories }
 {}
 
-/// From one state a key signs whatever message at its next index. So two runs from one image can have it sign two
+/// From one state a key of an open region signs whatever message at its next index. So two runs from one image can have it sign two
 /// messages with one index: `histories_are_sound` says nothing of an image that is used again.
 pub fn replayed_images_sign_again()
     ensures { ReplayedImagesSignAgain }

@@ -97,6 +97,8 @@ reply_line-same (reply.Signed k i a) (reply.Signed l j b) ra rb e =
     let key = keys.0 in
     let index = indices.0 in
     cc
+reply_line-same (reply.Called a) (reply.Called b) ra rb e =
+    ap (λ (x : List ℕ). reply.Called x) (written_same a b ra rb (append_cancel_left (codes "called ") (hex_word a) (hex_word b) e))
 reply_line-same (reply.Status s k m a b c) (reply.Status t l n d f g) ra rb e =
     let serials = first_same 32 (hex_word s) (hex_word t) _ _ (written_spaceless s ra.0) (written_spaceless t rb.0) (append_cancel_left (codes "status ") _ _ e) in
     let numbers = number_front k l _ _ (limited_fits k ra.1) (limited_fits l rb.1) serials.1 in

@@ -9,7 +9,7 @@ use Rattle.mb_model.specs.declared.event.Event.{Event}
 use Rattle.mb_model.specs.declared.event.Event.TheVariants as event
 use Rattle.mb_model.specs.declared.event.Tear.{Tear}
 use Rattle.mb_model.specs.chains.Lines.{spaced_words, hex_word}
-use Rattle.mb_model.specs.chains.Script.{IsTear, IsCut, IsScriptEvent, IsCutLine, EndsInHex, SaysEvent}
+use Rattle.mb_model.specs.chains.Script.{IsTear, IsCut, IsScriptEvent, called_word, IsCutLine, EndsInHex, SaysEvent}
 use Rattle.mb_model_lemmas.proofs.WordLemmas.{hex_word-read}
 use Rattle.mb_model_laws.specs.TextLaws.{HoldsBytes, undrawn}
 
@@ -61,3 +61,5 @@ said (event.Get region name) is are = (spaced_words (codes "get" ∷ decimal reg
 said (event.Drop region name) is are = (spaced_words (codes "drop" ∷ decimal region ∷ name ∷ []), (is.0, is.1, refl))
 said (event.Sign region key message) is are =
     (spaced_words (codes "sign" ∷ decimal region ∷ decimal key ∷ hex_word message ∷ []), (is.0, is.1, is.2, ends (codes "sign" ∷ decimal region ∷ decimal key ∷ []) message are))
+said (event.Call region key input) is are =
+    (spaced_words (codes "call" ∷ decimal region ∷ called_word key ∷ hex_word input ∷ []), (is.0, is.1, is.2, ends (codes "call" ∷ decimal region ∷ called_word key ∷ []) input are))

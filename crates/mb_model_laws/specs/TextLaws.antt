@@ -48,7 +48,7 @@ DrawsKeepScriptEvents =
     (events : List Event) (noise : List ℕ) (drawn : List Event) → All IsScriptEvent events → Drawn events noise drawn
     → All IsScriptEvent drawn
 
--- the fill, text, value or message of an event is a list of bytes
+-- the fill, text, value, message or input of an event is a list of bytes
 abbrev pub HoldsBytes : Event → Type 0
 HoldsBytes event.Boot = Unit {0}
 HoldsBytes event.Off = Unit {0}
@@ -61,6 +61,7 @@ HoldsBytes (event.Put region name value) = IsBytes value
 HoldsBytes (event.Get region name) = Unit {0}
 HoldsBytes (event.Drop region name) = Unit {0}
 HoldsBytes (event.Sign region key message) = IsBytes message
+HoldsBytes (event.Call region key input) = IsBytes input
 
 -- the event as a line gives it
 abbrev pub undrawn : Event → Event
@@ -118,6 +119,7 @@ IsReplyInRange reply.Dropped = Unit {0}
 IsReplyInRange (reply.Value value) = IsBytes value
 IsReplyInRange reply.Absent = Unit {0}
 IsReplyInRange (reply.Signed key index statement) = (key ≤ number_limit) × (index ≤ number_limit) × IsBytes statement
+IsReplyInRange (reply.Called answer) = IsBytes answer
 IsReplyInRange (reply.Status serial number log one two three) =
     IsBytes serial × (number ≤ number_limit) × (log ≤ number_limit)
 IsReplyInRange (reply.Refused number) = (number ≤ number_limit) × HasLine (reply.Refused number)

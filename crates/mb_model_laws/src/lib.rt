@@ -54,9 +54,9 @@ pub use signing::{
 };
 pub use steps::{orders_append_their_entry, states_stay_valid};
 pub use texts::{
-    drafts_are_clear, draws_in_turn, events_are_bounded, one_workload, order_lines_are_clear,
-    refusals_have_words, replies_differ, script_events, scripts_are_clear, texts_have_lines,
-    words_are_read_back,
+    call_numbers_are, drafts_are_clear, draws_in_turn, events_are_bounded, one_workload,
+    order_lines_are_clear, refusals_have_words, replies_differ, script_events, scripts_are_clear,
+    texts_have_lines, words_are_read_back,
 };
 pub use trusts::{
     each_layer_is_trusted_by_itself, trusts_are_given_in_one_form, version_one_has_equal_trusts,

@@ -3,6 +3,7 @@
 ghost use Rattle.mb_model.specs.chains.Script.{IsScript};
 ghost use Rattle.mb_model.specs.chains.Drafts.{IsDraft};
 ghost use Rattle.mb_model.specs.chains.OrderLines.{IsOrderLine, IsStatementLine};
+ghost use Rattle.mb_model_laws.specs.NumberLaws.{CallNumbersAre};
 ghost use Rattle.mb_model_laws.specs.TextLaws.{IsClearText, SomeLines, OneListOfLines, WordsAreReadBack, ScriptsGiveScriptEvents, ScriptEventsAreSaid, DrawsKeepScriptEvents, DrawsInTurn, DrawsKeepCount, TooManyEvents, SecondOrderLine, SecondStatementLine, FirstOrderLine, RepliesDiffer, RefusalsHaveWords, OneWorkload};
 
 /// Each text has one list of lines.
@@ -71,4 +72,9 @@ pub fn draws_in_turn()
 /// The number of a workload and the number of its rounds determine what is drawn for it.
 pub fn one_workload()
     ensures { OneWorkload }
+{}
+
+/// The byte 129 marks the statement of a call, and the byte 0x06 what is signed for one.
+pub fn call_numbers_are()
+    ensures { CallNumbersAre }
 {}

@@ -1,23 +1,32 @@
 -- Statements and the chains to which they are attached have spellings, where their parts have them.
 use Rattle.std.proofs.Common.{◌≡◌, ◌<◌, ◌≤◌, ℕ, List, [], ◌∷◌, ◌++◌, length, drop, refl, sym, subst, take-append-drop, lit≤, arith}
-use Rattle.std.specs.Prelude.{Bool, not, take_while}
+use Rattle.std.specs.Prelude.{◌==◌, Bool, true, false, not, take_while}
 use Rattle.std.specs.List.{prefix_len}
 use Rattle.std.specs.Int.{w32}
 use Rattle.std.proofs.lemmas.List.Folds.{length-prefix_len}
 use Rattle.std.proofs.lemmas.List.Sums.{prefix_len-le-length}
 use Rattle.mb_format.specs.Format.{Format}
-use Rattle.mb_format.specs.Combinators.{items, times, limit}
+use Rattle.mb_format.specs.Combinators.{either, items, times, limit}
 use Rattle.mb_model.specs.declared.entry.Chain.{Chain}
 use Rattle.mb_model.specs.declared.entry.SignedEntry.{SignedEntry}
+use Rattle.mb_model.specs.declared.entry.Said.TheVariants.{Message}
 use Rattle.mb_model.specs.declared.entry.Statement.{Statement}
 use Rattle.mb_model.specs.records.EntryFormat.{signed_entry_format}
-use Rattle.mb_model.specs.records.ChainFormat.{statement_format, chain_format}
+use Rattle.mb_model.specs.records.ChainFormat.{answered_format, asked_format, said_format, statement_format, chain_format}
 use Rattle.mb_model.specs.chains.Attach.{is_change_above, cut_at, stated_chain}
 
+few : (size : ℕ) → size ≤ 128 → (size == 129) ≡ false
+few size short = grind (arith, short)
+
+message_allowed : (size : ℕ) (b : Bool) → b ≡ false → (message : List ℕ) → length message ≡ size → (either b answered_format (asked_format size)).Allowed (Message message)
+unfolding asked_format
+message_allowed size true is message long = absurd (grind (arith, is))
+message_allowed size false is message long = long
+
 pub statement_allowed : (number : ℕ) (message signature : List ℕ) → number < limit w32 → length message ≤ 128 → length signature ≡ 2348
-    → statement_format.Allowed (record { number = number; message = message; signature = signature })
-unfolding statement_format
-statement_allowed number message signature small short long = (small, (((omega arith, short), refl), long))
+    → statement_format.Allowed (record { number = number; said = Message message; signature = signature })
+unfolding statement_format said_format
+statement_allowed number message signature small short long = (small, (((omega arith, omega (arith, short)), message_allowed (length message) (length message == 129) (few (length message) short) message refl), long))
 
 -- the first of some items are allowed where all are
 front_allowed : {A : Type 0} (item : Format A) (xs ys : List A) → (times (length (xs ++ ys)) item).Allowed (xs ++ ys) → (times (length xs) item).Allowed xs

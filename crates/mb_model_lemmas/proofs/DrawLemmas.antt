@@ -86,6 +86,7 @@ drawn_one noise before (event.Put region name value) events enough is = is
 drawn_one noise before (event.Get region name) events enough is = is
 drawn_one noise before (event.Drop region name) events enough is = is
 drawn_one noise before (event.Sign region key message) events enough is = is
+drawn_one noise before (event.Call region key input) events enough is = is
 
 drawn_all : (noise : List ℕ) (before events : List Event) → 32 * commands_in (before ++ events) ≤ length noise
     → All IsScriptEvent events → All IsScriptEvent (drawn_after noise before events)

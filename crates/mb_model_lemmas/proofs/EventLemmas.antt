@@ -1,6 +1,6 @@
 -- A script's lines stand for at most one list of events.
 use Rattle.std.proofs.Common.{◌≡◌, ℕ, ◌+◌, ◌*◌, ◌<◌, ◌^◌, inl, inr, List, [], ◌∷◌, ◌++◌, refl, sym, ap, subst, ◌∙◌, arith, suc, ◌≤◌, length, length-append, Bool, false}
-use Rattle.std.specs.Prelude.{codes, IsTrue, not, filter}
+use Rattle.std.specs.Prelude.{codes, IsTrue, IfSome, Option, None, Some, not, filter}
 use Rattle.std.specs.List.{AllZip}
 use Rattle.std.specs.Fmt.{decimal}
 use Rattle.std.proofs.lemmas.List.{append_cancel_left}
@@ -8,11 +8,11 @@ use Rattle.std.proofs.lemmas.List.Elements.{filter-append}
 use Rattle.mb_model.specs.declared.event.Event.{Event}
 use Rattle.mb_model.specs.declared.event.Event.TheVariants as event
 use Rattle.mb_model.specs.declared.event.Tear.{Tear}
-use Rattle.mb_model.specs.chains.Lines.{spaced_words, FailsAtLine}
+use Rattle.mb_model.specs.chains.Lines.{number_limit, spaced_words, FailsAtLine}
 use Rattle.mb_model.specs.owners.Layers.{is_upper}
-use Rattle.mb_model.specs.chains.Script.{tear_of, IsName, IsCutLine, EndsInHex, SaysEvent, is_skipped, IsScript}
+use Rattle.mb_model.specs.chains.Script.{called_word, tear_of, IsName, IsCutLine, EndsInHex, SaysEvent, is_skipped, IsScript}
 use Rattle.mb_model_lemmas.proofs.LineLemmas.{cons_same, first_same, IsBeginning-all, bad_after}
-use Rattle.mb_model_lemmas.proofs.WordLemmas.{number_front, upper_fits, limited_fits, name_spaceless, IsHex-same}
+use Rattle.mb_model_lemmas.proofs.WordLemmas.{no_dash, number_front, upper_fits, limited_fits, name_spaceless, IsHex-same}
 
 -- ---- the first two letters of a line tell the kind of its event
 
@@ -33,6 +33,7 @@ letters_of (event.Put region name value) = letters (codes "put")
 letters_of (event.Get region name) = letters (codes "get")
 letters_of (event.Drop region name) = letters (codes "drop")
 letters_of (event.Sign region key message) = letters (codes "sign")
+letters_of (event.Call region key input) = letters (codes "call")
 
 pub says_letters : (line : List ℕ) (e : Event) → SaysEvent line e → letters line ≡ letters_of e
 says_letters line event.Boot says = ap letters says
@@ -46,6 +47,7 @@ says_letters line (event.Put region name value) says = ap letters says.3.2
 says_letters line (event.Get region name) says = ap letters says.2
 says_letters line (event.Drop region name) says = ap letters says.2
 says_letters line (event.Sign region key message) says = ap letters says.3.2
+says_letters line (event.Call region key input) says = ap letters says.3.2
 
 -- ---- cuts
 
@@ -127,6 +129,27 @@ sign_same line a b k l i j uk ul fi fj ha hb =
     let key = keys.0 in
     cc
 
+-- the word for a key, before a space: a number begins with a digit, and is no dash
+keys_same : (i j : Option ℕ) (xs ys : List ℕ) → IfSome i (λ n. n ≤ number_limit) → IfSome j (λ n. n ≤ number_limit) → called_word i ++ 32 ∷ xs ≡ called_word j ++ 32 ∷ ys → (i ≡ j) × (xs ≡ ys)
+keys_same None None xs ys fi fj e = (refl, (cons_same 32 32 xs ys (cons_same 45 45 (32 ∷ xs) (32 ∷ ys) e).1).1)
+keys_same None (Some j) xs ys fi fj e = absurd (no_dash j (limited_fits j fj) (32 ∷ xs) (32 ∷ ys) e)
+keys_same (Some i) None xs ys fi fj e = absurd (no_dash i (limited_fits i fi) (32 ∷ ys) (32 ∷ xs) (sym e))
+keys_same (Some i) (Some j) xs ys fi fj e =
+    let parts = number_front i j xs ys (limited_fits i fi) (limited_fits j fj) e in
+    (ap Some parts.0, parts.1)
+
+call_same : (line a b : List ℕ) (k l : ℕ) (i j : Option ℕ) → IsTrue (is_upper k) → IsTrue (is_upper l) → IfSome i (λ n. n ≤ number_limit) → IfSome j (λ n. n ≤ number_limit)
+    → EndsInHex line (codes "call" ∷ decimal k ∷ called_word i ∷ []) a → EndsInHex line (codes "call" ∷ decimal l ∷ called_word j ∷ []) b
+    → event.Call k i a ≡ event.Call l j b
+call_same line a b k l i j uk ul fi fj ha hb =
+    let whole = append_cancel_left (codes "call ") _ _ (sym ha.2 ∙ hb.2) in
+    let regions = number_front k l (called_word i ++ 32 ∷ ha.0) (called_word j ++ 32 ∷ hb.0) (upper_fits k uk) (upper_fits l ul) whole in
+    let keys = keys_same i j ha.0 hb.0 fi fj regions.1 in
+    let input = IsHex-same ha.0 hb.0 a b keys.1 ha.1 hb.1 in
+    let region = regions.0 in
+    let key = keys.0 in
+    cc
+
 get_same : (n m : List ℕ) (k l : ℕ) → IsTrue (is_upper k) → IsTrue (is_upper l) → decimal k ++ 32 ∷ n ≡ decimal l ++ 32 ∷ m → (k ≡ l) × (n ≡ m)
 get_same n m k l uk ul e = number_front k l n m (upper_fits k uk) (upper_fits l ul) e
 
@@ -157,6 +180,8 @@ SaysEvent-same line (event.Drop k n) (event.Drop l m) ha hb =
     cc
 SaysEvent-same line (event.Sign k i a) (event.Sign l j b) ha hb =
     sign_same line a b k l i j ha.0 hb.0 (limited_fits i ha.1) (limited_fits j hb.1) ha.3 hb.3
+SaysEvent-same line (event.Call k i a) (event.Call l j b) ha hb =
+    call_same line a b k l i j ha.0 hb.0 ha.1 hb.1 ha.3 hb.3
 SaysEvent-same line a b ha hb = two_kinds line a b (λ e. omega (arith, e)) ha hb
 
 -- lines, each of which says an event, say one list of events

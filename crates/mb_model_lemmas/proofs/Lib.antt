@@ -34,6 +34,14 @@ pub mod WrittenImages
 pub mod FactoryLemmas
 pub mod ChainLemmas
 pub mod AttachLemmas
+pub mod InstructionLemmas
+pub mod CodeLemmas
+pub mod Determined
+pub mod OutputLemmas
+pub mod EndLemmas
+pub mod OneCallLemmas
+pub mod CallLemmas
+pub mod DemandLemmas
 pub mod OrderLemmas
 pub mod ReplyTests
 pub mod RefusalLemmas

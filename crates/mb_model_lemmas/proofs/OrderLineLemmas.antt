@@ -11,6 +11,7 @@ use Rattle.mb_format.proofs.Examples.{are_bytes}
 use Rattle.mb_format.proofs.Whole.{IsClearWhole-from_exact, IsExactWhole-from_exact}
 use Rattle.mb_format.proofs.Exact.{IsBytes-replicate}
 use Rattle.mb_model.specs.declared.order.Order.{Order}
+use Rattle.mb_model.specs.declared.entry.Said.TheVariants.{Message}
 use Rattle.mb_model.specs.declared.entry.Statement.{Statement}
 use Rattle.mb_model.specs.outside.Texts.{IsHex}
 use Rattle.mb_model.specs.chains.Lines.{FailsAtLine, ends_early, hex_word}
@@ -18,7 +19,7 @@ use Rattle.mb_model.specs.chains.OrderLines.{IsOrderLine, IsStatementLine, order
 use Rattle.mb_model.specs.records.LayerFormat.{trust_format}
 use Rattle.mb_model.specs.records.OrderFormat.{target_format, payload_format, body_format, sized_signature_format, countersignatures_format, order_format}
 use Rattle.mb_model_lemmas.specs.SampleOrder.{surrender, surrender_line}
-use Rattle.mb_model.specs.records.ChainFormat.{statement_format}
+use Rattle.mb_model.specs.records.ChainFormat.{asked_format, said_format, statement_format}
 use Rattle.mb_model.proofs.OrderFormatLaws.{order_exact}
 use Rattle.mb_model.proofs.EntryFormatLaws.{statement_exact}
 use Rattle.mb_model_lemmas.proofs.LineLemmas.{cons_same, cons_none, IsBeginning-all, bad_after}
@@ -156,7 +157,7 @@ order_first line later none = first IsOrderLine order_one line later (surrender_
 
 -- a statement of nothing, with a signature of these bytes
 abbrev pub statement_with : List ℕ → Statement
-statement_with signature = record { number = 0; message = []; signature = signature }
+statement_with signature = record { number = 0; said = Message []; signature = signature }
 
 -- bytes after five zeros are bytes
 IsBytes-five : (bytes : List ℕ) → IsBytes bytes → IsBytes (0 ∷ 0 ∷ 0 ∷ 0 ∷ 0 ∷ bytes)
@@ -169,7 +170,7 @@ IsBytes-five bytes are (suc (suc (suc (suc (suc i))))) = are i
 
 spelled_with : (signature : List ℕ) → length signature ≡ 2348
     → Spells statement_format (0 ∷ 0 ∷ 0 ∷ 0 ∷ 0 ∷ signature) (statement_with signature)
-unfolding statement_format number_bytes
+unfolding statement_format said_format asked_format number_bytes
 spelled_with signature sized = record { allowed = (lit≤ tt, (((lit≤ tt, lit≤ tt), refl), sized)); whole = refl }
 
 abbrev pub some_statement : Statement

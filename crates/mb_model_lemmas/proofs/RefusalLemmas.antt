@@ -11,11 +11,14 @@ use Rattle.mb_model.specs.declared.reply.Reply.TheVariants as reply
 use Rattle.mb_model.specs.declared.state.State.{State}
 use Rattle.mb_model.specs.owners.Layers.{is_runnable}
 use Rattle.mb_model.specs.declared.reply.Refusal.{Refusal}
-use Rattle.mb_model.specs.declared.reply.Refusal.TheVariants.{WrongPhase, Zeroised, WrongLayer}
+use Rattle.mb_model.specs.declared.reply.Refusal.TheVariants.{WrongPhase, Zeroised, WrongLayer, WrongCode}
 use Rattle.mb_model.specs.machine.Refusals.{refusal_reply}
 use Rattle.mb_model.specs.owners.Regions.{region_of}
-use Rattle.mb_model.specs.machine.LayerEvents.{Outcome, on_region, has_name, has_number, put_event, get_event, drop_event, sign_with, sign_event}
-use Rattle.mb_model.specs.machine.Machine.{Phase, off, dead, ratchet, World, Told, boot_event, running_state, running_state_in, status_event, go_event, region_event, CommandStep, Machine, may_be_cut, Step, machine_step, lacks_memory, loses_power}
+use Rattle.mb_model.specs.machine.LayerEvents.{Outcome, on_region, has_name, has_number, put_event, get_event, drop_event, sign_with, sign_event, code_in, takes_calls}
+use Rattle.mb_model.specs.machine.Machine.{Phase, off, dead, ratchet, World, Told, boot_event, running_state, running_state_in, status_event, go_event, region_event, CommandStep, CallTold, Machine, may_be_cut, Step, machine_step, lacks_memory, loses_power}
+use Rattle.mb_model.specs.machine.Calls.{Call, answer_by}
+use Rattle.mb_model_lemmas.proofs.CallLemmas.{is_answered, IsAnswered, IsRefusedCall, AnswersAt, answered_is, on_layer_comes}
+use Rattle.mb_model_lemmas.proofs.OneCallLemmas.{told_one, told_some}
 use Rattle.mb_model_lemmas.specs.RefusalLaws.{Leaves, BringsBytes, IsPhase}
 use Rattle.mb_model_lemmas.proofs.ReplyTests.{HasValue, either_has, boot_has, status_has, go_has, region_has, put_has, get_has, drop_has, command_has}
 use Rattle.mb_model_lemmas.proofs.OrderLemmas.{one_order_step, some_order_step, refused_order_leaves}
@@ -105,7 +108,8 @@ sign_spares L number message state = sign_with_spares L (find (has_number number
 
 region_spares : (r L : ℕ) (does : State → Outcome) (state : State) → Spares state (does state) → Spares state (on_region r L does state)
 region_spares r L does state spares =
-    either_spares state (nat_lt L r || not (is_runnable state.layers L)) (refusal_reply WrongLayer, state) (does state) (λ n e. refl) spares
+    either_spares state (nat_lt L r || not (is_runnable state.layers L)) (refusal_reply WrongLayer, state) _ (λ n e. refl)
+    (either_spares state (takes_calls (code_in state.codes L)) (refusal_reply WrongCode, state) (does state) (λ n e. refl) spares)
 
 -- a device that is awake has the state
 pub awake_state : (phase : Phase) (state : Option State) (on : ℕ × State) → running_state phase state ≡ Ok on → state ≡ Some on.1
@@ -133,6 +137,19 @@ command_leaves world text draw n next (Ok on) is (inl x) =
     same_state world (event.Order text draw) next on.1 (x.1.2 ∙ ap (λ (s : State). record world { state = Some s }) stays) (awake_state world.phase world.state on is)
 command_leaves world text draw n next (Ok on) is (inr x) = left_alone world (event.Order text draw) next x.2
 
+call_left : (world : World) (given : Event) (call : Call) (n : ℕ) (next : World) (on : ℕ × State) (outcome : Outcome) → running_state_in world ≡ Ok on
+    → AnswersAt on.0 call on.1 outcome ⊎ IsRefusedCall on.1 outcome → reply.Refused n ≡ outcome.0 → next ≡ record world { state = Some outcome.1 } → Leaves world given next
+call_left world given call n next on outcome is (inl answers) told follows =
+    let clash : is_answered (reply.Refused n) ≡ is_answered outcome.0 = ap is_answered told in
+    absurd (grind (arith, clash, answered_is call on.1 outcome answers.is))
+call_left world given call n next on outcome is (inr refused) told follows =
+    same_state world given next on.1 (follows ∙ ap (λ (s : State). record world { state = Some s }) refused.1) (awake_state world.phase world.state on is)
+
+call_leaves : (world : World) (call : Call) (n : ℕ) (next : World) (on : Result (ℕ × State) Refusal) → running_state_in world ≡ on
+    → CallTold world call on (reply.Refused n) next → Leaves world (event.Call call.layer call.key call.input) next
+call_leaves world call n next (Err refusal) is x = left_alone world _ next x.1
+call_leaves world call n next (Ok on) is (outcome, at, told, follows) = call_left world _ call n next on outcome is (on_layer_comes on.0 call on.1 outcome at) told follows
+
 machine_leaves : (world : World) (given : Event) (n : ℕ) (next : World) → Machine world given (reply.Refused n) next → Leaves world given next
 machine_leaves world event.Boot n next x = boot_leaves world n next world.phase world.state refl refl x
 machine_leaves world event.Off n next x = absurd (grind (arith, x.0))
@@ -145,6 +162,7 @@ machine_leaves world (event.Put L name value) n next x = region_leaves world (ev
 machine_leaves world (event.Get L name) n next x = region_leaves world (event.Get L name) L (get_event L name) n next (running_state_in world) (get_spares L name) refl x
 machine_leaves world (event.Drop L name) n next x = region_leaves world (event.Drop L name) L (drop_event L name) n next (running_state_in world) (drop_spares L name) refl x
 machine_leaves world (event.Sign L key message) n next x = region_leaves world (event.Sign L key message) L (sign_event L key message) n next (running_state_in world) (sign_spares L key message) refl x
+machine_leaves world (event.Call L key input) n next x = call_leaves world _ n next (running_state_in world) refl x
 
 pub refusals_leave : (world : World) (given : Event) (n : ℕ) (next : World) → Step world given (reply.Refused n) next → Leaves world given next
 refusals_leave world given n next (machine_step x) = machine_leaves world given n next x
@@ -186,6 +204,21 @@ sign_own L number message state = sign_with_own L (find (has_number number) (reg
 told_own : (answer : Reply) (next : World) (told : Told) → ◌≡◌ {A = Told} (answer, next) told → is_own told.0 ≡ true → is_own answer ≡ true
 told_own answer next told e own = ap (λ (t : Told). is_own t.0) e ∙ own
 
+answered_own : (call : Call) (state : State) (outcome : Outcome) (is : IsAnswered state call outcome) → (key : Option RegionKey) → is.key ≡ key → is_own outcome.0 ≡ true
+answered_own call state outcome is None same =
+    ap (λ (o : Outcome). is_own o.0) is.comes ∙ ap (λ (k : Option RegionKey). is_own (answer_by call.layer k call.input is.action.answer state is.done).0) same
+answered_own call state outcome is (Some key) same =
+    ap (λ (o : Outcome). is_own o.0) is.comes ∙ ap (λ (k : Option RegionKey). is_own (answer_by call.layer k call.input is.action.answer state is.done).0) same
+
+either_own : (call : Call) (state : State) (outcome : Outcome) {level : ℕ} → AnswersAt level call state outcome ⊎ IsRefusedCall state outcome → is_own outcome.0 ≡ true
+either_own call state outcome (inl answers) = answered_own call state outcome answers.is answers.is.key refl
+either_own call state outcome (inr refused) = ap is_own refused.0.1
+
+-- an answer to a call is one of the machine's own
+call_own : (world : World) (call : Call) (on : Result (ℕ × State) Refusal) (answer : Reply) (next : World) → CallTold world call on answer next → is_own answer ≡ true
+call_own world call (Err refusal) answer next x = ap is_own x.0
+call_own world call (Ok on) answer next (outcome, at, told, follows) = ap is_own told ∙ either_own call on.1 outcome (on_layer_comes on.0 call on.1 outcome at)
+
 machine_own : (world : World) (given : Event) (answer : Reply) (next : World) → Machine world given answer next → is_own answer ≡ true
 machine_own world event.Boot answer next x = told_own answer next (boot_event world world.phase world.state) x (boot_has is_own true own_replies world world.phase world.state)
 machine_own world event.Off answer next x = ap is_own x.0
@@ -198,6 +231,7 @@ machine_own world (event.Put L name value) answer next x = told_own answer next 
 machine_own world (event.Get L name) answer next x = told_own answer next (region_event world L (get_event L name) (running_state_in world)) x (region_has is_own true own_replies world L (get_event L name) (running_state_in world) (get_has is_own true own_replies L name))
 machine_own world (event.Drop L name) answer next x = told_own answer next (region_event world L (drop_event L name) (running_state_in world)) x (region_has is_own true own_replies world L (drop_event L name) (running_state_in world) (drop_has is_own true own_replies L name))
 machine_own world (event.Sign L key message) answer next x = told_own answer next (region_event world L (sign_event L key message) (running_state_in world)) x (region_has is_own true own_replies world L (sign_event L key message) (running_state_in world) (sign_own L key message))
+machine_own world (event.Call L key input) answer next x = call_own world _ (running_state_in world) answer next x
 
 not_own : (answer other : Reply) → is_own other ≡ false → is_own answer ≡ true → answer ≡ other → ⊥
 not_own answer other foreign own same =
@@ -268,6 +302,10 @@ command_on world text draw (Err refusal) answer next is x = quiet answer (refusa
 command_on world text draw (Ok on) answer next is (inl x) = λ writes dark. awake_is_on world on is (sym (ap (λ (w : World). w.phase) x.1.2) ∙ dark)
 command_on world text draw (Ok on) answer next is (inr x) = quiet answer (refusal_reply WrongPhase) next x.1 refl
 
+call_on : (world : World) (call : Call) (on : Result (ℕ × State) Refusal) (answer : Reply) (next : World) → running_state_in world ≡ on → CallTold world call on answer next → IsOnAfter answer next
+call_on world call (Err refusal) answer next is x = quiet answer (refusal_reply refusal) next x.0 refl
+call_on world call (Ok on) answer next is (outcome, at, told, follows) = λ writes dark. awake_is_on world on is (sym (ap (λ (w : World). w.phase) follows) ∙ dark)
+
 machine_on : (world : World) (given : Event) (answer : Reply) (next : World) → Machine world given answer next → IsOnAfter answer next
 machine_on world event.Boot answer next x = told_on answer next (boot_event world world.phase world.state) x (boot_on world world.phase world.state)
 machine_on world event.Off answer next x = quiet answer reply.Off next x.0 refl
@@ -280,6 +318,7 @@ machine_on world (event.Put L name value) answer next x = told_on answer next (r
 machine_on world (event.Get L name) answer next x = told_on answer next (region_event world L (get_event L name) (running_state_in world)) x (region_on world L (get_event L name) (running_state_in world) refl)
 machine_on world (event.Drop L name) answer next x = told_on answer next (region_event world L (drop_event L name) (running_state_in world)) x (region_on world L (drop_event L name) (running_state_in world) refl)
 machine_on world (event.Sign L key message) answer next x = told_on answer next (region_event world L (sign_event L key message) (running_state_in world)) x (region_on world L (sign_event L key message) (running_state_in world) refl)
+machine_on world (event.Call L key input) answer next x = call_on world _ (running_state_in world) answer next refl x
 
 -- power is on after an event that was answered as one that writes
 pub written_is_on : (world : World) (given : Event) (answer : Reply) (next : World) → Step world given answer next → may_be_cut answer ≡ true → next.phase ≡ off → ⊥
@@ -324,6 +363,7 @@ machine_is_function world (event.Put L name value) a b m n are x y = one_told a 
 machine_is_function world (event.Get L name) a b m n are x y = one_told a b m n (region_event world L (get_event L name) (running_state_in world)) x y
 machine_is_function world (event.Drop L name) a b m n are x y = one_told a b m n (region_event world L (drop_event L name) (running_state_in world)) x y
 machine_is_function world (event.Sign L key message) a b m n are x y = one_told a b m n (region_event world L (sign_event L key message) (running_state_in world)) x y
+machine_is_function world (event.Call L key input) a b m n are x y = told_one world _ (running_state_in world) a b m n x y
 
 -- ---- phases
 
@@ -372,6 +412,10 @@ command_phase world text draw (Err refusal) answer next x = ap (λ (w : World). 
 command_phase world text draw (Ok on) answer next (inl x) = ap (λ (w : World). w.phase) x.1.2
 command_phase world text draw (Ok on) answer next (inr x) = ap (λ (w : World). w.phase) x.2
 
+call_phase : (world : World) (call : Call) (on : Result (ℕ × State) Refusal) (answer : Reply) (next : World) → CallTold world call on answer next → next.phase ≡ world.phase
+call_phase world call (Err refusal) answer next x = ap (λ (w : World). w.phase) x.1
+call_phase world call (Ok on) answer next (outcome, at, told, follows) = ap (λ (w : World). w.phase) follows
+
 machine_phase : (world : World) (given : Event) (answer : Reply) (next : World) → IsPhase world.phase → Machine world given answer next → IsPhase next.phase
 machine_phase world event.Boot answer next holds x =
     subst IsPhase (sym (ap (λ (t : Told). t.1.phase) x)) (boot_phase world world.phase world.state refl holds)
@@ -385,6 +429,7 @@ machine_phase world (event.Put L name value) answer next holds x = same_phase wo
 machine_phase world (event.Get L name) answer next holds x = same_phase world answer next (region_event world L (get_event L name) (running_state_in world)) holds (region_phase world L (get_event L name) (running_state_in world)) x
 machine_phase world (event.Drop L name) answer next holds x = same_phase world answer next (region_event world L (drop_event L name) (running_state_in world)) holds (region_phase world L (drop_event L name) (running_state_in world)) x
 machine_phase world (event.Sign L key message) answer next holds x = same_phase world answer next (region_event world L (sign_event L key message) (running_state_in world)) holds (region_phase world L (sign_event L key message) (running_state_in world)) x
+machine_phase world (event.Call L key input) answer next holds x = subst IsPhase (sym (call_phase world _ (running_state_in world) answer next x)) holds
 
 pub phases_stay_phases : (world : World) (given : Event) (answer : Reply) (next : World) → IsPhase world.phase → Step world given answer next → IsPhase next.phase
 phases_stay_phases world given answer next holds (machine_step x) = machine_phase world given answer next holds x
@@ -419,3 +464,4 @@ machine_answers world (event.Put L name value) holds are none = none _ _ refl
 machine_answers world (event.Get L name) holds are none = none _ _ refl
 machine_answers world (event.Drop L name) holds are none = none _ _ refl
 machine_answers world (event.Sign L key message) holds are none = none _ _ refl
+machine_answers world (event.Call L key input) holds are none = told_some world _ (running_state_in world) none

@@ -5,7 +5,7 @@ use Rattle.std.specs.Prelude.{Result, Ok, Err, not, nat_lt, nat_le, ◌&&◌, �
 use Rattle.std.specs.List.{list_any}
 use Rattle.mb_model.specs.declared.region.Secret.{Secret}
 use Rattle.mb_model.specs.declared.reply.Refusal.{Refusal}
-use Rattle.mb_model.specs.declared.reply.Refusal.TheVariants.{WrongLayer}
+use Rattle.mb_model.specs.declared.reply.Refusal.TheVariants.{WrongLayer, WrongCode}
 use Rattle.mb_model.specs.declared.reply.Reply.{Reply}
 use Rattle.mb_model.specs.declared.reply.Reply.TheVariants as reply
 use Rattle.mb_model.specs.declared.reply.Standing.{Standing}
@@ -14,7 +14,7 @@ use Rattle.mb_model.specs.owners.Layers.{is_runnable}
 use Rattle.mb_model.specs.machine.Refusals.{refusal_reply}
 use Rattle.mb_model.specs.owners.Regions.{region_of}
 use Rattle.mb_model.specs.machine.OrderStep.{OrderStep, spells_none, fails_check, is_obeyed}
-use Rattle.mb_model.specs.machine.LayerEvents.{Outcome, has_name, value_reply, put_event, get_event, drop_event}
+use Rattle.mb_model.specs.machine.LayerEvents.{Outcome, has_name, value_reply, put_event, get_event, drop_event, code_in, takes_calls}
 use Rattle.mb_model.specs.machine.Machine.{Phase, off, dead, ratchet, World, Told, boot_event, status_of, status_event, go_event, region_event, CommandStep}
 
 -- the test has this value for each reply of the machine but a statement
@@ -61,7 +61,8 @@ module _ (test : Reply → Bool) (value : Bool) (has : HasValue test value) wher
   pub region_has : (world : World) (L : ℕ) (does : State → Outcome) (on : Result (ℕ × State) Refusal) → ((state : State) → test (does state).0 ≡ value) → test (region_event world L does on).0 ≡ value
   region_has world L does (Err refusal) each = has.refused _
   region_has world L does (Ok on) each =
-      either_reply (nat_lt L on.0 || not (is_runnable on.1.layers L)) (refusal_reply WrongLayer, on.1) (does on.1) (has.refused _) (each on.1)
+      either_reply (nat_lt L on.0 || not (is_runnable on.1.layers L)) (refusal_reply WrongLayer, on.1) _ (has.refused _)
+      (either_reply (takes_calls (code_in on.1.codes L)) (refusal_reply WrongCode, on.1) (does on.1) (has.refused _) (each on.1))
 
   pub boot_has : (world : World) (phase : Phase) (state : Option State) → test (boot_event world phase state).0 ≡ value
   boot_has world off (Some state) = has.booted

@@ -20,6 +20,7 @@ says_script line (event.Put region name value) says = (says.0, says.1, says.2)
 says_script line (event.Get region name) says = (says.0, says.1)
 says_script line (event.Drop region name) says = (says.0, says.1)
 says_script line (event.Sign region key message) says = (says.0, says.1, says.2)
+says_script line (event.Call region key input) says = (says.0, says.1, says.2)
 
 all_script : (lines : List (List ℕ)) (events : List Event) → AllZip SaysEvent lines events → All IsScriptEvent events
 all_script [] [] says = All-nil IsScriptEvent

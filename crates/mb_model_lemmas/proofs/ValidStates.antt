@@ -25,10 +25,10 @@ use Rattle.mb_model.specs.owners.Regions.{region_after, with_key, KeptRightly}
 use Rattle.mb_model.specs.owners.Regions.{region_of, with_region}
 use Rattle.mb_model.specs.machine.OrderChecks.{view_of}
 use Rattle.mb_model.specs.machine.OrderEffects.{entry_signed_by, log_with, next_key, cosigners_of, state_after_succession, state_after_change, state_after_new_key}
-use Rattle.mb_model.specs.declared.reply.Refusal.TheVariants.{WrongLayer}
+use Rattle.mb_model.specs.declared.reply.Refusal.TheVariants.{WrongLayer, WrongCode}
 use Rattle.mb_model.specs.machine.Refusals.{refusal_reply}
 use Rattle.mb_model.specs.signatures.Signing.{public_of}
-use Rattle.mb_model.specs.machine.LayerEvents.{Outcome, has_name, has_number, put_event, get_event, drop_event, sign_with, sign_event}
+use Rattle.mb_model.specs.machine.LayerEvents.{code_in, takes_calls, Outcome, has_name, has_number, put_event, get_event, drop_event, sign_with, sign_event, with_use}
 use Rattle.mb_model.specs.memories.Valid.{EachFollows, IsValidRegion, IsValidState, Valid}
 use Rattle.mb_model_lemmas.specs.RegionLaws.{KeepsStatesValid, HasValidRegions}
 use Rattle.mb_model_lemmas.proofs.Splits.{map_split}
@@ -86,35 +86,42 @@ valid_with_region state L region upper valid is = valid_with state L region vali
 
 -- an event of a layer keeps states valid, where it does so as the layer runs
 where_it_runs : (L : ℕ) (event : State → Outcome) → ((state : State) → Runnable state.layers L → IsValidState state → IsValidState (event state).1) → KeepsStatesValid L event
-where_it_runs L event keeps = λ state ratchet valid. by state valid (nat_lt L ratchet) (is_runnable state.layers L) refl
+where_it_runs L event keeps = λ state ratchet valid. by state valid (nat_lt L ratchet) (is_runnable state.layers L) (takes_calls (code_in state.codes L)) refl
   where
-    by : (state : State) → IsValidState state → (past runs : Bool) → is_runnable state.layers L ≡ runs
-        → IsValidState (if past || not runs then (refusal_reply WrongLayer, state) else event state).1
-    by state valid true runs is = valid
-    by state valid false false is = valid
-    by state valid false true is = keeps state is valid
+    by : (state : State) → IsValidState state → (past runs taken : Bool) → is_runnable state.layers L ≡ runs
+        → IsValidState (if past || not runs then (refusal_reply WrongLayer, state) else if taken then (refusal_reply WrongCode, state) else event state).1
+    by state valid true runs taken is = valid
+    by state valid false false taken is = valid
+    by state valid false true true is = valid
+    by state valid false true false is = keeps state is valid
 
 either_keeps : (b : Bool) (one other : Outcome) → IsValidState one.1 → IsValidState other.1 → IsValidState (if b then one else other).1
 either_keeps true one other first second = first
 either_keeps false one other first second = second
 
-pub put_keeps : (L : ℕ) (name value : List ℕ) → KeepsStatesValid L (put_event L name value)
+pub put_valid : (L : ℕ) (name value : List ℕ) (state : State) → Runnable state.layers L → IsValidState state → IsValidState (put_event L name value state).1
 unfolding put_event
-put_keeps L name value = where_it_runs L (put_event L name value) (λ state runs valid.
+put_valid L name value state runs valid =
     let region : Region = region_of state L in
     let next : IsValidState (with_region state L _) = valid_with state L _ valid (λ upper. valid_over_put (entries_of state.log) state.layers L name value region (valid_is_ruled state valid) upper runs (region_is_valid state L upper valid)) in
-    either_keeps (not (list_any (has_name name) region.secrets) && nat_le 22 (length region.secrets)) _ _ valid next)
+    either_keeps (not (list_any (has_name name) region.secrets) && nat_le 22 (length region.secrets)) _ _ valid next
+
+pub put_keeps : (L : ℕ) (name value : List ℕ) → KeepsStatesValid L (put_event L name value)
+put_keeps L name value = where_it_runs L (put_event L name value) (put_valid L name value)
 
 pub get_keeps : (L : ℕ) (name : List ℕ) → KeepsStatesValid L (get_event L name)
 unfolding get_event
 get_keeps L name = where_it_runs L (get_event L name) (λ state runs valid. valid)
 
-pub drop_keeps : (L : ℕ) (name : List ℕ) → KeepsStatesValid L (drop_event L name)
+pub drop_valid : (L : ℕ) (name : List ℕ) (state : State) → Runnable state.layers L → IsValidState state → IsValidState (drop_event L name state).1
 unfolding drop_event
-drop_keeps L name = where_it_runs L (drop_event L name) (λ state runs valid.
+drop_valid L name state runs valid =
     let region : Region = region_of state L in
     let next : IsValidState (with_region state L _) = valid_with state L _ valid (λ upper. valid_over_drop (entries_of state.log) state.layers L name region upper runs (region_is_valid state L upper valid)) in
-    either_keeps (list_any (has_name name) region.secrets) _ _ next valid)
+    either_keeps (list_any (has_name name) region.secrets) _ _ next valid
+
+pub drop_keeps : (L : ℕ) (name : List ℕ) → KeepsStatesValid L (drop_event L name)
+drop_keeps L name = where_it_runs L (drop_event L name) (drop_valid L name)
 
 signed_keeps : (L : ℕ) (found : Option RegionKey) (message : List ℕ) (state : State) → Runnable state.layers L → IsValidState state → IsValidState (sign_with L found message state).1
 signed_keeps L None message state runs valid = valid
@@ -122,6 +129,12 @@ signed_keeps L (Some key) message state runs valid =
     let region : Region = region_of state L in
     let next : IsValidState (with_region state L _) = valid_with state L _ valid (λ upper. valid_over_use (entries_of state.log) state.layers L key.number region upper runs (region_is_valid state L upper valid)) in
     either_keeps (nat_le 32 key.uses) _ _ valid next
+
+-- one more use of a key leaves a valid state valid
+pub use_valid : (L number : ℕ) (state : State) → Runnable state.layers L → IsValidState state
+    → IsValidState (with_region state L (record (region_of state L) { keys = with_use number (region_of state L).keys }))
+use_valid L number state runs valid =
+    valid_with state L _ valid (λ upper. valid_over_use (entries_of state.log) state.layers L number (region_of state L) upper runs (region_is_valid state L upper valid))
 
 pub sign_keeps : (L number : ℕ) (message : List ℕ) → KeepsStatesValid L (sign_event L number message)
 unfolding sign_event

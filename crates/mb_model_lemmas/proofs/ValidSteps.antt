@@ -1,6 +1,6 @@
 -- Each step of the machine leads from a state that a device can have to such a state.
 use Rattle.std.proofs.Common.{◌≡◌, ◌≤◌, ◌<◌, ℕ, zero, suc, ◌+◌, List, [], ◌∷◌, inl, inr, length, Option, None, Some, Bool, true, false, refl, sym, ap, subst, ◌∙◌, arith}
-use Rattle.std.specs.Prelude.{◌==◌, ◌&&◌, not, nat_lt, All, IsTrue, Result, Ok, Err, if◌then◌else◌}
+use Rattle.std.specs.Prelude.{◌⊎◌, ◌==◌, ◌&&◌, not, nat_lt, All, IsTrue, Result, Ok, Err, if◌then◌else◌}
 use Rattle.std.proofs.lemmas.List.Elements.{All-nil, All-cons}
 use Rattle.mb_format.specs.Combinators.{items}
 use Rattle.mb_model.specs.declared.order.Act.{Act}
@@ -33,13 +33,20 @@ use Rattle.mb_model.specs.machine.OrderChecks.{IsCountersigned, needs_succession
 use Rattle.mb_model.specs.machine.OrderChecks.{view_of}
 use Rattle.mb_model.specs.machine.OrderEffects.{next_key, state_after_succession, state_after_act, state_after_order}
 use Rattle.mb_model.specs.machine.OrderStep.{OrderStep, spells_none, fails_check, is_obeyed}
-use Rattle.mb_model.specs.machine.LayerEvents.{Outcome, put_event, get_event, drop_event, sign_event}
-use Rattle.mb_model.specs.machine.Machine.{Phase, off, dead, ratchet, World, Told, boot_event, running_state, running_state_in, status_event, go_event, region_event, CommandStep, Machine, Step, machine_step, lacks_memory, loses_power, Run}
+use Rattle.mb_model.specs.machine.LayerEvents.{Outcome, has_name, is_full_for, put_event, get_event, drop_event, sign_event}
+use Rattle.mb_model.specs.machine.Machine.{Phase, off, dead, ratchet, World, Told, boot_event, running_state, running_state_in, status_event, go_event, region_event, CommandStep, CallTold, Machine, Step, machine_step, lacks_memory, loses_power, Run}
 use Rattle.mb_model.specs.memories.Valid.{IsValidState, Valid}
 use Rattle.mb_model.proofs.Passed.{passed}
 use Rattle.mb_model_lemmas.proofs.LogLemmas.{used-push}
 use Rattle.mb_model_lemmas.specs.RegionLaws.{KeepsStatesValid}
-use Rattle.mb_model_lemmas.proofs.ValidStates.{put_keeps, get_keeps, drop_keeps, sign_keeps}
+use Rattle.std.specs.List.{list_any}
+use Rattle.std.proofs.lemmas.Option.{same_Some}
+use Rattle.mb_model.specs.declared.region.RegionKey.{RegionKey}
+use Rattle.mb_model.specs.owners.Layers.{Runnable}
+use Rattle.mb_model.specs.machine.Actions.{Demand, to_keep, to_drop}
+use Rattle.mb_model.specs.machine.Calls.{Call, refuses, demand_outcome, after_demands, answer_by}
+use Rattle.mb_model_lemmas.proofs.CallLemmas.{IsAnswered, IsRefusedCall, AnswersAt, on_layer_comes}
+use Rattle.mb_model_lemmas.proofs.ValidStates.{put_keeps, get_keeps, drop_keeps, sign_keeps, put_valid, drop_valid, use_valid}
 use Rattle.mb_model_lemmas.proofs.ValidLogs.{entries_of-signed}
 use Rattle.mb_model_lemmas.proofs.ValidOrders.{IsAbove, succeeded_valid, changed_valid, keyed_valid}
 
@@ -209,6 +216,58 @@ command_valid world text draw (Ok on) answer next e valid (inr late) = subst (λ
 told_valid : (answer : Reply) (next : World) (told : Told) → ◌≡◌ {A = Told} (answer, next) told → Valid told.1.state → Valid next.state
 told_valid answer next told e valid = subst (λ (t : Told). Valid t.1.state) (sym e) valid
 
+either_layers : (b : Bool) (x y : Outcome) (state : State) → x.1.layers ≡ state.layers → y.1.layers ≡ state.layers → (if b then x else y).1.layers ≡ state.layers
+either_layers true x y state first second = first
+either_layers false x y state first second = second
+
+pub unless_met : (b : Bool) (onwards : Option State) (done : State) → (if b then None else onwards) ≡ Some done → onwards ≡ Some done
+unless_met true onwards done e = absurd (grind (arith, e))
+unless_met false onwards done e = e
+
+-- demands leave a valid state valid, and one use of a key does
+demand_valid : (layer : ℕ) (demand : Demand) (state : State) → Runnable state.layers layer → IsValidState state → IsValidState (demand_outcome layer demand state).1
+demand_valid layer (to_keep name value) state runs valid = put_valid layer name value state runs valid
+demand_valid layer (to_drop name) state runs valid = drop_valid layer name state runs valid
+
+same_layers : (layer : ℕ) (demand : Demand) (state : State) → (demand_outcome layer demand state).1.layers ≡ state.layers
+unfolding put_event drop_event
+same_layers layer (to_keep name value) state = either_layers (is_full_for name (region_of state layer)) _ _ state refl refl
+same_layers layer (to_drop name) state = either_layers (list_any (has_name name) (region_of state layer).secrets) _ _ state refl refl
+
+pub demands_valid : (layer : ℕ) (demands : List Demand) (state done : State) → Runnable state.layers layer → IsValidState state → after_demands layer demands state ≡ Some done
+    → IsValidState done × Runnable done.layers layer
+unfolding after_demands
+demands_valid layer [] state done runs valid met =
+    let same : state ≡ done = same_Some state done met in
+    (subst IsValidState same valid, subst (λ (s : State). Runnable s.layers layer) same runs)
+demands_valid layer (demand ∷ later) state done runs valid met =
+    let outcome : Outcome = demand_outcome layer demand state in
+    demands_valid layer later outcome.1 done (subst (λ l. Runnable l layer) (sym (same_layers layer demand state)) runs) (demand_valid layer demand state runs valid)
+    (unless_met (refuses outcome.0) (after_demands layer later outcome.1) done met)
+
+answered_valid : (call : Call) (state : State) (outcome : Outcome) (is : IsAnswered state call outcome) → Runnable state.layers call.layer → IsValidState state
+    → (key : Option RegionKey) → is.key ≡ key → IsValidState outcome.1
+answered_valid call state outcome is runs valid None same =
+    subst IsValidState (sym (ap (λ (o : Outcome). o.1) is.comes ∙ ap (λ (k : Option RegionKey). (answer_by call.layer k call.input is.action.answer state is.done).1) same))
+    (demands_valid call.layer is.action.demands state is.done runs valid is.met).0
+answered_valid call state outcome is runs valid (Some key) same =
+    let done = demands_valid call.layer is.action.demands state is.done runs valid is.met in
+    subst IsValidState (sym (ap (λ (o : Outcome). o.1) is.comes ∙ ap (λ (k : Option RegionKey). (answer_by call.layer k call.input is.action.answer state is.done).1) same))
+    (use_valid call.layer key.number is.done done.1 done.0)
+
+told_state_valid : (world : World) (call : Call) (next : World) (on : ℕ × State) (outcome : Outcome) → running_state_in world ≡ Ok on → Valid world.state
+    → AnswersAt on.0 call on.1 outcome ⊎ IsRefusedCall on.1 outcome → next ≡ record world { state = Some outcome.1 } → Valid next.state
+told_state_valid world call next on outcome e valid (inl answers) follows =
+    subst (λ (w : World). Valid w.state) (sym follows) (answered_valid call on.1 outcome answers.is answers.runs (awake_valid world valid on e) answers.is.key refl)
+told_state_valid world call next on outcome e valid (inr refused) follows =
+    subst (λ (w : World). Valid w.state) (sym follows) (subst IsValidState (sym refused.1) (awake_valid world valid on e))
+
+call_valid : (world : World) (call : Call) (on : Result (ℕ × State) Refusal) (answer : Reply) (next : World) → running_state_in world ≡ on → Valid world.state
+    → CallTold world call on answer next → Valid next.state
+call_valid world call (Err refusal) answer next e valid x = subst (λ (w : World). Valid w.state) (sym x.1) valid
+call_valid world call (Ok on) answer next e valid (outcome, at, told, follows) =
+    told_state_valid world call next on outcome e valid (on_layer_comes on.0 call on.1 outcome at) follows
+
 pub machine_valid : (world : World) (e : Event) (answer : Reply) (next : World) → Valid world.state → Machine world e answer next → Valid next.state
 machine_valid world event.Boot answer next valid is = told_valid answer next _ is (booted_valid world world.phase world.state valid)
 machine_valid world event.Off answer next valid is = subst (λ (w : World). Valid w.state) (sym is.1) valid
@@ -221,6 +280,7 @@ machine_valid world (event.Put L name value) answer next valid is = told_valid a
 machine_valid world (event.Get L name) answer next valid is = told_valid answer next _ is (region_event_valid world L (get_event L name) (running_state_in world) refl (get_keeps L name) valid)
 machine_valid world (event.Drop L name) answer next valid is = told_valid answer next _ is (region_event_valid world L (drop_event L name) (running_state_in world) refl (drop_keeps L name) valid)
 machine_valid world (event.Sign L key message) answer next valid is = told_valid answer next _ is (region_event_valid world L (sign_event L key message) (running_state_in world) refl (sign_keeps L key message) valid)
+machine_valid world (event.Call L key input) answer next valid is = call_valid world _ (running_state_in world) answer next refl valid is
 
 -- each step leads from a valid state to a valid one
 pub step_valid : (world : World) (e : Event) (answer : Reply) (next : World) → Valid world.state → Step world e answer next → Valid next.state

@@ -1,9 +1,9 @@
 -- Lemmas on the words of a line: no number and no name has a space in it, and each word is one value.
-use Rattle.std.proofs.Common.{◌≡◌, ℕ, ◌+◌, ◌%◌, ◌<◌, ◌≤◌, ◌^◌, inl, inr, List, [], ◌∷◌, ◌++◌, length, refl, sym, ap, subst, ◌∙◌, arith}
+use Rattle.std.proofs.Common.{◌≡◌, ℕ, ◌+◌, ◌%◌, ◌<◌, ◌≤◌, ◌^◌, inl, inr, List, [], ◌∷◌, ◌++◌, length, refl, sym, ap, subst, ◌∙◌, arith, length-append}
 use Rattle.std.specs.Prelude.{◌⊎◌, All, codes, IsTrue, Ok}
 use Rattle.std.specs.Fmt.{decimal}
 use Rattle.std.proofs.lemmas.Fmt.{decimal_by_steps, decimal_injective}
-use Rattle.std.proofs.lemmas.List.Elements.{All-nil, All-cons, All-append, All-weaker}
+use Rattle.std.proofs.lemmas.List.Elements.{All-nil, All-cons, All-head, All-append, All-weaker}
 use Rattle.hex.specs.Hex.{encode_lower, decode_of}
 use Rattle.hex.proofs.HexLemmas.{decode_of-ok, decode_of-same, decode_of-encode_lower, length-encode_with}
 use Rattle.mb_format.specs.Format.{IsBytes}
@@ -28,6 +28,23 @@ decimal_digits n fits =
 -- a number has no space
 pub decimal_spaceless : (n : ℕ) → n < 2 ^ 64 → Without 32 (decimal n)
 decimal_spaceless n fits = All-weaker is_digit (isnt 32) (λ byte least is. omega (arith, least, is)) (decimal n) (decimal_digits n fits)
+
+-- a number has a digit
+decimal_some : (n : ℕ) → n < 2 ^ 64 → 0 < length (decimal n)
+decimal_some n fits =
+    decimal_by_steps (λ m ds. 0 < length ds) (λ m less. omega arith)
+    (λ m ds least more. omega (arith, length-append ds ((48 + m % 10) ∷ []))) n fits
+
+-- a number begins with a digit, and no dash
+pub no_dash : (n : ℕ) → n < 2 ^ 64 → (xs ys : List ℕ) → 45 ∷ xs ≡ decimal n ++ ys → ⊥
+no_dash n small xs ys e = by (decimal n) (decimal_digits n small) (decimal_some n small) e
+  where
+    by : (word : List ℕ) → All is_digit word → 0 < length word → 45 ∷ xs ≡ word ++ ys → ⊥
+    by [] digits some e = omega (arith, some)
+    by (d ∷ word) digits some e =
+        let first : 45 ≡ d = cc in
+        let digit = All-head is_digit d word digits in
+        omega (arith, first, digit)
 
 -- numbers before spaces are one number
 pub number_front : (m n : ℕ) (xs ys : List ℕ) → m < 2 ^ 64 → n < 2 ^ 64 → decimal m ++ 32 ∷ xs ≡ decimal n ++ 32 ∷ ys → (m ≡ n) × (xs ≡ ys)

@@ -1,10 +1,10 @@
 -- Each step of the machine leads from a state that can be stored to one that can be.
-use Rattle.std.proofs.Common.{◌≡◌, ◌≤◌, ◌<◌, ℕ, ◌+◌, List, [], ◌∷◌, ◌++◌, inl, inr, length, map, Option, None, Some, Bool, true, false, refl, sym, ap, subst, ◌∙◌, arith, length-append, eqb-true, ne_eqb, cond}
+use Rattle.std.proofs.Common.{◌≡◌, ◌≤◌, ◌<◌, ◌⊎◌, ℕ, ◌+◌, ◌^◌, List, [], ◌∷◌, ◌++◌, inl, inr, length, map, Option, None, Some, Bool, true, false, refl, sym, ap, subst, ◌∙◌, arith, length-append, eqb-true, ne_eqb, cond}
 use Rattle.std.specs.Prelude.{◌&&◌, ◌||◌, not, find, filter, nat_lt, nat_le, All, AllPairs, IsTrue, Result, Ok, Err, if◌then◌else◌}
 use Rattle.std.specs.List.{list_any}
 use Rattle.std.proofs.lemmas.Bool.{and_from, leb-false, le-leb}
 use Rattle.std.proofs.lemmas.List.{length-map}
-use Rattle.std.proofs.lemmas.List.Elements.{All-nil, All-cons, All-head, All-tail, All-push, All-map, All-weaker, All-filter}
+use Rattle.std.proofs.lemmas.List.Elements.{All-nil, All-cons, All-head, All-tail, All-push, All-map, All-weaker, All-filter, All-from_recursion}
 use Rattle.std.proofs.lemmas.List.Sums.{length-filter, count_by-le-length, list_all-from_AllPass}
 use Rattle.mb_model.specs.declared.event.Event.{Event}
 use Rattle.mb_model.specs.declared.event.Answered.{Answered}
@@ -15,25 +15,30 @@ use Rattle.mb_model.specs.declared.region.Region.{Region}
 use Rattle.mb_model.specs.declared.region.RegionKey.{RegionKey}
 use Rattle.mb_model.specs.declared.region.Secret.{Secret}
 use Rattle.mb_model.specs.declared.state.State.{State}
-use Rattle.mb_model.specs.owners.Layers.{is_upper, is_runnable}
+use Rattle.mb_model.specs.owners.Layers.{is_upper, is_runnable, Runnable}
 use Rattle.mb_model.specs.owners.Log.{entries_of, number_of}
 use Rattle.mb_model.specs.declared.reply.Refusal.{Refusal}
-use Rattle.mb_model.specs.declared.reply.Refusal.TheVariants.{WrongPhase, WrongLayer}
+use Rattle.mb_model.specs.declared.reply.Refusal.TheVariants.{WrongPhase, WrongLayer, WrongCode}
 use Rattle.mb_model.specs.machine.Refusals.{refusal_reply}
 use Rattle.mb_model.specs.records.RootFormat.{region_key_format}
 use Rattle.mb_model.specs.records.RegionFormat.{is_name_byte, is_name, secret_format}
-use Rattle.mb_model.specs.owners.Regions.{region_of}
+use Rattle.mb_model.specs.owners.Regions.{region_of, with_region}
 use Rattle.mb_model.specs.machine.OrderStep.{OrderStep, spells_none, fails_check, is_obeyed}
-use Rattle.mb_model.specs.machine.LayerEvents.{Outcome, has_name, with_secret, has_number, with_use, put_event, get_event, drop_event, sign_with, sign_event, on_region}
-use Rattle.mb_model.specs.machine.Machine.{Phase, off, dead, ratchet, World, Told, boot_event, running_state, running_state_in, status_event, go_event, region_event, CommandStep, Machine, Step, machine_step, lacks_memory, loses_power, Run}
+use Rattle.mb_model.specs.machine.LayerEvents.{Outcome, has_name, with_secret, has_number, with_use, put_event, get_event, drop_event, sign_with, sign_event, on_region, code_in, takes_calls}
+use Rattle.mb_model.specs.machine.Machine.{Phase, off, dead, ratchet, World, Told, boot_event, running_state, running_state_in, status_event, go_event, region_event, CallTold, CommandStep, Machine, Step, machine_step, lacks_memory, loses_power, Run}
 use Rattle.mb_model.specs.chains.Script.{IsName, FitsMessage, IsScriptEvent}
 use Rattle.mb_model.specs.memories.Valid.{IsValidState, Valid}
 use Rattle.mb_model_lemmas.proofs.FateLemmas.{keys_increase}
 use Rattle.mb_model_lemmas.proofs.ValidStates.{valid_is_ruled, region_is_valid}
-use Rattle.mb_model_lemmas.proofs.ValidSteps.{step_valid}
+use Rattle.mb_model.specs.machine.Actions.{Demand, to_keep, to_drop, Action, name_format, value_format, demand_format, action_format}
+use Rattle.mb_model.specs.machine.Calls.{Call, refuses, key_for, demand_outcome, after_demands, answer_by}
+use Rattle.mb_model_lemmas.proofs.CallLemmas.{IsAnswered, IsRefusedCall, AnswersAt, on_layer_comes}
+use Rattle.mb_model_lemmas.proofs.DemandLemmas.{demands_spare, key_asked}
+use Rattle.mb_model_lemmas.proofs.ValidSteps.{unless_met, demands_valid, step_valid}
 use Rattle.mb_model_lemmas.proofs.ValidRegions.{used_if}
 use Rattle.mb_model_lemmas.proofs.RefusalLemmas.{awake_state}
 use Rattle.mb_model_lemmas.proofs.ListLemmas.{pairs_head, pairs_tail, found_is}
+use Rattle.mb_format.proofs.Compositions.{items_all}
 use Rattle.mb_model_memory.specs.Storable.{IsStorableRegion, IsStorableState, Storable}
 use Rattle.mb_model_memory.proofs.StorableFormats.{used_key_allowed, secret_allowed}
 use Rattle.mb_model_memory.proofs.StorableOrders.{number_small, region_of-storable, with_region_storable, obeyed_storable}
@@ -45,11 +50,12 @@ abbrev KeepsStorable : (State → Outcome) → Type 0
 KeepsStorable does = (state : State) → IsValidState state → IsStorableState state → IsStorableState (does state).1
 
 where_it_runs : (r L : ℕ) (does : State → Outcome) (state : State) → KeepsStorable does → IsValidState state → IsStorableState state → IsStorableState (on_region r L does state).1
-where_it_runs r L does state keeps valid is = by (nat_lt L r || not (is_runnable state.layers L))
+where_it_runs r L does state keeps valid is = by (nat_lt L r || not (is_runnable state.layers L)) (takes_calls (code_in state.codes L))
   where
-    by : (refuses : Bool) → IsStorableState (if refuses then (refusal_reply WrongLayer, state) else does state).1
-    by true = is
-    by false = keeps state valid is
+    by : (refuses taken : Bool) → IsStorableState (if refuses then (refusal_reply WrongLayer, state) else if taken then (refusal_reply WrongCode, state) else does state).1
+    by true taken = is
+    by false true = is
+    by false false = keeps state valid is
 
 either_kept : (b : Bool) (one other : Outcome) → (b ≡ true → IsStorableState one.1) → (b ≡ false → IsStorableState other.1) → IsStorableState (if b then one else other).1
 either_kept true one other first second = first refl
@@ -89,14 +95,20 @@ name_byte byte within = and_from (nat_le 0x21 byte) (nat_le byte 0x7E) (le-leb 0
 pub named : (name : List ℕ) → IsName name → is_name name ≡ true
 named name is = list_all-from_AllPass is_name_byte name (All-weaker (λ (byte : ℕ). (0x21 ≤ byte) × (byte ≤ 0x7E)) (λ (byte : ℕ). is_name_byte byte ≡ true) name_byte name is.printed)
 
-put_keeps : (L : ℕ) (name value : List ℕ) → IsName name → FitsMessage value → KeepsStorable (put_event L name value)
+-- a secret that may be written, with any number that does
+put_allowed : (L : ℕ) (name value : List ℕ) (state : State) → IsStorableState state → ((born : ℕ) → born < 2 ^ 32 → secret_format.Allowed (record { name = name; value = value; born = born }))
+    → IsStorableState (put_event L name value state).1
 unfolding put_event
-put_keeps L name value is_name fits state valid is =
+put_allowed L name value state is allowed =
     let region : Region = region_of state L in
     let new : Secret = record { name = name; value = value; born = number_of (entries_of state.log) } in
-    let own : secret_format.Allowed new = secret_allowed new is_name.some is_name.most (named name is_name) fits (number_small state is) in
+    let own : secret_format.Allowed new = allowed (number_of (entries_of state.log)) (number_small state is) in
     either_kept (not (list_any (has_name name) region.secrets) && nat_le 22 (length region.secrets)) _ _ (λ full. is)
     (λ room. with_region_storable state L (record region { secrets = with_secret new region.secrets }) is (put_region new region own (region_of-storable state L is) room))
+
+put_keeps : (L : ℕ) (name value : List ℕ) → IsName name → FitsMessage value → KeepsStorable (put_event L name value)
+put_keeps L name value is_name fits state valid is =
+    put_allowed L name value state is (λ born small. secret_allowed _ is_name.some is_name.most (named name is_name) fits small)
 
 get_keeps : (L : ℕ) (name : List ℕ) → KeepsStorable (get_event L name)
 unfolding get_event
@@ -196,6 +208,71 @@ sign_keeps : (L number : ℕ) (message : List ℕ) → IsTrue (is_upper L) → K
 unfolding sign_event
 sign_keeps L number message upper state valid is = sign_by L number (find (has_number number) (region_of state L).keys) message state upper refl valid is
 
+-- ---- calls
+
+-- a demand may be written
+demand_storable : (L : ℕ) (demand : Demand) (state : State) → demand_format.Allowed demand → IsStorableState state → IsStorableState (demand_outcome L demand state).1
+unfolding demand_format name_format value_format secret_format drop_event
+demand_storable L (to_keep name value) state allowed is = put_allowed L name value state is (λ born small. (allowed.1.0, (allowed.1.1, small)))
+demand_storable L (to_drop name) state allowed is =
+    either_kept (list_any (has_name name) (region_of state L).secrets) _ _ (λ there. with_region_storable state L _ is (drop_region name (region_of state L) (region_of-storable state L is))) (λ absent. is)
+
+demands_storable : (L : ℕ) (demands : List Demand) (state done : State) → All demand_format.Allowed demands → IsStorableState state → after_demands L demands state ≡ Some done → IsStorableState done
+unfolding after_demands
+demands_storable L [] state done are is met = subst IsStorableState (same_some state done met) is
+  where
+    same_some : (a b : State) → Some a ≡ Some b → a ≡ b
+    same_some a b e = cc
+demands_storable L (demand ∷ later) state done are is met =
+    let outcome : Outcome = demand_outcome L demand state in
+    demands_storable L later outcome.1 done (All-tail demand_format.Allowed demand later are)
+    (demand_storable L demand state (All-head demand_format.Allowed demand later are) is)
+    (unless_met (refuses outcome.0) (after_demands L later outcome.1) done met)
+
+-- what an action asks for may be written
+demands_allowed : (action : Action) → action_format.Allowed action → All demand_format.Allowed action.demands
+unfolding action_format
+demands_allowed action allowed = All-from_recursion demand_format.Allowed action.demands (items_all demand_format (length action.demands) action.demands allowed.0.1).1
+
+-- a key that is found with an index left may be used once more
+used_storable : (L : ℕ) (key : RegionKey) (state : State) → IsTrue (is_upper L) → find (has_number key.number) (region_of state L).keys ≡ Some key → key.uses < 32
+    → IsValidState state → IsStorableState state → IsStorableState (with_region state L (record (region_of state L) { keys = with_use key.number (region_of state L).keys }))
+used_storable L key state upper own left valid is =
+    let region : Region = region_of state L in
+    let up : AllPairs (λ (a b : RegionKey). a.number < b.number) region.keys = keys_increase (entries_of state.log) L region.keys (valid_is_ruled state valid) (region_is_valid state L upper valid).keys in
+    with_region_storable state L _ is (use_region key.number key region up (region_of-storable state L is) own left)
+
+-- an answered call leads to a state that can be stored
+answered_storable : (call : Call) (state : State) (outcome : Outcome) → IsTrue (is_upper call.layer) → Runnable state.layers call.layer → IsAnswered state call outcome
+    → IsValidState state → IsStorableState state → IsStorableState outcome.1
+answered_storable call state outcome upper runs answered valid is =
+    let done_valid : IsValidState answered.done = (demands_valid call.layer answered.action.demands state answered.done runs valid answered.met).0 in
+    let done_storable : IsStorableState answered.done =
+    demands_storable call.layer answered.action.demands state answered.done (demands_allowed answered.action answered.spelled.allowed) is answered.met in
+    subst (λ (o : Outcome). IsStorableState o.1) (sym answered.comes) (by answered.key answered.found done_valid done_storable)
+  where
+    by : (key : Option RegionKey) → key_for call.key (region_of state call.layer) ≡ Ok key → IsValidState answered.done → IsStorableState answered.done
+        → IsStorableState (answer_by call.layer key call.input answered.action.answer state answered.done).1
+    by None found done_valid done_storable = done_storable
+    by (Some key) found done_valid done_storable =
+        let asked = key_asked call.key (region_of state call.layer) key found in
+        let spared = demands_spare call.layer answered.action.demands state answered.done answered.met in
+        let own : find (has_number key.number) (region_of answered.done call.layer).keys ≡ Some key =
+        ap (λ (n : ℕ). find (has_number n) (region_of answered.done call.layer).keys) asked.number_is
+        ∙ ap (λ (keys : List RegionKey). find (has_number asked.number) keys) spared.keys ∙ asked.found in
+        used_storable call.layer key answered.done upper own (leb-false 32 key.uses asked.left) done_valid done_storable
+
+told_call_storable : (world : World) (call : Call) (on : Result (ℕ × State) Refusal) (answer : Reply) (next : World) → running_state world.phase world.state ≡ on → IsTrue (is_upper call.layer)
+    → Valid world.state → Storable world.state → CallTold world call on answer next → Storable next.state
+told_call_storable world call (Err refusal) answer next e upper valid is step = subst (λ (w : World). Storable w.state) (sym step.1) is
+told_call_storable world call (Ok on) answer next e upper valid is step =
+    let own : world.state ≡ Some on.1 = awake_state world.phase world.state on e in
+    subst (λ (w : World). Storable w.state) (sym step.3) (by (on_layer_comes on.0 call on.1 step.0 step.1) (subst Valid own valid) (subst Storable own is))
+  where
+    by : AnswersAt on.0 call on.1 step.0 ⊎ IsRefusedCall on.1 step.0 → IsValidState on.1 → IsStorableState on.1 → IsStorableState step.0.1
+    by (inl answers) sound fits = answered_storable call on.1 step.0 upper answers.runs answers.is sound fits
+    by (inr refused) sound fits = subst IsStorableState (sym refused.1) fits
+
 -- ---- orders
 
 order_step_storable : (state : State) (text draw : List ℕ) (answer : Reply) (next : State) → IsStorableState state → OrderStep state text draw answer next → IsStorableState next
@@ -264,6 +341,7 @@ machine_storable world (event.Drop L name) answer next script valid is step =
     told_storable answer next _ step (region_event_storable world L (drop_event L name) (running_state_in world) refl (drop_keeps L name) valid is)
 machine_storable world (event.Sign L key message) answer next script valid is step =
     told_storable answer next _ step (region_event_storable world L (sign_event L key message) (running_state_in world) refl (sign_keeps L key message script.0) valid is)
+machine_storable world (event.Call L key input) answer next script valid is step = told_call_storable world _ (running_state_in world) answer next refl script.0 valid is step
 
 pub step_keeps_storable : (world : World) (e : Event) (answer : Reply) (next : World) → IsScriptEvent e → Valid world.state → Storable world.state → Step world e answer next → Storable next.state
 step_keeps_storable world e answer next script valid is (machine_step machine) = machine_storable world e answer next script valid is machine

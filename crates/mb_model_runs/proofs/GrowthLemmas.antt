@@ -63,6 +63,7 @@ growth_kept = record {
   dies = λ o. tt;
   secrets = λ state L secrets. begins_same state.log;
   used = λ state L number. begins_same state.log;
+  called = λ state L secrets number. begins_same state.log;
   order = obeyed_begins;
 }
 

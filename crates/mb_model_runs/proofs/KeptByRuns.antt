@@ -1,5 +1,5 @@
 -- What each step keeps, a run keeps; and what a step comes to that is answered by a statement.
-use Rattle.std.proofs.Common.{◌≡◌, ℕ, ◌+◌, List, [], ◌∷◌, inl, inr, length, Option, None, Some, Bool, true, false, refl, sym, ap, subst}
+use Rattle.std.proofs.Common.{◌≡◌, ◌⊎◌, ℕ, ◌+◌, List, [], ◌∷◌, inl, inr, length, Option, None, Some, Bool, true, false, refl, sym, ap, subst}
 use Rattle.std.specs.Prelude.{Result, Ok, Err, not, nat_lt, nat_le, ◌&&◌, ◌||◌, find, if◌then◌else◌, All}
 use Rattle.std.specs.List.{list_any}
 use Rattle.std.proofs.lemmas.List.Elements.{All-nil, All-cons, All-weaker}
@@ -14,22 +14,22 @@ use Rattle.mb_model.specs.declared.reply.Reply.TheVariants as reply
 use Rattle.mb_model.specs.declared.state.State.{State}
 use Rattle.mb_model.specs.owners.Layers.{is_runnable}
 use Rattle.mb_model.specs.declared.reply.Refusal.{Refusal}
-use Rattle.mb_model.specs.declared.reply.Refusal.TheVariants.{WrongPhase, WrongLayer}
+use Rattle.mb_model.specs.declared.reply.Refusal.TheVariants.{WrongPhase, WrongLayer, WrongCode}
 use Rattle.mb_model.specs.machine.Refusals.{refusal_reply}
 use Rattle.mb_model.specs.owners.Regions.{region_of, with_region}
 use Rattle.mb_model.specs.machine.OrderEffects.{state_after_order}
 use Rattle.mb_model.specs.machine.OrderStep.{OrderStep, spells_none, fails_check, is_obeyed}
-use Rattle.mb_model.specs.machine.LayerEvents.{Outcome, on_region, has_name, has_number, with_use, put_event, get_event, drop_event, sign_with, sign_event}
-use Rattle.mb_model.specs.machine.Machine.{Phase, off, dead, ratchet, World, Told, boot_event, running_state_in, status_event, go_event, region_event, CommandStep, Machine, Step, machine_step, lacks_memory, loses_power, Run}
+use Rattle.mb_model.specs.machine.LayerEvents.{Outcome, on_region, has_name, has_number, with_use, put_event, get_event, drop_event, sign_with, sign_event, code_in, takes_calls}
+use Rattle.mb_model.specs.machine.Calls.{Call, answer_by}
+use Rattle.mb_model.specs.machine.Machine.{Phase, off, dead, ratchet, World, Told, boot_event, running_state_in, status_event, go_event, region_event, CallTold, CommandStep, Machine, Step, machine_step, lacks_memory, loses_power, Run}
+use Rattle.mb_model_lemmas.proofs.CallLemmas.{IsAnswered, IsRefusedCall, AnswersAt, on_layer_comes}
+use Rattle.mb_model_lemmas.proofs.DemandLemmas.{with_secrets, ChangesSecrets, demands_change}
 use Rattle.mb_model_lemmas.proofs.RefusalLemmas.{awake_state}
 use Rattle.mb_model.specs.machine.Runs.{worlds_of}
 
 -- ---- what each step keeps
 
--- the region with other secrets, and with a key that has been used once more
-abbrev pub with_secrets : State → ℕ → List Secret → State
-with_secrets state L secrets = with_region state L (record (region_of state L) { secrets = secrets })
-
+-- the state with one more use of a key of a region
 abbrev pub with_one_use : State → ℕ → ℕ → State
 with_one_use state L number = with_region state L (record (region_of state L) { keys = with_use number (region_of state L).keys })
 
@@ -39,6 +39,7 @@ pub record IsKept (R : Option State → Option State → Type 0) : Type 0 where
   pub dies : (o : Option State) → R o None
   pub secrets : (state : State) (L : ℕ) (secrets : List Secret) → R (Some state) (Some (with_secrets state L secrets))
   pub used : (state : State) (L number : ℕ) → R (Some state) (Some (with_one_use state L number))
+  pub called : (state : State) (L : ℕ) (secrets : List Secret) (number : ℕ) → R (Some state) (Some (with_one_use (with_secrets state L secrets) L number))
   pub order : (state : State) (order : Order) (draw : List ℕ) → R (Some state) (Some (state_after_order state order draw))
 
 module _ (R : Option State → Option State → Type 0) (kept : IsKept R) where
@@ -75,7 +76,8 @@ module _ (R : Option State → Option State → Type 0) (kept : IsKept R) where
   region_kept world L does (Err refusal) is each = kept.same world.state
   region_kept world L does (Ok on) is each =
       let after : Outcome = on_region on.0 L does on.1 in
-      let from : R (Some on.1) (Some after.1) = either_kept on.1 (nat_lt L on.0 || not (is_runnable on.1.layers L)) (refusal_reply WrongLayer, on.1) (does on.1) (kept.same (Some on.1)) (each on.1) in
+      let from : R (Some on.1) (Some after.1) = either_kept on.1 (nat_lt L on.0 || not (is_runnable on.1.layers L)) (refusal_reply WrongLayer, on.1) _ (kept.same (Some on.1))
+      (either_kept on.1 (takes_calls (code_in on.1.codes L)) (refusal_reply WrongCode, on.1) (does on.1) (kept.same (Some on.1)) (each on.1)) in
       subst (λ (o : Option State). R o (Some after.1)) (sym (awake_state world.phase world.state on is)) from
 
   order_kept : (state : State) (text draw : List ℕ) (answer : Reply) (next : State) → OrderStep state text draw answer next → R (Some state) (Some next)
@@ -95,6 +97,28 @@ module _ (R : Option State → Option State → Type 0) (kept : IsKept R) where
       of_same world next (record world { state = Some x.1.0 }) x.1.2
       (subst (λ (o : Option State). R o (Some x.1.0)) (sym (awake_state world.phase world.state on is)) from)
   command_kept world text draw (Ok on) answer next is (inr x) = of_same world next world x.2 (kept.same world.state)
+
+  -- what code asked for is done, and maybe a key has signed
+  answered_kept : (call : Call) (state : State) (outcome : Outcome) → IsAnswered state call outcome → R (Some state) (Some outcome.1)
+  answered_kept call state outcome is =
+      let changed = demands_change call.layer is.action.demands state is.done is.met in
+      subst (λ (o : Outcome). R (Some state) (Some o.1)) (sym is.comes) (by is.key changed)
+    where
+      by : (key : Option RegionKey) → ChangesSecrets call.layer state is.done → R (Some state) (Some (answer_by call.layer key call.input is.action.answer state is.done).1)
+      by None changed = subst (λ (s : State). R (Some state) (Some s)) (sym changed.1) (kept.secrets state call.layer changed.0)
+      by (Some key) changed =
+          subst (λ (s : State). R (Some state) (Some (with_one_use s call.layer key.number))) (sym changed.1) (kept.called state call.layer changed.0 key.number)
+
+  call_kept : (world : World) (call : Call) (on : Result (ℕ × State) Refusal) (answer : Reply) (next : World) → running_state_in world ≡ on
+      → CallTold world call on answer next → R world.state next.state
+  call_kept world call (Err refusal) answer next is x = of_same world next world x.1 (kept.same world.state)
+  call_kept world call (Ok on) answer next is (outcome, at, told, follows) =
+      of_same world next (record world { state = Some outcome.1 }) follows
+      (subst (λ (o : Option State). R o (Some outcome.1)) (sym (awake_state world.phase world.state on is)) (by (on_layer_comes on.0 call on.1 outcome at)))
+    where
+      by : AnswersAt on.0 call on.1 outcome ⊎ IsRefusedCall on.1 outcome → R (Some on.1) (Some outcome.1)
+      by (inl answers) = answered_kept call on.1 outcome answers.is
+      by (inr refused) = subst (λ (s : State). R (Some on.1) (Some s)) (sym refused.1) (kept.same (Some on.1))
 
   boot_kept : (world : World) (phase : Phase) (state : Option State) → R world.state (boot_event world phase state).1.state
   boot_kept world off (Some state) = kept.same world.state
@@ -136,6 +160,7 @@ module _ (R : Option State → Option State → Type 0) (kept : IsKept R) where
       told_kept world answer next (region_event world L (drop_event L name) (running_state_in world)) x (region_kept world L (drop_event L name) (running_state_in world) refl (drop_kept L name))
   machine_kept world (event.Sign L key message) answer next x =
       told_kept world answer next (region_event world L (sign_event L key message) (running_state_in world)) x (region_kept world L (sign_event L key message) (running_state_in world) refl (sign_kept L key message))
+  machine_kept world (event.Call L key input) answer next x = call_kept world _ (running_state_in world) answer next refl x
 
   -- a power loss leaves the state before or the one after
   pub step_kept : (world : World) (given : Event) (answer : Reply) (next : World) → Step world given answer next → R world.state next.state

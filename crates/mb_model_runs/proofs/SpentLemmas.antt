@@ -5,6 +5,7 @@ use Rattle.std.proofs.lemmas.List.Elements.{All-nil, All-cons, All-push, All-map
 use Rattle.std.proofs.lemmas.List.Kept.{AllPairs-cons}
 use Rattle.mb_model.specs.declared.entry.Entry.{Entry}
 use Rattle.mb_model.specs.declared.entry.Entry.TheVariants.{Succession}
+use Rattle.mb_model.specs.declared.entry.Said.{Said}
 use Rattle.mb_model.specs.declared.event.Answered.{Answered}
 use Rattle.mb_model.specs.declared.layer.Layers.{Layers}
 use Rattle.mb_model.specs.declared.layer.Pair.{Pair}
@@ -36,7 +37,8 @@ use Rattle.mb_model_lemmas.proofs.ValidLogs.{entries_of-signed}
 use Rattle.mb_model_lemmas.proofs.ValidSteps.{step_valid}
 use Rattle.mb_model_lemmas.proofs.ValidRegions.{used_if}
 use Rattle.mb_model.specs.machine.Runs.{IsSignedAt}
-use Rattle.mb_model_runs.proofs.KeptByRuns.{with_secrets, with_one_use, IsKept, step_kept}
+use Rattle.mb_model_lemmas.proofs.DemandLemmas.{with_secrets}
+use Rattle.mb_model_runs.proofs.KeptByRuns.{with_one_use, IsKept, step_kept}
 use Rattle.mb_model_runs.proofs.KeyLemmas.{one_in, upper_of, key_born, one_region, numbers_increase}
 use Rattle.mb_model_runs.proofs.SignedSteps.{SignsIn, StepSigns, step_signs}
 
@@ -174,6 +176,7 @@ spent_kept n u = record {
   dies = λ o spent. tt;
   secrets = secrets_spent n u;
   used = used_spent n u;
+  called = λ state L secrets number spent. used_spent n u (with_secrets state L secrets) L number (secrets_spent n u state L secrets spent);
   order = obeyed_spent n u;
 }
 
@@ -242,10 +245,12 @@ signer_spent state L key valid within =
     })
     within
 
-signing_spends : (state : State) (L : ℕ) (message : List ℕ) (n index : ℕ) (statement : List ℕ) (after : State) → IsValidState state → SignsIn state L message n index statement after → IsSpent n (index + 1) after
-signing_spends state L message n index statement after valid signs =
-    let next : State = with_one_use state L signs.key.number in
-    let spent : IsSpent signs.key.number (signs.key.uses + 1) next = signer_spent state L signs.key valid signs.within in
+signing_spends : (state : State) (L : ℕ) (said : Said) (n index : ℕ) (statement : List ℕ) (after : State) → IsValidState state → SignsIn state L said n index statement after → IsSpent n (index + 1) after
+signing_spends state L said n index statement after valid signs =
+    let between : State = signs.between in
+    let there : Contains (region_of between L).keys signs.key = subst (λ (keys : List RegionKey). Contains keys signs.key) (sym signs.spares.keys) signs.within in
+    let next : State = with_one_use between L signs.key.number in
+    let spent : IsSpent signs.key.number (signs.key.uses + 1) next = signer_spent between L signs.key (signs.keeps_valid valid) there in
     subst (IsSpent n (index + 1)) (sym signs.after_is)
     (subst (λ (m : ℕ). IsSpent m (index + 1) next) signs.number_is
     (subst (λ (i : ℕ). IsSpent signs.key.number (i + 1) next) signs.index_is spent))
@@ -255,8 +260,8 @@ region_by P true c two three x y = x
 region_by P false true two three x y = y
 region_by P false false two three x y = All-nil P
 
-signed_past : (n u L index : ℕ) (message statement : List ℕ) (state after : State) → IsSpent n u state → SignsIn state L message n index statement after → u ≤ index
-signed_past n u L index message statement state after spent signs =
+signed_past : (n u L index : ℕ) (said : Said) (statement : List ℕ) (state after : State) → IsSpent n u state → SignsIn state L said n index statement after → u ≤ index
+signed_past n u L index said statement state after spent signs =
     let keys : List RegionKey = (region_of state L).keys in
     let all : All (IsUsed n u) keys = region_by (IsUsed n u) (L == 2) (L == 3) state.two state.three spent.two spent.three in
     let used : IsUsed n u signs.key = All-contains (IsUsed n u) keys signs.key all signs.within in
@@ -274,14 +279,14 @@ at_least : (n u : ℕ) (world : World) (this : Answered) (next : World) → IsSp
     → (index : ℕ) → IsSignedAt n index this → u ≤ index
 at_least n u world this next spent step index at =
     let signs = step_by world this next n index step at in
-    signed_past n u signs.L index signs.message at.0 signs.state signs.after (subst (IsSpentIn n u) signs.was spent) signs.signs
+    signed_past n u signs.L index signs.said at.0 signs.state signs.after (subst (IsSpentIn n u) signs.was spent) signs.signs
 
 spent_after : (n : ℕ) (world : World) (this : Answered) (next : World) → Valid world.state → Step world this.event this.reply next
     → (index : ℕ) → IsSignedAt n index this → IsSpentIn n (index + 1) next.state
 spent_after n world this next valid step index at =
     let signs = step_by world this next n index step at in
     let here : IsValidState signs.state = subst Valid signs.was valid in
-    subst (IsSpentIn n (index + 1)) (sym signs.is) (signing_spends signs.state signs.L signs.message n index at.0 signs.after here signs.signs)
+    subst (IsSpentIn n (index + 1)) (sym signs.is) (signing_spends signs.state signs.L signs.said n index at.0 signs.after here signs.signs)
 
 -- ---- runs
 

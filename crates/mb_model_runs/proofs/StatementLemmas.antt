@@ -14,6 +14,7 @@ use Rattle.mb_model.specs.declared.order.KeyKind.TheVariants as kinds
 use Rattle.mb_model.specs.declared.entry.Entry.{Entry}
 use Rattle.mb_model.specs.declared.entry.Entry.TheVariants.{Birth, Change, NewKey, Succession}
 use Rattle.mb_model.specs.declared.entry.SignedEntry.{SignedEntry}
+use Rattle.mb_model.specs.declared.entry.Said.{Said}
 use Rattle.mb_model.specs.declared.entry.Statement.{Statement}
 use Rattle.mb_model.specs.declared.event.Answered.{Answered}
 use Rattle.mb_model.specs.declared.event.Event.{Event}
@@ -27,12 +28,11 @@ use Rattle.mb_model.specs.signatures.Merkle.{Verifies}
 use Rattle.mb_model.specs.owners.Log.{figures_of, entries_of, is_change, serial_in, last_of, number_of, serial_of, Ruled, RuledLog}
 use Rattle.mb_model.specs.owners.Lives.{ends_keys, Alive}
 use Rattle.mb_model.specs.signatures.Signing.{public_of, signature_of}
-use Rattle.mb_model.specs.records.ChainFormat.{statement_format, chain_format}
+use Rattle.mb_model.specs.records.ChainFormat.{said_format, statement_format, chain_format}
 use Rattle.mb_model.specs.chains.Script.{IsScriptEvent}
 use Rattle.mb_model.proofs.EntryFormatLaws.{statement_exact, chain_exact}
-use Rattle.mb_model.specs.machine.SignedTexts.{statement_text}
+use Rattle.mb_model.specs.machine.SignedTexts.{said_text}
 use Rattle.mb_model.specs.owners.Regions.{region_of}
-use Rattle.mb_model.specs.machine.LayerEvents.{statement_of}
 use Rattle.mb_model.specs.machine.Machine.{World, Step, Run}
 use Rattle.mb_model.specs.memories.Valid.{IsValidState, Valid}
 use Rattle.mb_model.specs.chains.Acceptance.{AreGood, IsBornOf, KeyEntry, key_of, IsStated, IfStatement, IsCurrent, report_of, Accepts}
@@ -40,15 +40,16 @@ use Rattle.mb_model_lemmas.proofs.LogLemmas.{last_of-more, RuledLog-front, numbe
 use Rattle.mb_model_lemmas.proofs.ValidStates.{valid_is_ruled}
 use Rattle.mb_model_lemmas.proofs.ValidSteps.{step_valid, run_valid}
 use Rattle.mb_model_lemmas.proofs.ReaderLemmas.{living_is_flagged, not_true}
-use Rattle.mb_model_lemmas.proofs.SignatureLemmas.{signature_verifies}
+use Rattle.mb_model_lemmas.proofs.SignatureLemmas.{length-signature_of, signature_verifies}
 use Rattle.mb_model_lemmas.proofs.Splits.{All-from_splits}
 use Rattle.mb_model.specs.machine.Runs.{BeginsWith, worlds_of, StaysAccepted, IsAcceptedIn, StatementsStayAccepted}
 use Rattle.mb_model.specs.chains.Attach.{is_change_above, bare_chain, cut_at, stated_chain}
 use Rattle.mb_model_lemmas.proofs.AttachLemmas.{stated_allowed}
 use Rattle.mb_model_memory.specs.Storable.{IsStorableState, Storable}
-use Rattle.mb_model_memory.proofs.StorableChains.{bare_allowed, statement_of-allowed}
+use Rattle.mb_model_memory.proofs.StorableChains.{bare_allowed}
+use Rattle.mb_model_memory.proofs.StorableOrders.{number_small}
 use Rattle.mb_model_memory.proofs.StorableSteps.{step_keeps_storable, run_keeps_storable}
-use Rattle.mb_model_runs.specs.StatementLaws.{IsStatedIn, key_entry_of}
+use Rattle.mb_model_runs.specs.StatementLaws.{statement_saying, AsksFor, IsStatedIn, key_entry_of}
 use Rattle.mb_model_runs.proofs.GrowthLemmas.{logs_grow}
 use Rattle.mb_model_runs.proofs.BirthLemmas.{log_is_good, key_of-split}
 use Rattle.mb_model_runs.proofs.KeyLemmas.{key_lives}
@@ -63,13 +64,13 @@ abbrev LeadsTo : World → World → Type 0
 LeadsTo world later = (part : List Answered) × All IsOfScript part × Run world part later
 
 pub statement_of_key : (world : World) (given : Event) (n index : ℕ) (statement : List ℕ) (next : World) → Step world given (reply.Signed n index statement) next
-    → (state : State) × (world.state ≡ Some state) × (L : ℕ) × (message : List ℕ) × (given ≡ event.Sign L n message) × IsStatedIn state L message n index statement
+    → (state : State) × (world.state ≡ Some state) × (L : ℕ) × (said : Said) × AsksFor given L n said × IsStatedIn state L said n index statement
 statement_of_key world given n index statement next step =
     let it = step_signs world given n index statement next step in (
       it.state,
       it.was,
       it.L,
-      it.message,
+      it.said,
       it.asked,
       record {
         key = it.signs.key;
@@ -241,7 +242,7 @@ record IsRight (maker : PublicKey) (entries : List SignedEntry) (n : ℕ) (made 
   named : key_of (entries_of entries) n ≡ Some made
   current : IsCurrent (entries_of entries) n made statement
 
-module _ (maker : PublicKey) (state : State) (L : ℕ) (key : RegionKey) (message : List ℕ) (valid : IsValidState state) (within : Contains (region_of state L).keys key) (few : key.uses < 32)
+module _ (maker : PublicKey) (state : State) (L : ℕ) (key : RegionKey) (said : Said) (valid : IsValidState state) (within : Contains (region_of state L).keys key) (few : key.uses < 32)
     (cut : List SignedEntry) (quiet : All IsQuiet cut) (ruled : RuledLog (entries_of state.log ++ entries_of cut)) where
   is_living : Alive (entries_of state.log ++ entries_of cut) key.number L key.kind (public_of key.seed)
   is_living = alive_on (entries_of state.log) cut key.number L key.kind (public_of key.seed) quiet (key_lives state L key valid within)
@@ -252,28 +253,28 @@ module _ (maker : PublicKey) (state : State) (L : ℕ) (key : RegionKey) (messag
       ap (λ (es : List Entry). key_of es key.number) alive.split
       ∙ key_of-split alive.before alive.position alive.number key.number L key.kind (public_of key.seed) alive.later (subst RuledLog alive.split ruled)
 
-  is_current : IsCurrent (entries_of state.log ++ entries_of cut) key.number (key_entry_of L key) (statement_of state key message)
-  unfolding statement_of
+  is_current : IsCurrent (entries_of state.log ++ entries_of cut) key.number (key_entry_of L key) (statement_saying state key said)
+  unfolding statement_saying
   is_current =
       let n : ℕ = number_of (entries_of state.log) in
-      let text : List ℕ = statement_text state.serial key.number n message in
+      let text : List ℕ = said_text state.serial key.number n said in
       let verifies : Verifies (public_of key.seed) text (signature_of key.seed key.uses text) = signature_verifies key.seed key.uses text few in
       let total : number_of (entries_of state.log ++ entries_of cut) ≡ n + number_of (entries_of cut) = number_of-append (entries_of state.log) (entries_of cut) in
       let none : number_of (entries_of cut) ≡ 0 = none_changes cut quiet in
       record {
-        signed = stated_by (serial_of (entries_of state.log ++ entries_of cut)) state.serial (λ serial. Verifies (public_of key.seed) (statement_text serial key.number n message) (signature_of key.seed key.uses text))
+        signed = stated_by (serial_of (entries_of state.log ++ entries_of cut)) state.serial (λ serial. Verifies (public_of key.seed) (said_text serial key.number n said) (signature_of key.seed key.uses text))
             (serial_on (entries_of state.log) cut quiet ∙ valid.serial) verifies;
         number = omega (arith, total, none);
         alive = living_is_flagged (entries_of state.log ++ entries_of cut) key.number (key_entry_of L key) is_living;
       }
 
-  is_right : AreGood maker (state.log ++ cut) → IsRight maker (state.log ++ cut) key.number (key_entry_of L key) (statement_of state key message)
+  is_right : AreGood maker (state.log ++ cut) → IsRight maker (state.log ++ cut) key.number (key_entry_of L key) (statement_saying state key said)
   is_right good =
       let same : entries_of state.log ++ entries_of cut ≡ entries_of (state.log ++ cut) = sym (map-append (λ (s : SignedEntry). s.entry) state.log cut) in
       record {
         good = good;
         named = subst (λ (es : List Entry). key_of es key.number ≡ Some (key_entry_of L key)) same is_named;
-        current = subst (λ (es : List Entry). IsCurrent es key.number (key_entry_of L key) (statement_of state key message)) same is_current;
+        current = subst (λ (es : List Entry). IsCurrent es key.number (key_entry_of L key) (statement_saying state key said)) same is_current;
       }
 
 -- ---- the cut
@@ -284,9 +285,9 @@ cut_is (birth ∷ rest) more some ruled =
     let n : ℕ = number_of (entries_of (birth ∷ rest)) in
     ap (λ t. birth ∷ t) (taken_past (stays_in n) rest more (All-tail (λ (signed : SignedEntry). stays_in n signed ≡ true) birth rest (all_stay (birth ∷ rest) ruled)))
 
-number_stated : (state : State) (key : RegionKey) (message : List ℕ) → (statement_of state key message).number ≡ number_of (entries_of state.log)
-unfolding statement_of
-number_stated state key message = refl
+number_stated : (state : State) (key : RegionKey) (said : Said) → (statement_saying state key said).number ≡ number_of (entries_of state.log)
+unfolding statement_saying
+number_stated state key said = refl
 
 -- the log of a valid state has a birth
 pub some_log : (state : State) → IsValidState state → entries_of state.log ≢ []
@@ -298,10 +299,10 @@ some_log state valid none =
 some_signed : (log : List SignedEntry) → entries_of log ≢ [] → log ≢ []
 some_signed log some none = some (ap entries_of none)
 
-right_later : (maker : PublicKey) (state later : State) (L : ℕ) (key : RegionKey) (message : List ℕ) → IsValidState state → IsValidState later → BeginsWith later.log state.log
+right_later : (maker : PublicKey) (state later : State) (L : ℕ) (key : RegionKey) (said : Said) → IsValidState state → IsValidState later → BeginsWith later.log state.log
     → Contains (region_of state L).keys key → key.uses < 32 → IsBornOf maker later.log
-    → IsRight maker (cut_at (statement_of state key message).number later.log) key.number (key_entry_of L key) (statement_of state key message)
-right_later maker state later L key message valid valid_later begins within few born =
+    → IsRight maker (cut_at (statement_saying state key said).number later.log) key.number (key_entry_of L key) (statement_saying state key said)
+right_later maker state later L key said valid valid_later begins within few born =
     let past : List SignedEntry = state.log in
     let more : List SignedEntry = begins.0 in
     let n : ℕ = number_of (entries_of past) in
@@ -315,25 +316,25 @@ right_later maker state later L key message valid valid_later begins within few 
     map-append (λ (s : SignedEntry). s.entry) (past ++ cut) front.tail ∙ ap (λ es. es ++ entries_of front.tail) (map-append (λ (s : SignedEntry). s.entry) past cut) in
     let fronts : RuledLog (entries_of past ++ entries_of cut) = RuledLog-front (entries_of past ++ entries_of cut) (entries_of front.tail) (subst RuledLog entries ruled) in
     let good : AreGood maker (past ++ cut) = AreGood-front maker (past ++ cut) front.tail (subst (AreGood maker) joined (log_is_good maker later valid_later born)) in
-    let right = is_right maker state L key message valid within few cut quiet fronts good in
-    let at : cut_at (statement_of state key message).number later.log ≡ past ++ cut =
-    ap (λ (m : ℕ). cut_at m later.log) (number_stated state key message) ∙ ap (cut_at n) begins.1 ∙ cut_is past more (some_signed past some) (valid_is_ruled state valid) in
-    subst (λ (es : List SignedEntry). IsRight maker es key.number (key_entry_of L key) (statement_of state key message)) (sym at) right
+    let right = is_right maker state L key said valid within few cut quiet fronts good in
+    let at : cut_at (statement_saying state key said).number later.log ≡ past ++ cut =
+    ap (λ (m : ℕ). cut_at m later.log) (number_stated state key said) ∙ ap (cut_at n) begins.1 ∙ cut_is past more (some_signed past some) (valid_is_ruled state valid) in
+    subst (λ (es : List SignedEntry). IsRight maker es key.number (key_entry_of L key) (statement_saying state key said)) (sym at) right
 
-pub statement_accepted : (maker : PublicKey) (world : World) (answered : List Answered) (next : World) (state later : State) (L : ℕ) (key : RegionKey) (message bytes : List ℕ)
+pub statement_accepted : (maker : PublicKey) (world : World) (answered : List Answered) (next : World) (state later : State) (L : ℕ) (key : RegionKey) (said : Said) (bytes : List ℕ)
     → Valid world.state → world.state ≡ Some state → Contains (region_of state L).keys key → key.uses < 32
     → Run world answered next → next.state ≡ Some later → IsBornOf maker later.log
-    → Spells chain_format bytes (stated_chain later.log (statement_of state key message))
-    → Accepts maker bytes key.number (report_of (stated_chain later.log (statement_of state key message)) key.number (key_entry_of L key))
-statement_accepted maker world answered next state later L key message bytes valid was within few run is born spelled =
+    → Spells chain_format bytes (stated_chain later.log (statement_saying state key said))
+    → Accepts maker bytes key.number (report_of (stated_chain later.log (statement_saying state key said)) key.number (key_entry_of L key))
+statement_accepted maker world answered next state later L key said bytes valid was within few run is born spelled =
     let here : IsValidState state = subst Valid was valid in
     let there : IsValidState later = subst Valid is (run_valid world answered next valid run) in
     let grown = logs_grow world answered next run later is in
     let same : grown.0 ≡ state = same_Some grown.0 state (sym grown.1 ∙ was) in
     let begins : BeginsWith later.log state.log = subst (λ (s : State). BeginsWith later.log s.log) same grown.2 in
-    let right = right_later maker state later L key message here there begins within few born in
+    let right = right_later maker state later L key said here there begins within few born in
     record {
-      chain = stated_chain later.log (statement_of state key message);
+      chain = stated_chain later.log (statement_saying state key said);
       spelled = spelled;
       good = right.good;
       made = key_entry_of L key;
@@ -341,6 +342,10 @@ statement_accepted maker world answered next state later L key message bytes val
       current = right.current;
       report_is = refl;
     }
+
+saying_allowed : (state : State) (key : RegionKey) (said : Said) → IsStorableState state → said_format.Allowed said → statement_format.Allowed (statement_saying state key said)
+unfolding statement_saying statement_format
+saying_allowed state key said stored fits = (number_small state stored, (fits, length-signature_of key.seed key.uses (said_text state.serial key.number (number_of (entries_of state.log)) said)))
 
 -- what an event was answered by, with the log of a state to which a run leads from there
 accepted_there : (maker : PublicKey) (world : World) (given : Event) (n index : ℕ) (bytes : List ℕ) (mid : World) (answered : List Answered) (next : World)
@@ -350,10 +355,9 @@ accepted_there : (maker : PublicKey) (world : World) (given : Event) (n index : 
 accepted_there maker world given n index bytes mid answered next script scripts valid stored step run later is born =
     let it = step_signs world given n index bytes mid step in
     let key : RegionKey = it.signs.key in
-    let said : Statement = statement_of it.state key it.message in
+    let said : Statement = statement_saying it.state key it.said in
     let this : Answered = record { event = given; reply = reply.Signed n index bytes } in
-    let script_sign : IsScriptEvent (event.Sign it.L n it.message) = subst IsScriptEvent it.asked script in
-    let said_allowed : statement_format.Allowed said = statement_of-allowed it.state key it.message (subst Storable it.was stored) script_sign.2 in
+    let said_allowed : statement_format.Allowed said = saying_allowed it.state key it.said (subst Storable it.was stored) (it.fits script) in
     let all : All IsOfScript (this ∷ answered) = All-cons IsOfScript this answered script scripts in
     let whole : Run world (this ∷ answered) next = (mid, step, run) in
     let later_stored : IsStorableState later = subst Storable is (run_keeps_storable world (this ∷ answered) next all valid stored whole) in
@@ -368,7 +372,7 @@ accepted_there maker world given n index bytes mid answered next script scripts 
       report = report_of (stated_chain later.log said) n (key_entry_of it.L key);
       accepted =
           subst (λ (m : ℕ). Accepts maker (chain_format.spelling (stated_chain later.log said)) m (report_of (stated_chain later.log said) m (key_entry_of it.L key))) it.signs.number_is
-          (statement_accepted maker world (this ∷ answered) next it.state later it.L key it.message (chain_format.spelling (stated_chain later.log said)) valid it.was it.signs.within
+          (statement_accepted maker world (this ∷ answered) next it.state later it.L key it.said (chain_format.spelling (stated_chain later.log said)) valid it.was it.signs.within
           it.signs.few whole is born attached);
     }
 

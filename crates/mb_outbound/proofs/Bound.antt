@@ -1,6 +1,6 @@
 -- What is stored once a key of a region was used.
-use Rattle.std.proofs.Common.{◌≡◌, ℕ, ◌+◌, ◌≤◌, ◌<◌, inr, List, length, Result, Ok, Err, OnOk, OnErr, ap, sym, subst, ◌∙◌, arith}
-use Rattle.std.specs.Prelude.{AllPairs, ◌⊎◌}
+use Rattle.std.proofs.Common.{◌≡◌, ℕ, ◌+◌, ◌≤◌, inr, List, length, Result, Ok, Err, OnOk, OnErr, ap, sym, subst, ◌∙◌, arith}
+use Rattle.std.specs.Prelude.{◌⊎◌}
 use Rattle.mb_format.specs.Format.{IsBytes}
 use Rattle.mb_model.specs.declared.region.Region.{Region}
 use Rattle.mb_model.specs.declared.region.RegionKey.{RegionKey}
@@ -21,20 +21,17 @@ use Rattle.mb_model_memory.proofs.StorableSteps.{use_region}
 use Rattle.mb_model_memory.specs.Holding.{KeepsContents, Means}
 use Rattle.mb_region.specs.Regions.{IsRegionSlot, HasNoFate, HoldsSomeRegion, ReplacesRegion, KeepsOrReplaces}
 use Rattle.mb_region.proofs.Replaced.{region_found, stands_written, record_short, edited_holds, edited_either}
-use Rattle.mb_outbound.specs.Binding.{HoldsOrdered, HasUse, StoresUse, KeepsOrStoresUse, state_used}
+use Rattle.mb_outbound.specs.Binding.{AreKeysInOrder, HoldsOrdered, HasUse, StoresUse, KeepsOrStoresUse, state_used}
 use Rattle.mb_region.proofs.Meant.{edited_stands, edited_or_kept}
 use Rattle.mb_outbound.specs.Using.{IsUsable, FindsUse}
 
 -- ---- the use of a key
 
-abbrev AreOrdered : Region → Type 0
-AreOrdered region = AllPairs (λ a b. a.number < b.number) region.keys
-
-use_written : (bytes : List ℕ) (region : Region) (number : ℕ) (key : RegionKey) → AreOrdered region → SpellsRegion bytes region → HasUse region number key → CanBeWritten (region_with_use number region)
+pub use_written : (bytes : List ℕ) (region : Region) (number : ℕ) (key : RegionKey) → AreKeysInOrder region → SpellsRegion bytes region → HasUse region number key → CanBeWritten (region_with_use number region)
 use_written bytes region number key up stands has =
     region_written (region_with_use number region) (use_region number key region up (spelled_storable bytes region stands) has.found has.left)
 
-pub finds_use : (bytes new : List ℕ) (region : Region) (number : ℕ) (result : Result RegionKey NotUsed) → AreOrdered region → SpellsRegion bytes region → UseOf region number result new → FindsUse region number result new
+pub finds_use : (bytes new : List ℕ) (region : Region) (number : ℕ) (result : Result RegionKey NotUsed) → AreKeysInOrder region → SpellsRegion bytes region → UseOf region number result new → FindsUse region number result new
 finds_use bytes new region number (Ok key) up stands outcome =
     let has : HasUse region number key = record { found = outcome.found; left = outcome.left } in
     let can : CanBeWritten (region_with_use number region) = use_written bytes region number key up stands has in
@@ -43,9 +40,9 @@ finds_use bytes new region number (Err NoKey) up stands outcome = outcome
 finds_use bytes new region number (Err Spent) up stands outcome = outcome
 
 -- the keys of each region that the area holds stand in order
-pub ordered_held : {area : List ℕ} (read : List ℕ) (held : HoldsOrdered area) (region : Region) → IsBytes read → read ≡ area → HoldsRegion area region → AreOrdered region
+pub ordered_held : {area : List ℕ} (read : List ℕ) (held : HoldsOrdered area) (region : Region) → IsBytes read → read ≡ area → HoldsRegion area region → AreKeysInOrder region
 ordered_held read held region are same has =
-    subst AreOrdered (region_found _ read held.region region are same (subst (λ (xs : List ℕ). HoldsRegion xs held.region) (sym same) held.holds) has) held.ordered
+    subst AreKeysInOrder (region_found _ read held.region region are same (subst (λ (xs : List ℕ). HoldsRegion xs held.region) (sym same) held.holds) has) held.ordered
 
 pub some_held : {area : List ℕ} → HoldsOrdered area → HoldsSomeRegion area
 some_held held = record { region = held.region; holds = held.holds }
@@ -54,7 +51,7 @@ pub use_short : (region : Region) (number : ℕ) (bytes : List ℕ) (result : Re
 use_short region number bytes (Ok key) outcome = record_short bytes (region_with_use number region) outcome.stands
 use_short region number bytes (Err refused) outcome = tt
 
-pub use_room : (bytes new : List ℕ) (region : Region) (number old_room new_room : ℕ) (result : Result RegionKey NotUsed) → AreOrdered region → SpellsRegion bytes region → UseOf region number result new
+pub use_room : (bytes new : List ℕ) (region : Region) (number old_room new_room : ℕ) (result : Result RegionKey NotUsed) → AreKeysInOrder region → SpellsRegion bytes region → UseOf region number result new
     → (CanBeWritten (region_with_use number region) → old_room ≤ new_room) → OnErr result (old_room ≤ new_room) → old_room ≤ new_room
 use_room bytes new region number old_room new_room (Ok key) up stands outcome kept refused = kept (use_written bytes region number key up stands (record { found = outcome.found; left = outcome.left }))
 use_room bytes new region number old_room new_room (Err end) up stands outcome kept refused = refused

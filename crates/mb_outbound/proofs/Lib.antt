@@ -1,3 +1,4 @@
 pub mod Bound
+pub mod KeyUses
 pub mod Seeds
 pub mod Stated

@@ -15,16 +15,24 @@ use Rattle.mb_layout_edits.specs.Edits.{region_with_use, IsSpent}
 use Rattle.mb_outbound.specs.declared.binding.BindEnd.{BindEnd}
 use Rattle.mb_outbound.specs.declared.binding.BindEnd.TheVariants.{NoKey, Spent, Stopped}
 
--- an area holds a region whose keys stand in the order of their numbers, as those of a valid state do
+-- the keys of a region stand in the order of their numbers, as those of a valid state do
+abbrev pub AreKeysInOrder : Region → Type 0
+AreKeysInOrder region = AllPairs (λ a b. a.number < b.number) region.keys
+
+-- an area holds a region whose keys stand in order
 pub record HoldsOrdered (area : List ℕ) : Type 0 where
   pub region : Region
   pub holds : HoldsRegion area region
-  pub ordered : AllPairs (λ a b. a.number < b.number) region.keys
+  pub ordered : AreKeysInOrder region
 
 -- the region has a key of this number, which has an index left
 pub record HasUse (region : Region) (number : ℕ) (key : RegionKey) : Type 0 where
   pub found : find (has_number number) region.keys ≡ Some key
   pub left : key.uses < KEY_USES
+
+-- the region has a key of this number with an index left
+abbrev pub HasUnspentKey : Region → ℕ → Type 0
+HasUnspentKey region number = (key : RegionKey) × HasUse region number key
 
 -- the right is to the next index of the region's key with this number, and the seed is that key's
 pub record IsBound (region : Region) (number right : ℕ) (handed : KeySeed) : Type 0 where
@@ -38,7 +46,7 @@ abbrev pub BindOf : {S : Type 0} → Region → ℕ → Result (S × ℕ × KeyS
 BindOf region number (Ok bound) = IsBound region number bound.1 bound.2
 BindOf region number (Err (NoKey state)) = find (has_number number) region.keys ≡ None
 BindOf region number (Err (Spent state)) = IsSpent region number
-BindOf region number (Err (Stopped off)) = (key : RegionKey) × HasUse region number key
+BindOf region number (Err (Stopped off)) = HasUnspentKey region number
 
 -- whether power failed in the call
 abbrev pub power_in : {A S : Type 0} → Result A (BindEnd S) → Result (Unit {0}) (Unit {0})

@@ -1,5 +1,5 @@
 -- What the calls of this crate promise, where that is longer than a line.
-use Rattle.std.specs.Prelude.{ℕ, ◌⊎◌, Result, OnOk}
+use Rattle.std.specs.Prelude.{◌≡◌, ℕ, ◌⊎◌, Result, OnOk, IfOk}
 use Rattle.mb_board.specs.Calls.{Seen}
 use Rattle.mb_layout.specs.Plans.{SamePlans}
 use Rattle.mb_layout.specs.declared.room.Room.{Room}
@@ -10,13 +10,14 @@ use Rattle.mb_model.specs.memories.Meaning.{HoldsRegion}
 use Rattle.mb_model.specs.memories.Memory.{IsBlank, area_of_slot, inactive_area_of_slot}
 use Rattle.mb_model_memory.specs.Holding.{Means}
 use Rattle.mb_model_memory.specs.InForce.{AgreeBesides}
-use Rattle.mb_region.specs.Regions.{HasNoFate, ReplacesRegion, KeepsOrReplaces}
-use Rattle.mb_slot.specs.Slots.{RanInSlot}
+use Rattle.mb_region.specs.Regions.{HasNoFate, ReplacesRegion, KeepsOrReplaces, writes_over}
+use Rattle.mb_slot.specs.Slots.{MakesWrites, RanInSlot}
 use Rattle.mb_outbound.specs.declared.binding.BindEnd.{BindEnd}
-use Rattle.mb_outbound.specs.Binding.{BindOf, power_in, StaysUnbound, StoresUse, KeepsOrStoresUse, state_used}
+use Rattle.mb_layout_edits.specs.Edits.{region_with_use}
+use Rattle.mb_outbound.specs.Binding.{IsBound, BindOf, power_in, StaysUnbound, StoresUse, KeepsOrStoresUse, state_used}
 
 -- A call has put a region into a slot, and wiped the old one, whichever region it was given. If power failed, the old
--- region or the new one is there.
+-- region or the new one is there. How many write calls there were is decided by the old region alone.
 pub record PutsInSlot
     (slot : ℕ) (IsGiven : Region → Type 0) (room room_after : Room) {A E : Type 0} (result : Result A E)
     (before after : Seen) : Type 0 where
@@ -24,6 +25,8 @@ pub record PutsInSlot
   pub either : (region : Region) → IsGiven region → KeepsOrReplaces slot region before.memory after.memory
   pub blank : OnOk result (IsBlank (inactive_area_of_slot after.memory.bbram slot))
   pub besides : AgreeBesides slot before.memory.bbram after.memory.bbram
+  pub writes : (old : Region) → HoldsRegion (area_of_slot before.memory.bbram slot) old
+      → MakesWrites (writes_over old) result before after
   pub ran : RanInSlot 3 slot result before after
   pub plans : SamePlans room room_after
 
@@ -44,3 +47,11 @@ pub record Binds
   pub besides : AgreeBesides slot before.memory.bbram after.memory.bbram
   pub ran : RanInSlot 3 slot (power_in result) before after
   pub plans : SamePlans room room_after
+
+-- A call has bound a key of a region that it was given: that region, with one more use of the key, is in the slot.
+pub record BindsGiven
+    (slot key : ℕ) (region region_after : Region) {S E : Type 0} (result : Result (S × ℕ × KeySeed) E)
+    (room room_after : Room) (before after : Seen) : Type 0 where
+  pub bound : IfOk result (λ bound. IsBound region key bound.1 bound.2)
+  pub used : region_after ≡ region_with_use key region
+  pub puts : PutsInSlot slot (λ given. given ≡ region_with_use key region) room room_after result before after

@@ -60,7 +60,7 @@ fn store<S: Reaches<L>, L: Named, B: Board>(s: S, b: &mut B, room: &mut Room) ->
 }
 
 /// The right to the next index of a key with this many uses.
-fn right_after(uses: u32) -> OneUse
+pub(crate) fn right_after(uses: u32) -> OneUse
     requires { uses < KEY_USES }
     ensures { result ≡ uses }
 {

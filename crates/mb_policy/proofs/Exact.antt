@@ -17,10 +17,10 @@ use Rattle.mb_policy.specs.declared.keyword.Pairing.{Pairing}
 use Rattle.mb_policy.specs.declared.keyword.Pairing.TheVariants as pairing
 use Rattle.mb_policy.specs.declared.keyword.Leaf.{Leaf}
 use Rattle.mb_policy.specs.declared.keyword.Leaf.TheVariants as leaf
-use Rattle.mb_policy.specs.Policies.{Test, both_of, either_of, opposite, owner_in, code_in, version_between, trust_is, reliable_at, number_between, comes_first, comes_last, kind_is, key_lives, has_message}
+use Rattle.mb_policy.specs.Policies.{Test, both_of, either_of, opposite, owner_in_set, code_in_set, version_between, trust_is, reliable_at, number_between, comes_first, comes_last, kind_is, key_lives, has_statement, has_call, input_in, answer_in}
 use Rattle.mb_policy.specs.Policies.{HashSet, PolicyItem, set_item, rule_item, set_named, test_words, test_depth, HasSet, MayFollow}
 use Rattle.mb_policy.specs.Reading.{FoundTest, with_value, leaf_word, first_of_test, every_keyword, keyword_in, trust_in, kind_in, later_words}
-use Rattle.mb_policy.specs.Reading.{number_first, layer_first, trust_first, kind_first, set_first, reads_owner, reads_code, reads_version, reads_trust, reads_reliable, reads_numbers, reads_kind}
+use Rattle.mb_policy.specs.Reading.{number_first, layer_first, trust_first, kind_first, set_first, reads_owner, reads_code, reads_version, reads_trust, reads_reliable, reads_numbers, reads_kind, reads_input, reads_answer}
 use Rattle.mb_policy.specs.Reading.{reads_leaf, pair_test, reads_after, reads}
 use Rattle.mb_policy.specs.Meanings.{SaysTest}
 use Rattle.mb_policy.proofs.Parts.{number_found, number_said, layer_said, layer_again, layer_true, layer_most, layer_least, meant_by-said}
@@ -101,7 +101,7 @@ sound_owner items depth words x e =
     let two = value_found (set_first items (later_words words)) _ x one.then in
     let layer = layer_is 3 words one.value one.first in
     let set = set_is items (later_words words) two.value two.first in
-    carried items (suc depth) (leaf_word leaf.Owner ∷ words) (owner_in one.value two.value, later_words (later_words words)) x two.then
+    carried items (suc depth) (leaf_word leaf.Owner ∷ words) (owner_in_set one.value two.value, later_words (later_words words)) x two.then
     (record {
       whole = ap (λ (ws : List (List ℕ)). leaf_word leaf.Owner ∷ ws) (layer.0 ∙ ap (λ (ws : List (List ℕ)). decimal one.value ∷ ws) set.0);
       follows = (layer_true one.value layer.1 layer.2, set.1);
@@ -115,7 +115,7 @@ sound_code items depth words x e =
     let two = value_found (set_first items (later_words words)) _ x one.then in
     let layer = layer_is 3 words one.value one.first in
     let set = set_is items (later_words words) two.value two.first in
-    carried items (suc depth) (leaf_word leaf.Code ∷ words) (code_in one.value two.value, later_words (later_words words)) x two.then
+    carried items (suc depth) (leaf_word leaf.Code ∷ words) (code_in_set one.value two.value, later_words (later_words words)) x two.then
     (record {
       whole = ap (λ (ws : List (List ℕ)). leaf_word leaf.Code ∷ ws) (layer.0 ∙ ap (λ (ws : List (List ℕ)). decimal one.value ∷ ws) set.0);
       follows = (layer_true one.value layer.1 layer.2, set.1);
@@ -196,6 +196,30 @@ sound_kind items depth words x e =
       shallow = omega arith;
     })
 
+sound_input : (items : List PolicyItem) → Sound_leaf items leaf.Input (reads_input items)
+unfolding Sound_leaf reads_input
+sound_input items depth words x e =
+    let one = value_found (set_first items words) _ x e in
+    let set = set_is items words one.value one.first in
+    carried items (suc depth) (leaf_word leaf.Input ∷ words) (input_in one.value, later_words words) x one.then
+    (record {
+      whole = ap (λ (ws : List (List ℕ)). leaf_word leaf.Input ∷ ws) set.0;
+      follows = set.1;
+      shallow = omega arith;
+    })
+
+sound_answer : (items : List PolicyItem) → Sound_leaf items leaf.Answer (reads_answer items)
+unfolding Sound_leaf reads_answer
+sound_answer items depth words x e =
+    let one = value_found (set_first items words) _ x e in
+    let set = set_is items words one.value one.first in
+    carried items (suc depth) (leaf_word leaf.Answer ∷ words) (answer_in one.value, later_words words) x one.then
+    (record {
+      whole = ap (λ (ws : List (List ℕ)). leaf_word leaf.Answer ∷ ws) set.0;
+      follows = set.1;
+      shallow = omega arith;
+    })
+
 sound_leaf : (items : List PolicyItem) (it : Leaf) → Sound_leaf items it (reads_leaf items it)
 unfolding Sound_leaf
 sound_leaf items leaf.Owner = sound_owner items
@@ -208,7 +232,10 @@ sound_leaf items leaf.Kind = sound_kind items
 sound_leaf items leaf.First = λ depth words x e. carried items (suc depth) (leaf_word leaf.First ∷ words) (comes_first, words) x e (record { whole = refl; follows = tt; shallow = omega arith })
 sound_leaf items leaf.Last = λ depth words x e. carried items (suc depth) (leaf_word leaf.Last ∷ words) (comes_last, words) x e (record { whole = refl; follows = tt; shallow = omega arith })
 sound_leaf items leaf.Alive = λ depth words x e. carried items (suc depth) (leaf_word leaf.Alive ∷ words) (key_lives, words) x e (record { whole = refl; follows = tt; shallow = omega arith })
-sound_leaf items leaf.Statement = λ depth words x e. carried items (suc depth) (leaf_word leaf.Statement ∷ words) (has_message, words) x e (record { whole = refl; follows = tt; shallow = omega arith })
+sound_leaf items leaf.Statement = λ depth words x e. carried items (suc depth) (leaf_word leaf.Statement ∷ words) (has_statement, words) x e (record { whole = refl; follows = tt; shallow = omega arith })
+sound_leaf items leaf.Called = λ depth words x e. carried items (suc depth) (leaf_word leaf.Called ∷ words) (has_call, words) x e (record { whole = refl; follows = tt; shallow = omega arith })
+sound_leaf items leaf.Input = sound_input items
+sound_leaf items leaf.Answer = sound_answer items
 
 -- ---- all tests: what was read is said
 
@@ -293,13 +320,13 @@ with_it : {A : Type 0} (o : Option A) (a : A) (next : A → FoundTest) (x : Foun
 with_it {A} o a next x is then = ap (λ (p : Option A). with_value p next) is ∙ then
 
 owner_again : (items : List PolicyItem) (m : ℕ) (set : HashSet) (rest : List (List ℕ)) → IsTrue (is_layer_number m) → HasSet items set
-    → reads_owner items (decimal m ∷ set.name ∷ rest) ≡ Some (owner_in m set, rest)
+    → reads_owner items (decimal m ∷ set.name ∷ rest) ≡ Some (owner_in_set m set, rest)
 unfolding reads_owner
 owner_again items m set rest is has =
     with_it (layer_first 3 (decimal m ∷ set.name ∷ rest)) m _ _ (layer_found m (set.name ∷ rest) is) (with_it (set_first items (set.name ∷ rest)) set _ _ (set_again items set rest has) refl)
 
 code_again : (items : List PolicyItem) (m : ℕ) (set : HashSet) (rest : List (List ℕ)) → IsTrue (is_layer_number m) → HasSet items set
-    → reads_code items (decimal m ∷ set.name ∷ rest) ≡ Some (code_in m set, rest)
+    → reads_code items (decimal m ∷ set.name ∷ rest) ≡ Some (code_in_set m set, rest)
 unfolding reads_code
 code_again items m set rest is has =
     with_it (layer_first 3 (decimal m ∷ set.name ∷ rest)) m _ _ (layer_found m (set.name ∷ rest) is) (with_it (set_first items (set.name ∷ rest)) set _ _ (set_again items set rest has) refl)
@@ -335,6 +362,14 @@ kind_again : (k : KeyKind) (rest : List (List ℕ)) → reads_kind (kind_word k 
 unfolding reads_kind
 kind_again k rest = with_it (kind_first (kind_word k ∷ rest)) k _ _ (kind_read k rest) refl
 
+input_again : (items : List PolicyItem) (set : HashSet) (rest : List (List ℕ)) → HasSet items set → reads_input items (set.name ∷ rest) ≡ Some (input_in set, rest)
+unfolding reads_input
+input_again items set rest has = with_it (set_first items (set.name ∷ rest)) set _ _ (set_again items set rest has) refl
+
+answer_again : (items : List PolicyItem) (set : HashSet) (rest : List (List ℕ)) → HasSet items set → reads_answer items (set.name ∷ rest) ≡ Some (answer_in set, rest)
+unfolding reads_answer
+answer_again items set rest has = with_it (set_first items (set.name ∷ rest)) set _ _ (set_again items set rest has) refl
+
 after_word : (items : List PolicyItem) (depth : ℕ) (k : Keyword) (rest : List (List ℕ)) → reads items (suc depth) (first_of_test k ∷ rest) ≡ reads_after items (reads items depth) (Some k) rest
 unfolding reads
 after_word items depth k rest = ap (λ (o : Option Keyword). reads_after items (reads items depth) o rest) (keyword_word k)
@@ -351,8 +386,8 @@ depth_some : (test : Test) → 1 ≤ test_depth test
 depth_some (both_of a b) = omega arith
 depth_some (either_of a b) = omega arith
 depth_some (opposite a) = omega arith
-depth_some (owner_in m set) = omega arith
-depth_some (code_in m set) = omega arith
+depth_some (owner_in_set m set) = omega arith
+depth_some (code_in_set m set) = omega arith
 depth_some (version_between m least most) = omega arith
 depth_some (trust_is m lower t) = omega arith
 depth_some (reliable_at m) = omega arith
@@ -361,7 +396,10 @@ depth_some comes_first = omega arith
 depth_some comes_last = omega arith
 depth_some (kind_is k) = omega arith
 depth_some key_lives = omega arith
-depth_some has_message = omega arith
+depth_some has_statement = omega arith
+depth_some has_call = omega arith
+depth_some (input_in set) = omega arith
+depth_some (answer_in set) = omega arith
 
 pub reads_all : (items : List PolicyItem) (test : Test) (depth : ℕ) (rest : List (List ℕ)) → MayFollow items test → test_depth test ≤ suc depth
     → reads items (suc depth) (test_words test ++ rest) ≡ Some (test, rest)
@@ -377,8 +415,8 @@ reads_all items (opposite a) zero rest follows deep = absurd (omega (arith, deep
 reads_all items (opposite a) (suc depth) rest follows deep =
     after_word items (suc depth) keyword.Not (test_words a ++ rest)
     ∙ with_it (reads items (suc depth) (test_words a ++ rest)) (a, rest) _ _ (reads_all items a depth rest follows (omega (arith, deep))) refl
-reads_all items (owner_in m set) depth rest follows deep = after_word items depth (keyword.Leaf leaf.Owner) (decimal m ∷ set.name ∷ rest) ∙ owner_again items m set rest follows.0 follows.1
-reads_all items (code_in m set) depth rest follows deep = after_word items depth (keyword.Leaf leaf.Code) (decimal m ∷ set.name ∷ rest) ∙ code_again items m set rest follows.0 follows.1
+reads_all items (owner_in_set m set) depth rest follows deep = after_word items depth (keyword.Leaf leaf.Owner) (decimal m ∷ set.name ∷ rest) ∙ owner_again items m set rest follows.0 follows.1
+reads_all items (code_in_set m set) depth rest follows deep = after_word items depth (keyword.Leaf leaf.Code) (decimal m ∷ set.name ∷ rest) ∙ code_again items m set rest follows.0 follows.1
 reads_all items (version_between m least most) depth rest follows deep =
     after_word items depth (keyword.Leaf leaf.Version) (decimal m ∷ decimal least ∷ decimal most ∷ rest) ∙ version_again m least most rest follows.0 follows.1 follows.2
 reads_all items (trust_is m lower t) depth rest follows deep =
@@ -390,7 +428,10 @@ reads_all items comes_first depth rest follows deep = after_word items depth (ke
 reads_all items comes_last depth rest follows deep = after_word items depth (keyword.Leaf leaf.Last) rest
 reads_all items (kind_is k) depth rest follows deep = after_word items depth (keyword.Leaf leaf.Kind) (kind_word k ∷ rest) ∙ kind_again k rest
 reads_all items key_lives depth rest follows deep = after_word items depth (keyword.Leaf leaf.Alive) rest
-reads_all items has_message depth rest follows deep = after_word items depth (keyword.Leaf leaf.Statement) rest
+reads_all items has_statement depth rest follows deep = after_word items depth (keyword.Leaf leaf.Statement) rest
+reads_all items has_call depth rest follows deep = after_word items depth (keyword.Leaf leaf.Called) rest
+reads_all items (input_in set) depth rest follows deep = after_word items depth (keyword.Leaf leaf.Input) (set.name ∷ rest) ∙ input_again items set rest follows
+reads_all items (answer_in set) depth rest follows deep = after_word items depth (keyword.Leaf leaf.Answer) (set.name ∷ rest) ∙ answer_again items set rest follows
 
 -- ---- whole lines of words
 

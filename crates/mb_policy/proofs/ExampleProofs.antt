@@ -1,10 +1,12 @@
 -- Small policies, computed.
 use Rattle.std.proofs.Common.{◌≡◌, ℕ, ◌≤◌, inr, Bool, true, false, List, [], ◌∷◌, length, Some, None, Ok, refl, sym, ap, subst, ◌∙◌, arith, codes, lit≤}
-use Rattle.std.specs.Prelude.{replicate, filter, not, ◌&&◌, ◌==◌, ◌≢◌, ◌++◌}
+use Rattle.std.specs.Prelude.{replicate, filter, not, ◌&&◌, ◌||◌, ◌==◌, ◌≢◌, ◌++◌}
 use Rattle.std.specs.List.{list_any, list_all}
 use Rattle.std.proofs.lemmas.Bool.{false≢true}
 use Rattle.std.proofs.lemmas.List.Elements.{All-nil, All-cons}
 use Rattle.std.specs.Fmt.{digits}
+use Rattle.sha2.specs.Sha256.{sha256}
+use Rattle.mb_format.proofs.Fields.{same_bytes-refl}
 use Rattle.hex.specs.Hex.{decode_of, decode_pairs}
 use Rattle.mb_model.specs.outside.Texts.{IsHex}
 use Rattle.mb_model.specs.chains.Lines.{IsLine, IsBeginning, TextFailsAtLine}
@@ -237,6 +239,14 @@ judgement_examples = record {
   code = refl;
   other_code = refl;
   not_listed = refl;
+  stated = refl;
+  called = refl;
+  message = refl;
+  not_called = refl;
+  input = refl;
+  other_input = refl;
+  no_input = refl;
+  answer = ap (λ (b : Bool). b || false) (same_bytes-refl (sha256 (codes "abc")));
   not_trusted = refl;
 }
 

@@ -11,9 +11,9 @@ use Rattle.mb_policy.specs.declared.tables.Hashes.{Hashes}
 use Rattle.mb_policy.specs.declared.tables.PerLayer.{PerLayer}
 use Rattle.mb_policy.specs.declared.tables.Members.{Members}
 use Rattle.mb_policy.specs.Policies.{HashSet, PolicyItem}
-use Rattle.mb_policy.specs.Judging.{Situation, listed_layer, some_passes, has_hash, owner_hash, code_hash, holds, Ruling, default_ruling, ruling_of}
+use Rattle.mb_policy.specs.Judging.{Situation, listed_layer, some_passes, has_hash, owner_hash, code_hash, input_hash, answer_hash, holds, Ruling, default_ruling, ruling_of}
 use Rattle.mb_policy.specs.Meanings.{set_meant, set_at, test_meant, line_meant, items_after, items_of}
-use Rattle.mb_policy.specs.Tables.{layer_hashes, listed_hashes, passes_at, members_of_set, no_layer, members_of_line, test_passes, ruling_of_line}
+use Rattle.mb_policy.specs.Tables.{layer_hashes, asked_hashes, passes_at, members_of_set, no_layer, no_members, members_of_line, test_passes, ruling_of_line}
 use Rattle.mb_policy.proofs.PolicyReading.{items_push}
 
 -- ---- members of sets
@@ -68,22 +68,22 @@ code_hashed : (set : HashSet) (o : Option Layer) → some_passes (has_hash set) 
 code_hashed set None = refl
 code_hashed set (Some layer) = refl
 
-owner_member : (c : Configuration) (set : HashSet) (m : ℕ) → passes_at (members_of_set set (listed_hashes c)).owners m ≡ some_passes (asks owner_hash set) (listed_layer c m)
-owner_member c set m =
+owner_member : (s : Situation) (set : HashSet) (m : ℕ) → passes_at (members_of_set set (asked_hashes s)).owners m ≡ some_passes (asks owner_hash set) (listed_layer s.configuration m)
+owner_member s set m =
     elim (layer_case m) [
-      | one e ↦ subst (λ (n : ℕ). passes_at (members_of_set set (listed_hashes c)).owners n ≡ some_passes (asks owner_hash set) (listed_layer c n)) (sym e) (owner_hashed set (listed_layer c 1))
-      | two e ↦ subst (λ (n : ℕ). passes_at (members_of_set set (listed_hashes c)).owners n ≡ some_passes (asks owner_hash set) (listed_layer c n)) (sym e) (owner_hashed set (listed_layer c 2))
-      | three e ↦ subst (λ (n : ℕ). passes_at (members_of_set set (listed_hashes c)).owners n ≡ some_passes (asks owner_hash set) (listed_layer c n)) (sym e) (owner_hashed set (listed_layer c 3))
-      | beyond e f g ↦ nowhere (members_of_set set (listed_hashes c)).owners m e f g ∙ sym (ap (some_passes (asks owner_hash set)) (not_listed c m e f g))
+      | one e ↦ subst (λ (n : ℕ). passes_at (members_of_set set (asked_hashes s)).owners n ≡ some_passes (asks owner_hash set) (listed_layer s.configuration n)) (sym e) (owner_hashed set (listed_layer s.configuration 1))
+      | two e ↦ subst (λ (n : ℕ). passes_at (members_of_set set (asked_hashes s)).owners n ≡ some_passes (asks owner_hash set) (listed_layer s.configuration n)) (sym e) (owner_hashed set (listed_layer s.configuration 2))
+      | three e ↦ subst (λ (n : ℕ). passes_at (members_of_set set (asked_hashes s)).owners n ≡ some_passes (asks owner_hash set) (listed_layer s.configuration n)) (sym e) (owner_hashed set (listed_layer s.configuration 3))
+      | beyond e f g ↦ nowhere (members_of_set set (asked_hashes s)).owners m e f g ∙ sym (ap (some_passes (asks owner_hash set)) (not_listed s.configuration m e f g))
     ]
 
-code_member : (c : Configuration) (set : HashSet) (m : ℕ) → passes_at (members_of_set set (listed_hashes c)).codes m ≡ some_passes (asks code_hash set) (listed_layer c m)
-code_member c set m =
+code_member : (s : Situation) (set : HashSet) (m : ℕ) → passes_at (members_of_set set (asked_hashes s)).codes m ≡ some_passes (asks code_hash set) (listed_layer s.configuration m)
+code_member s set m =
     elim (layer_case m) [
-      | one e ↦ subst (λ (n : ℕ). passes_at (members_of_set set (listed_hashes c)).codes n ≡ some_passes (asks code_hash set) (listed_layer c n)) (sym e) (code_hashed set (listed_layer c 1))
-      | two e ↦ subst (λ (n : ℕ). passes_at (members_of_set set (listed_hashes c)).codes n ≡ some_passes (asks code_hash set) (listed_layer c n)) (sym e) (code_hashed set (listed_layer c 2))
-      | three e ↦ subst (λ (n : ℕ). passes_at (members_of_set set (listed_hashes c)).codes n ≡ some_passes (asks code_hash set) (listed_layer c n)) (sym e) (code_hashed set (listed_layer c 3))
-      | beyond e f g ↦ nowhere (members_of_set set (listed_hashes c)).codes m e f g ∙ sym (ap (some_passes (asks code_hash set)) (not_listed c m e f g))
+      | one e ↦ subst (λ (n : ℕ). passes_at (members_of_set set (asked_hashes s)).codes n ≡ some_passes (asks code_hash set) (listed_layer s.configuration n)) (sym e) (code_hashed set (listed_layer s.configuration 1))
+      | two e ↦ subst (λ (n : ℕ). passes_at (members_of_set set (asked_hashes s)).codes n ≡ some_passes (asks code_hash set) (listed_layer s.configuration n)) (sym e) (code_hashed set (listed_layer s.configuration 2))
+      | three e ↦ subst (λ (n : ℕ). passes_at (members_of_set set (asked_hashes s)).codes n ≡ some_passes (asks code_hash set) (listed_layer s.configuration n)) (sym e) (code_hashed set (listed_layer s.configuration 3))
+      | beyond e f g ↦ nowhere (members_of_set set (asked_hashes s)).codes m e f g ∙ sym (ap (some_passes (asks code_hash set)) (not_listed s.configuration m e f g))
     ]
 
 -- the members of the sets of lines
@@ -91,28 +91,38 @@ abbrev pub table_of : Hashes → List Line → List Members
 table_of hashes lines = map (λ line. members_of_line line hashes) lines
 
 -- what the table says at an index is so of the set at that index, for owners or for codes
-looked_up : (pick : Members → PerLayer) (hash_of : Layer → Option (List ℕ)) (c : Configuration) (before : List PolicyItem) (lines : List Line) (i m : ℕ)
-    → ((set : HashSet) → passes_at (pick (members_of_set set (listed_hashes c))) m ≡ some_passes (asks hash_of set) (listed_layer c m))
-    → passes_at (pick (record { owners = no_layer; codes = no_layer })) m ≡ false
-    → some_passes (λ members. passes_at (pick members) m) (slice_get (table_of (listed_hashes c) lines) i) ≡ some_passes (asks hash_of (set_at (items_after before lines) i)) (listed_layer c m)
-looked_up pick hash_of c before [] i m is none = sym (empty_asked hash_of (listed_layer c m))
-looked_up pick hash_of c before (line.Set set ∷ lines) zero m is none = is (set_meant set)
-looked_up pick hash_of c before (line.Set set ∷ lines) (suc i) m is none = looked_up pick hash_of c (before ++ line_meant before (line.Set set) ∷ []) lines i m is none
-looked_up pick hash_of c before (line.Rule rule ∷ lines) zero m is none = none ∙ sym (empty_asked hash_of (listed_layer c m))
-looked_up pick hash_of c before (line.Rule rule ∷ lines) (suc i) m is none = looked_up pick hash_of c (before ++ line_meant before (line.Rule rule) ∷ []) lines i m is none
+looked_up : (pick : Members → PerLayer) (hash_of : Layer → Option (List ℕ)) (s : Situation) (before : List PolicyItem) (lines : List Line) (i m : ℕ)
+    → ((set : HashSet) → passes_at (pick (members_of_set set (asked_hashes s))) m ≡ some_passes (asks hash_of set) (listed_layer s.configuration m))
+    → passes_at (pick no_members) m ≡ false
+    → some_passes (λ members. passes_at (pick members) m) (slice_get (table_of (asked_hashes s) lines) i) ≡ some_passes (asks hash_of (set_at (items_after before lines) i)) (listed_layer s.configuration m)
+looked_up pick hash_of s before [] i m is none = sym (empty_asked hash_of (listed_layer s.configuration m))
+looked_up pick hash_of s before (line.Set set ∷ lines) zero m is none = is (set_meant set)
+looked_up pick hash_of s before (line.Set set ∷ lines) (suc i) m is none = looked_up pick hash_of s (before ++ line_meant before (line.Set set) ∷ []) lines i m is none
+looked_up pick hash_of s before (line.Rule rule ∷ lines) zero m is none = none ∙ sym (empty_asked hash_of (listed_layer s.configuration m))
+looked_up pick hash_of s before (line.Rule rule ∷ lines) (suc i) m is none = looked_up pick hash_of s (before ++ line_meant before (line.Rule rule) ∷ []) lines i m is none
+
+-- what the table says of the call at an index is so of the set at that index, for the input or for the answer
+call_looked_up : (pick : Members → Bool) (hash : Option (List ℕ)) (hashes : Hashes) (before : List PolicyItem) (lines : List Line) (i : ℕ)
+    → ((set : HashSet) → pick (members_of_set set hashes) ≡ some_passes (has_hash set) hash) → pick no_members ≡ false
+    → some_passes pick (slice_get (table_of hashes lines) i) ≡ some_passes (has_hash (set_at (items_after before lines) i)) hash
+call_looked_up pick hash hashes before [] i is none = sym (empty_has hash)
+call_looked_up pick hash hashes before (line.Set set ∷ lines) zero is none = is (set_meant set)
+call_looked_up pick hash hashes before (line.Set set ∷ lines) (suc i) is none = call_looked_up pick hash hashes (before ++ line_meant before (line.Set set) ∷ []) lines i is none
+call_looked_up pick hash hashes before (line.Rule rule ∷ lines) zero is none = none ∙ sym (empty_has hash)
+call_looked_up pick hash hashes before (line.Rule rule ∷ lines) (suc i) is none = call_looked_up pick hash hashes (before ++ line_meant before (line.Rule rule) ∷ []) lines i is none
 
 -- ---- tests
 
-pub test_judged : (s : Situation) (lines : List Line) (test : Node) → test_passes (table_of (listed_hashes s.configuration) lines) s test ≡ holds (test_meant (items_of lines) test) s
+pub test_judged : (s : Situation) (lines : List Line) (test : Node) → test_passes (table_of (asked_hashes s) lines) s test ≡ holds (test_meant (items_of lines) test) s
 test_judged s lines (node.And' p a q b) =
-    ap (λ (x : Bool). x && test_passes (table_of (listed_hashes s.configuration) lines) s b) (test_judged s lines a) ∙ ap (λ (x : Bool). holds (test_meant (items_of lines) a) s && x) (test_judged s lines b)
+    ap (λ (x : Bool). x && test_passes (table_of (asked_hashes s) lines) s b) (test_judged s lines a) ∙ ap (λ (x : Bool). holds (test_meant (items_of lines) a) s && x) (test_judged s lines b)
 test_judged s lines (node.Or' p a q b) =
-    ap (λ (x : Bool). x || test_passes (table_of (listed_hashes s.configuration) lines) s b) (test_judged s lines a) ∙ ap (λ (x : Bool). holds (test_meant (items_of lines) a) s || x) (test_judged s lines b)
+    ap (λ (x : Bool). x || test_passes (table_of (asked_hashes s) lines) s b) (test_judged s lines a) ∙ ap (λ (x : Bool). holds (test_meant (items_of lines) a) s || x) (test_judged s lines b)
 test_judged s lines (node.Not' p a) = ap not (test_judged s lines a)
 test_judged s lines (node.Owner layer set) =
-    looked_up (λ members. members.owners) owner_hash s.configuration [] lines set layer (λ own. owner_member s.configuration own layer) (no_layer_at layer)
+    looked_up (λ members. members.owners) owner_hash s [] lines set layer (λ own. owner_member s own layer) (no_layer_at layer)
 test_judged s lines (node.Code layer set) =
-    looked_up (λ members. members.codes) code_hash s.configuration [] lines set layer (λ own. code_member s.configuration own layer) (no_layer_at layer)
+    looked_up (λ members. members.codes) code_hash s [] lines set layer (λ own. code_member s own layer) (no_layer_at layer)
 test_judged s lines (node.Version layer least most) = refl
 test_judged s lines (node.Trust layer lower trust) = refl
 test_judged s lines (node.Reliable layer) = refl
@@ -122,6 +132,9 @@ test_judged s lines node.Last = refl
 test_judged s lines (node.Kind kind) = refl
 test_judged s lines node.Alive = refl
 test_judged s lines node.Statement = refl
+test_judged s lines node.Called = refl
+test_judged s lines (node.Input set) = call_looked_up (λ members. members.input) (input_hash s.report) (asked_hashes s) [] lines set (λ own. refl) refl
+test_judged s lines (node.Answer set) = call_looked_up (λ members. members.answer) (answer_hash s.report) (asked_hashes s) [] lines set (λ own. refl) refl
 
 -- ---- rules
 
@@ -131,7 +144,7 @@ pub record IsPassing (lines : List Line) (s : Situation) (seen : List Members) (
   pub later : List Line
   pub split : lines ≡ before ++ later
   pub place : index ≡ length before
-  pub table : seen ≡ table_of (listed_hashes s.configuration) before
+  pub table : seen ≡ table_of (asked_hashes s) before
   pub ruling : ruling_of (items_of lines) s ≡ ruling_of (items_after (items_of before) later) s
 
 pub passing_begins : (lines : List Line) (s : Situation) (seen : List Members) → seen ≡ [] → IsPassing lines s seen 0
@@ -150,10 +163,10 @@ line_left lines s seen index d it is within here =
     (there.0, there.1 ∙ ap (λ (x : Line). x ∷ there.0) (ap (λ (xs : List Line). get_or xs index d) (sym is.split) ∙ sym here))
 
 -- a line that rules, and one that says nothing
-pub line_rules : (s : Situation) (before rest : List Line) (it : Line) (ruling : Ruling) → ruling_of_line (table_of (listed_hashes s.configuration) before) s it ≡ Some ruling
+pub line_rules : (s : Situation) (before rest : List Line) (it : Line) (ruling : Ruling) → ruling_of_line (table_of (asked_hashes s) before) s it ≡ Some ruling
     → ruling_of (items_after (items_of before) (it ∷ rest)) s ≡ ruling
 line_rules s before rest (line.Set set) ruling is = absurd cc
-line_rules s before rest (line.Rule rule) ruling is = by (test_passes (table_of (listed_hashes s.configuration) before) s rule.test) (test_judged s before rule.test) is
+line_rules s before rest (line.Rule rule) ruling is = by (test_passes (table_of (asked_hashes s) before) s rule.test) (test_judged s before rule.test) is
   where
     next : Ruling
     next = ruling_of (items_after (items_of before ++ line_meant (items_of before) (line.Rule rule) ∷ []) rest) s
@@ -166,10 +179,10 @@ line_rules s before rest (line.Rule rule) ruling is = by (test_passes (table_of 
     by true e f = let same : own ≡ ruling = cc in ap (λ (b : Bool). cond b own next) (sym e) ∙ same
     by false e f = absurd cc
 
-pub line_passes : (s : Situation) (before rest : List Line) (it : Line) → ruling_of_line (table_of (listed_hashes s.configuration) before) s it ≡ None
+pub line_passes : (s : Situation) (before rest : List Line) (it : Line) → ruling_of_line (table_of (asked_hashes s) before) s it ≡ None
     → ruling_of (items_after (items_of before) (it ∷ rest)) s ≡ ruling_of (items_after (items_of before ++ line_meant (items_of before) it ∷ []) rest) s
 line_passes s before rest (line.Set set) is = refl
-line_passes s before rest (line.Rule rule) is = by (test_passes (table_of (listed_hashes s.configuration) before) s rule.test) (test_judged s before rule.test) is
+line_passes s before rest (line.Rule rule) is = by (test_passes (table_of (asked_hashes s) before) s rule.test) (test_judged s before rule.test) is
   where
     next : Ruling
     next = ruling_of (items_after (items_of before ++ line_meant (items_of before) (line.Rule rule) ∷ []) rest) s
@@ -183,7 +196,7 @@ line_passes s before rest (line.Rule rule) is = by (test_passes (table_of (liste
     by false e f = ap (λ (b : Bool). cond b own next) (sym e)
 
 at_table : (s : Situation) (lines : List Line) (seen : List Members) (index : ℕ) (it : Line) (found : Option Ruling) (is : IsPassing lines s seen index) → ruling_of_line seen s it ≡ found
-    → ruling_of_line (table_of (listed_hashes s.configuration) is.before) s it ≡ found
+    → ruling_of_line (table_of (asked_hashes s) is.before) s it ≡ found
 at_table s lines seen index it found is by_seen = ap (λ (x : List Members). ruling_of_line x s it) (sym is.table) ∙ by_seen
 
 pub rule_found : (lines : List Line) (s : Situation) (seen : List Members) (index : ℕ) (d it : Line) (ruling : Ruling) → IsPassing lines s seen index → index < length lines → it ≡ get_or lines index d
@@ -198,11 +211,11 @@ map_push hashes [] it = refl
 map_push hashes (x ∷ lines) it = ap (λ (xs : List Members). members_of_line x hashes ∷ xs) (map_push hashes lines it)
 
 pub line_passed : (lines : List Line) (s : Situation) (seen more : List Members) (index : ℕ) (d it : Line) (members : Members) (hashes : Hashes) → IsPassing lines s seen index → index < length lines
-    → it ≡ get_or lines index d → ruling_of_line seen s it ≡ None → hashes ≡ listed_hashes s.configuration → members ≡ members_of_line it hashes → more ≡ seen ++ members ∷ []
+    → it ≡ get_or lines index d → ruling_of_line seen s it ≡ None → hashes ≡ asked_hashes s → members ≡ members_of_line it hashes → more ≡ seen ++ members ∷ []
     → IsPassing lines s more (index + 1)
 line_passed lines s seen more index d it members hashes is within here none hashed membered pushed =
     let left = line_left lines s seen index d it is within here in
-    let own = listed_hashes s.configuration in
+    let own = asked_hashes s in
     record {
       before = is.before ++ it ∷ [];
       later = left.0;

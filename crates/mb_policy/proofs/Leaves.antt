@@ -34,6 +34,9 @@ keyword_again (keyword.Leaf leaf.Last) = refl
 keyword_again (keyword.Leaf leaf.Kind) = refl
 keyword_again (keyword.Leaf leaf.Alive) = refl
 keyword_again (keyword.Leaf leaf.Statement) = refl
+keyword_again (keyword.Leaf leaf.Called) = refl
+keyword_again (keyword.Leaf leaf.Input) = refl
+keyword_again (keyword.Leaf leaf.Answer) = refl
 
 pub keyword_given : (word : List ℕ) (result : Option Keyword) → FindsSome (λ k. word ≡ first_of_test k) result → keyword_in word ≡ result
 unfolding keyword_in

@@ -4,19 +4,21 @@ use Rattle.std.specs.Prelude.{List, [], ◌∷◌, length, codes, slice_get, Opt
 use Rattle.std.specs.List.{list_any}
 use Rattle.sha2.specs.Sha256.{sha256}
 use Rattle.mb_format.specs.Combinators.{same_bytes}
+use Rattle.mb_model.specs.declared.entry.Said.{Said}
 use Rattle.mb_model.specs.declared.layer.Layer.{Layer}
 use Rattle.mb_model.specs.declared.order.KeyKind.{KeyKind}
 use Rattle.mb_model.specs.declared.order.KeyKind.TheVariants as kinds
 use Rattle.mb_model.specs.declared.state.Configuration.{Configuration}
 use Rattle.mb_model.specs.declared.state.Report.{Report}
 use Rattle.mb_model.specs.signatures.Key.{key_bytes}
+use Rattle.mb_model.specs.records.ChainFormat.{answered_in}
 use Rattle.mb_model.specs.owners.Layers.{layer_of, is_layer_number, is_same_trust, trust_for}
 use Rattle.mb_policy.specs.declared.judging.Judgement.{Judgement}
 use Rattle.mb_policy.specs.declared.judging.Judgement.TheVariants as judgement
 use Rattle.mb_policy.specs.Policies.{HashSet, Test, PolicyItem, set_item, rule_item}
-use Rattle.mb_policy.specs.Policies.{both_of, either_of, opposite, owner_in, code_in, version_between, trust_is}
+use Rattle.mb_policy.specs.Policies.{both_of, either_of, opposite, owner_in_set, code_in_set, version_between, trust_is}
 use Rattle.mb_policy.specs.Policies.{reliable_at, number_between, comes_first, comes_last, kind_is, key_lives}
-use Rattle.mb_policy.specs.Policies.{has_message}
+use Rattle.mb_policy.specs.Policies.{has_statement, has_call, input_in, answer_in}
 
 -- ---- tests
 
@@ -49,6 +51,17 @@ owner_hash layer = option_map (λ owner. sha256 (key_bytes owner)) layer.owner
 abbrev pub code_hash : Layer → Option (List ℕ)
 code_hash layer = option_map (λ code. code.hash) layer.code
 
+-- the hash of the input and the answer, if there is a statement and it is one of a call
+abbrev pub call_said : Option Said → Option (List ℕ × List ℕ)
+call_said None = None
+call_said (Some said) = answered_in said
+
+abbrev pub input_hash : Report → Option (List ℕ)
+input_hash report = option_map (λ (input, answer). input) (call_said report.said)
+
+abbrev pub answer_hash : Report → Option (List ℕ)
+answer_hash report = option_map (λ (input, answer). sha256 answer) (call_said report.said)
+
 -- the number is at least the first of these two and at most the second; no number is, if the first is greater
 abbrev pub is_between : ℕ → ℕ → ℕ → Bool
 is_between least most number = nat_le least number && nat_le number most
@@ -66,9 +79,9 @@ abbrev pub holds : Test → Situation → Bool
 holds (both_of a b) s = holds a s && holds b s
 holds (either_of a b) s = holds a s || holds b s
 holds (opposite a) s = not (holds a s)
-holds (owner_in layer set) s =
+holds (owner_in_set layer set) s =
     some_passes (λ listed. some_passes (has_hash set) (owner_hash listed)) (listed_layer s.configuration layer)
-holds (code_in layer set) s =
+holds (code_in_set layer set) s =
     some_passes (λ listed. some_passes (has_hash set) (code_hash listed)) (listed_layer s.configuration layer)
 holds (version_between layer least most) s = some_passes (has_version least most) (listed_layer s.configuration layer)
 holds (trust_is layer lower trust) s =
@@ -79,7 +92,10 @@ holds comes_first s = s.index == 0
 holds comes_last s = s.index + 1 == length s.report.lives
 holds (kind_is kind) s = is_same_kind s.report.kind kind
 holds key_lives s = s.report.alive
-holds has_message s = is_some s.report.message
+holds has_statement s = is_some s.report.said
+holds has_call s = is_some (call_said s.report.said)
+holds (input_in set) s = some_passes (has_hash set) (input_hash s.report)
+holds (answer_in set) s = some_passes (has_hash set) (answer_hash s.report)
 
 -- ---- rules
 

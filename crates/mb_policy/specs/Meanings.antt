@@ -15,14 +15,16 @@ use Rattle.mb_policy.specs.declared.policy.NamedSet.{NamedSet}
 use Rattle.mb_policy.specs.declared.policy.Rule.{Rule}
 use Rattle.mb_policy.specs.declared.policy.Test.{Test as Node}
 use Rattle.mb_policy.specs.declared.policy.Test.TheVariants as node
-use Rattle.mb_policy.specs.Policies.{Test, both_of, either_of, opposite, owner_in, code_in, version_between, trust_is}
+use Rattle.mb_policy.specs.Policies.{Test, both_of, either_of, opposite, owner_in_set, code_in_set, version_between}
+use Rattle.mb_policy.specs.Policies.{trust_is}
 use Rattle.mb_policy.specs.Policies.{reliable_at, number_between, comes_first, comes_last, kind_is, key_lives}
-use Rattle.mb_policy.specs.Policies.{has_message}
+use Rattle.mb_policy.specs.Policies.{has_statement, has_call, input_in, answer_in}
 use Rattle.mb_policy.specs.Policies.{HashSet, PolicyRule, PolicyItem, set_item, rule_item, line_words}
 use Rattle.mb_policy.specs.Policies.{SaysSet, SaysRule, SaysItem, verb_word, IsHashWord, test_words, test_depth}
 use Rattle.mb_policy.specs.Policies.{MayFollow}
 use Rattle.mb_policy.specs.declared.limits.TheConstants.{HASH_LIMIT, DEPTH_LIMIT}
-use Rattle.mb_policy.specs.Reading.{FoundTest, pair_test, set_first, reads_leaf, reads_owner, reads_code, reads}
+use Rattle.mb_policy.specs.Reading.{FoundTest, pair_test, set_first, reads_leaf, reads_owner, reads_code, reads_input}
+use Rattle.mb_policy.specs.Reading.{reads_answer, reads}
 
 -- ---- a policy
 
@@ -49,8 +51,8 @@ abbrev pub test_meant : List PolicyItem → Node → Test
 test_meant items (node.And' p a q b) = both_of (test_meant items a) (test_meant items b)
 test_meant items (node.Or' p a q b) = either_of (test_meant items a) (test_meant items b)
 test_meant items (node.Not' p a) = opposite (test_meant items a)
-test_meant items (node.Owner layer set) = owner_in layer (set_at items set)
-test_meant items (node.Code layer set) = code_in layer (set_at items set)
+test_meant items (node.Owner layer set) = owner_in_set layer (set_at items set)
+test_meant items (node.Code layer set) = code_in_set layer (set_at items set)
 test_meant items (node.Version layer least most) = version_between layer least most
 test_meant items (node.Trust layer lower trust) = trust_is layer lower trust
 test_meant items (node.Reliable layer) = reliable_at layer
@@ -59,7 +61,10 @@ test_meant items node.First = comes_first
 test_meant items node.Last = comes_last
 test_meant items (node.Kind kind) = kind_is kind
 test_meant items node.Alive = key_lives
-test_meant items node.Statement = has_message
+test_meant items node.Statement = has_statement
+test_meant items node.Called = has_call
+test_meant items (node.Input set) = input_in (set_at items set)
+test_meant items (node.Answer set) = answer_in (set_at items set)
 
 abbrev pub rule_meant : List PolicyItem → Rule → PolicyRule
 rule_meant items rule = record { name = rule.name; allows = rule.allows; test = test_meant items rule.test }
@@ -114,6 +119,12 @@ ReadsOwner before words result after = GivesLeaf (reads_owner (items_of before) 
 
 abbrev pub ReadsCode : List Line → List (List ℕ) → Option Node → List (List ℕ) → Type 0
 ReadsCode before words result after = GivesLeaf (reads_code (items_of before) words) (items_of before) result after
+
+abbrev pub ReadsInput : List Line → List (List ℕ) → Option Node → List (List ℕ) → Type 0
+ReadsInput before words result after = GivesLeaf (reads_input (items_of before) words) (items_of before) result after
+
+abbrev pub ReadsAnswer : List Line → List (List ℕ) → Option Node → List (List ℕ) → Type 0
+ReadsAnswer before words result after = GivesLeaf (reads_answer (items_of before) words) (items_of before) result after
 
 -- what reading found of a test that names no set is given, whichever items stand before
 abbrev pub GivesPlain : FoundTest → Option Node → List (List ℕ) → Type 0

@@ -26,14 +26,15 @@ pub record HashSet : Type 0 where
 pub data Test : Type 0 where
   both_of either_of : Test → Test → Test
   opposite : Test → Test
-  owner_in code_in : ℕ → HashSet → Test
+  owner_in_set code_in_set : ℕ → HashSet → Test
   version_between : ℕ → ℕ → ℕ → Test
   trust_is : ℕ → ℕ → Trust → Test
   reliable_at : ℕ → Test
   number_between : ℕ → ℕ → Test
   comes_first comes_last : Test
   kind_is : KeyKind → Test
-  key_lives has_message : Test
+  key_lives has_statement has_call : Test
+  input_in answer_in : HashSet → Test
 
 -- a rule: its name, whether it allows or denies, and when it applies
 pub record PolicyRule : Type 0 where
@@ -58,8 +59,8 @@ abbrev pub test_words : Test → List (List ℕ)
 test_words (both_of a b) = codes "and" ∷ test_words a ++ test_words b
 test_words (either_of a b) = codes "or" ∷ test_words a ++ test_words b
 test_words (opposite a) = codes "not" ∷ test_words a
-test_words (owner_in layer set) = codes "owner" ∷ decimal layer ∷ set.name ∷ []
-test_words (code_in layer set) = codes "code" ∷ decimal layer ∷ set.name ∷ []
+test_words (owner_in_set layer set) = codes "owner" ∷ decimal layer ∷ set.name ∷ []
+test_words (code_in_set layer set) = codes "code" ∷ decimal layer ∷ set.name ∷ []
 test_words (version_between layer least most) = codes "version" ∷ decimal layer ∷ decimal least ∷ decimal most ∷ []
 test_words (trust_is layer lower trust) = codes "trust" ∷ decimal layer ∷ decimal lower ∷ trust_word trust ∷ []
 test_words (reliable_at layer) = codes "reliable" ∷ decimal layer ∷ []
@@ -68,7 +69,10 @@ test_words comes_first = codes "first" ∷ []
 test_words comes_last = codes "last" ∷ []
 test_words (kind_is kind) = codes "kind" ∷ kind_word kind ∷ []
 test_words key_lives = codes "alive" ∷ []
-test_words has_message = codes "statement" ∷ []
+test_words has_statement = codes "statement" ∷ []
+test_words has_call = codes "called" ∷ []
+test_words (input_in set) = codes "input" ∷ set.name ∷ []
+test_words (answer_in set) = codes "answer" ∷ set.name ∷ []
 
 -- ---- which tests may stand where
 
@@ -100,13 +104,15 @@ abbrev pub MayFollow : List PolicyItem → Test → Type 0
 MayFollow before (both_of a b) = MayFollow before a × MayFollow before b
 MayFollow before (either_of a b) = MayFollow before a × MayFollow before b
 MayFollow before (opposite a) = MayFollow before a
-MayFollow before (owner_in layer set) = IsTrue (is_layer_number layer) × HasSet before set
-MayFollow before (code_in layer set) = IsTrue (is_layer_number layer) × HasSet before set
+MayFollow before (owner_in_set layer set) = IsTrue (is_layer_number layer) × HasSet before set
+MayFollow before (code_in_set layer set) = IsTrue (is_layer_number layer) × HasSet before set
 MayFollow before (version_between layer least most) =
     IsTrue (is_layer_number layer) × (least ≤ number_limit) × (most ≤ number_limit)
 MayFollow before (trust_is layer lower trust) = IsTrue (is_layer_number layer) × (1 ≤ lower) × (lower ≤ 2)
 MayFollow before (reliable_at layer) = IsTrue (is_layer_number layer)
 MayFollow before (number_between least most) = (least ≤ number_limit) × (most ≤ number_limit)
+MayFollow before (input_in set) = HasSet before set
+MayFollow before (answer_in set) = HasSet before set
 MayFollow before _ = Unit {0}
 
 -- ---- lines

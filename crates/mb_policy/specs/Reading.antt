@@ -17,9 +17,10 @@ use Rattle.mb_policy.specs.declared.keyword.Pairing.{Pairing}
 use Rattle.mb_policy.specs.declared.keyword.Pairing.TheVariants as pairing
 use Rattle.mb_policy.specs.declared.keyword.Leaf.{Leaf}
 use Rattle.mb_policy.specs.declared.keyword.Leaf.TheVariants as leaf
-use Rattle.mb_policy.specs.Policies.{Test, both_of, either_of, opposite, owner_in, code_in, version_between, trust_is}
+use Rattle.mb_policy.specs.Policies.{Test, both_of, either_of, opposite, owner_in_set, code_in_set, version_between}
+use Rattle.mb_policy.specs.Policies.{trust_is}
 use Rattle.mb_policy.specs.Policies.{reliable_at, number_between, comes_first, comes_last, kind_is, key_lives}
-use Rattle.mb_policy.specs.Policies.{has_message}
+use Rattle.mb_policy.specs.Policies.{has_statement, has_call, input_in, answer_in}
 use Rattle.mb_policy.specs.Policies.{HashSet, PolicyItem, set_named}
 
 -- ---- words that stand for a value
@@ -41,6 +42,9 @@ leaf_word leaf.Last = codes "last"
 leaf_word leaf.Kind = codes "kind"
 leaf_word leaf.Alive = codes "alive"
 leaf_word leaf.Statement = codes "statement"
+leaf_word leaf.Called = codes "called"
+leaf_word leaf.Input = codes "input"
+leaf_word leaf.Answer = codes "answer"
 
 -- the first word of a test
 abbrev pub first_of_test : Keyword → List ℕ
@@ -54,7 +58,7 @@ every_keyword =
     keyword.Pair pairing.And ∷ keyword.Pair pairing.Or ∷ keyword.Not ∷ keyword.Leaf leaf.Owner ∷ keyword.Leaf leaf.Code
     ∷ keyword.Leaf leaf.Version ∷ keyword.Leaf leaf.Trust ∷ keyword.Leaf leaf.Reliable ∷ keyword.Leaf leaf.Number
     ∷ keyword.Leaf leaf.First ∷ keyword.Leaf leaf.Last ∷ keyword.Leaf leaf.Kind ∷ keyword.Leaf leaf.Alive
-    ∷ keyword.Leaf leaf.Statement ∷ []
+    ∷ keyword.Leaf leaf.Statement ∷ keyword.Leaf leaf.Called ∷ keyword.Leaf leaf.Input ∷ keyword.Leaf leaf.Answer ∷ []
 
 -- the first of these values that the word means
 abbrev pub meant_by : {A : Type 0} → (A → List ℕ) → List A → List ℕ → Option A
@@ -127,13 +131,13 @@ unfoldable pub reads_owner : List PolicyItem → List (List ℕ) → FoundTest
 reads_owner items words =
     with_value (layer_first 3 words) (λ layer.
     with_value (set_first items (later_words words)) (λ set.
-    Some (owner_in layer set, later_words (later_words words))))
+    Some (owner_in_set layer set, later_words (later_words words))))
 
 unfoldable pub reads_code : List PolicyItem → List (List ℕ) → FoundTest
 reads_code items words =
     with_value (layer_first 3 words) (λ layer.
     with_value (set_first items (later_words words)) (λ set.
-    Some (code_in layer set, later_words (later_words words))))
+    Some (code_in_set layer set, later_words (later_words words))))
 
 unfoldable pub reads_version : List (List ℕ) → FoundTest
 reads_version words =
@@ -161,6 +165,12 @@ reads_numbers words =
 unfoldable pub reads_kind : List (List ℕ) → FoundTest
 reads_kind words = with_value (kind_first words) (λ kind. Some (kind_is kind, later_words words))
 
+unfoldable pub reads_input : List PolicyItem → List (List ℕ) → FoundTest
+reads_input items words = with_value (set_first items words) (λ set. Some (input_in set, later_words words))
+
+unfoldable pub reads_answer : List PolicyItem → List (List ℕ) → FoundTest
+reads_answer items words = with_value (set_first items words) (λ set. Some (answer_in set, later_words words))
+
 abbrev pub reads_leaf : List PolicyItem → Leaf → List (List ℕ) → FoundTest
 reads_leaf items leaf.Owner words = reads_owner items words
 reads_leaf items leaf.Code words = reads_code items words
@@ -172,7 +182,10 @@ reads_leaf items leaf.First words = Some (comes_first, words)
 reads_leaf items leaf.Last words = Some (comes_last, words)
 reads_leaf items leaf.Kind words = reads_kind words
 reads_leaf items leaf.Alive words = Some (key_lives, words)
-reads_leaf items leaf.Statement words = Some (has_message, words)
+reads_leaf items leaf.Statement words = Some (has_statement, words)
+reads_leaf items leaf.Called words = Some (has_call, words)
+reads_leaf items leaf.Input words = reads_input items words
+reads_leaf items leaf.Answer words = reads_answer items words
 
 abbrev pub pair_test : Pairing → Test → Test → Test
 pair_test pairing.And a b = both_of a b

@@ -2,7 +2,7 @@
 use Rattle.std.specs.Prelude.{◌≡◌, ℕ, ◌==◌, Bool, false, not, ◌&&◌, ◌||◌, if◌then◌else◌, List}
 use Rattle.std.specs.Prelude.{Option, None, Some, slice_get}
 use Rattle.mb_model.specs.declared.layer.Layer.{Layer}
-use Rattle.mb_model.specs.declared.state.Configuration.{Configuration}
+use Rattle.mb_model.specs.declared.state.Report.{Report}
 use Rattle.mb_policy.specs.declared.judging.DecidingRule.{DecidingRule}
 use Rattle.mb_policy.specs.declared.policy.Line.{Line}
 use Rattle.mb_policy.specs.declared.policy.Line.TheVariants as line
@@ -10,13 +10,15 @@ use Rattle.mb_policy.specs.declared.policy.Test.{Test as Node}
 use Rattle.mb_policy.specs.declared.policy.Test.TheVariants as node
 use Rattle.mb_policy.specs.declared.situation.Situation.{Situation as Placed}
 use Rattle.mb_policy.specs.declared.tables.LayerHashes.{LayerHashes}
+use Rattle.mb_policy.specs.declared.tables.CallHashes.{CallHashes}
 use Rattle.mb_policy.specs.declared.tables.Hashes.{Hashes}
 use Rattle.mb_policy.specs.declared.tables.PerLayer.{PerLayer}
 use Rattle.mb_policy.specs.declared.tables.Members.{Members}
 use Rattle.mb_policy.specs.Policies.{HashSet, version_between, trust_is, reliable_at}
-use Rattle.mb_policy.specs.Policies.{number_between, comes_first, comes_last, kind_is, key_lives, has_message}
+use Rattle.mb_policy.specs.Policies.{number_between, comes_first, comes_last, kind_is, key_lives}
+use Rattle.mb_policy.specs.Policies.{has_statement, has_call}
 use Rattle.mb_policy.specs.Judging.{Situation, listed_layer, some_passes, has_hash, owner_hash, code_hash, holds}
-use Rattle.mb_policy.specs.Judging.{Ruling, ruling_of}
+use Rattle.mb_policy.specs.Judging.{input_hash, answer_hash, Ruling, ruling_of}
 use Rattle.mb_policy.specs.Meanings.{set_meant, items_of}
 
 abbrev pub situation_meant : Placed → Situation
@@ -32,11 +34,16 @@ abbrev pub layer_hashes : Option Layer → LayerHashes
 layer_hashes None = record { owner = None; code = None }
 layer_hashes (Some layer) = record { owner = owner_hash layer; code = code_hash layer }
 
-abbrev pub listed_hashes : Configuration → Hashes
-listed_hashes configuration = record {
-  one = layer_hashes (listed_layer configuration 1);
-  two = layer_hashes (listed_layer configuration 2);
-  three = layer_hashes (listed_layer configuration 3);
+-- the hashes of the call that the report states, or none if it states no call
+abbrev pub call_hashes : Report → CallHashes
+call_hashes report = record { input = input_hash report; answer = answer_hash report }
+
+abbrev pub asked_hashes : Situation → Hashes
+asked_hashes s = record {
+  one = layer_hashes (listed_layer s.configuration 1);
+  two = layer_hashes (listed_layer s.configuration 2);
+  three = layer_hashes (listed_layer s.configuration 3);
+  call = call_hashes s.report;
 }
 
 -- ---- members
@@ -49,7 +56,7 @@ passes_at answers layer =
     else if layer == 3 then answers.three
     else false
 
--- which owners and codes are in a set
+-- which owners and codes are in a set, and whether the input and the answer of the call are
 abbrev pub members_of_set : HashSet → Hashes → Members
 members_of_set set hashes = record {
   owners = record {
@@ -62,14 +69,19 @@ members_of_set set hashes = record {
     two = some_passes (has_hash set) hashes.two.code;
     three = some_passes (has_hash set) hashes.three.code;
   };
+  input = some_passes (has_hash set) hashes.call.input;
+  answer = some_passes (has_hash set) hashes.call.answer;
 }
 
 abbrev pub no_layer : PerLayer
 no_layer = record { one = false; two = false; three = false }
 
+abbrev pub no_members : Members
+no_members = record { owners = no_layer; codes = no_layer; input = false; answer = false }
+
 abbrev pub members_of_line : Line → Hashes → Members
 members_of_line (line.Set set) hashes = members_of_set (set_meant set) hashes
-members_of_line (line.Rule rule) hashes = record { owners = no_layer; codes = no_layer }
+members_of_line (line.Rule rule) hashes = no_members
 
 -- ---- tests
 
@@ -78,6 +90,12 @@ owner_seen seen set layer = some_passes (λ members. passes_at members.owners la
 
 abbrev pub code_seen : List Members → ℕ → ℕ → Bool
 code_seen seen set layer = some_passes (λ members. passes_at members.codes layer) (slice_get seen set)
+
+abbrev pub input_seen : List Members → ℕ → Bool
+input_seen seen set = some_passes (λ members. members.input) (slice_get seen set)
+
+abbrev pub answer_seen : List Members → ℕ → Bool
+answer_seen seen set = some_passes (λ members. members.answer) (slice_get seen set)
 
 -- whether a test holds, by the members of the sets before its rule
 abbrev pub test_passes : List Members → Situation → Node → Bool
@@ -94,7 +112,10 @@ test_passes seen s node.First = holds comes_first s
 test_passes seen s node.Last = holds comes_last s
 test_passes seen s (node.Kind kind) = holds (kind_is kind) s
 test_passes seen s node.Alive = holds key_lives s
-test_passes seen s node.Statement = holds has_message s
+test_passes seen s node.Statement = holds has_statement s
+test_passes seen s node.Called = holds has_call s
+test_passes seen s (node.Input set) = input_seen seen set
+test_passes seen s (node.Answer set) = answer_seen seen set
 
 -- ---- rules
 

@@ -5,11 +5,11 @@ ghost use Rattle.mb_policy.specs.declared.judging.Judgement.TheVariants as judge
 ghost use Rattle.mb_policy.specs.Judging.{IsJudged};
 ghost use Rattle.mb_policy.specs.Meanings.{policy_items};
 ghost use Rattle.mb_policy.specs.Tables.{situation_meant, FindsRule, GivesRuling};
-ghost use Rattle.mb_policy.specs.Tables.{test_passes, owner_seen, code_seen};
+ghost use Rattle.mb_policy.specs.Tables.{test_passes, owner_seen, code_seen, input_seen, answer_seen};
 
 use crate::policy::{Line, Policy, Test};
 use crate::situation::Situation;
-use crate::tables::{Members, hash_layers, members_of};
+use crate::tables::{Members, find_hashes, members_of};
 use mb_model::{Bytes, Items, NoMemory, Report};
 use std::alloc::Global;
 
@@ -74,7 +74,7 @@ fn find_rule<'a>(
 ) -> Result<DecidingRule<'a>, NoMemory>
     ensures { IfOk result (FindsRule lines.now (situation_meant situation.now)) }
 {
-    let hashes = hash_layers(situation);
+    let hashes = find_hashes(situation);
     let mut seen = Items::new(alloc);
     for index in 0..lines.len() {
         let line = &lines[index];
@@ -139,7 +139,10 @@ impl Test {
             Test::Last => situation.is_last(),
             Test::Kind(kind) => situation.is_of_kind(*kind),
             Test::Alive => situation.report.alive,
-            Test::Statement => situation.has_message(),
+            Test::Statement => situation.has_statement(),
+            Test::Called => situation.has_call(),
+            Test::Input { set } => has_input(seen, *set),
+            Test::Answer { set } => has_answer(seen, *set),
         }
     }
 }
@@ -160,6 +163,26 @@ fn has_code(seen: &[Members], set: usize, layer: u8) -> bool
 {
     match seen.get(set) {
         Some(members) => members.codes.at(layer),
+        None => false,
+    }
+}
+
+/// Whether the input of the call is in the set at this index.
+fn has_input(seen: &[Members], set: usize) -> bool
+    ensures { result ≡ input_seen seen.now set }
+{
+    match seen.get(set) {
+        Some(members) => members.input,
+        None => false,
+    }
+}
+
+/// Whether the answer of the call is in the set at this index.
+fn has_answer(seen: &[Members], set: usize) -> bool
+    ensures { result ≡ answer_seen seen.now set }
+{
+    match seen.get(set) {
+        Some(members) => members.answer,
         None => false,
     }
 }

@@ -47,6 +47,9 @@ pub enum Leaf {
     Kind,
     Alive,
     Statement,
+    Called,
+    Input,
+    Answer,
 }
 
 /// The verb that a word is.
@@ -80,6 +83,9 @@ pub(crate) fn find_keyword(word: &[u8]) -> Option<Keyword>
         b"kind" => Some(Keyword::Leaf(Leaf::Kind)),
         b"alive" => Some(Keyword::Leaf(Leaf::Alive)),
         b"statement" => Some(Keyword::Leaf(Leaf::Statement)),
+        b"called" => Some(Keyword::Leaf(Leaf::Called)),
+        b"input" => Some(Keyword::Leaf(Leaf::Input)),
+        b"answer" => Some(Keyword::Leaf(Leaf::Answer)),
         _ => None,
     }
 }

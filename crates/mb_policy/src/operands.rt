@@ -5,7 +5,7 @@ ghost use Rattle.mb_policy.specs.Reading.{later_words, number_first, layer_in, l
 ghost use Rattle.mb_policy.specs.Reading.{trust_first, kind_first, reads_version, reads_trust};
 ghost use Rattle.mb_policy.specs.Reading.{reads_reliable, reads_numbers, reads_kind};
 ghost use Rattle.mb_policy.specs.Meanings.{line_has_set, FindsSet, GivesPlain};
-ghost use Rattle.mb_policy.specs.Meanings.{ReadsLeaf, ReadsOwner, ReadsCode};
+ghost use Rattle.mb_policy.specs.Meanings.{ReadsLeaf, ReadsOwner, ReadsCode, ReadsInput, ReadsAnswer};
 
 use crate::keyword::{Leaf, find_kind, find_trust};
 use crate::policy::{Line, Test};
@@ -35,6 +35,9 @@ pub(crate) fn read_leaf(leaf: Leaf, words: &mut Words<'_>, before: &[Line]) -> O
         Leaf::Kind => read_kind(words),
         Leaf::Alive => Some(Test::Alive),
         Leaf::Statement => Some(Test::Statement),
+        Leaf::Called => Some(Test::Called),
+        Leaf::Input => read_input(words, before),
+        Leaf::Answer => read_answer(words, before),
     }
 }
 
@@ -131,6 +134,26 @@ fn read_kind(words: &mut Words<'_>) -> Option<Test>
         return None;
     };
     Some(Test::Kind(kind))
+}
+
+/// The test of a call's input.
+fn read_input(words: &mut Words<'_>, before: &[Line]) -> Option<Test>
+    ensures { ReadsInput before.now words.old result words.new }
+{
+    let Some(set) = take_set(words, before) else {
+        return None;
+    };
+    Some(Test::Input { set })
+}
+
+/// The test of a call's answer.
+fn read_answer(words: &mut Words<'_>, before: &[Line]) -> Option<Test>
+    ensures { ReadsAnswer before.now words.old result words.new }
+{
+    let Some(set) = take_set(words, before) else {
+        return None;
+    };
+    Some(Test::Answer { set })
 }
 
 /// The number that the next word is.

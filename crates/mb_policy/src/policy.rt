@@ -64,8 +64,14 @@ pub enum Test {
     Kind(KeyKind),
     /// `alive`: the key is alive.
     Alive,
-    /// `statement`: the chain has a statement.
+    /// `statement`: the chain has a statement, a message or the answer of a call.
     Statement,
+    /// `called`: the chain has the statement of a call.
+    Called,
+    /// `input`: the statement is one of a call, and the hash of the input is in the set.
+    Input { set: usize },
+    /// `answer`: the statement is one of a call, and the SHA-256 of the answer is in the set.
+    Answer { set: usize },
 }
 
 /// The test on the heap.

@@ -4,10 +4,10 @@ ghost use Rattle.std.specs.Prelude.{◌≡◌, MatchOption, None, Some};
 ghost use Rattle.mb_model.specs.owners.Layers.{is_same_trust, trust_for};
 ghost use Rattle.mb_policy.specs.Judging.{listed_layer, holds};
 ghost use Rattle.mb_policy.specs.Policies.{version_between, trust_is, reliable_at, number_between};
-ghost use Rattle.mb_policy.specs.Policies.{comes_first, comes_last, kind_is, has_message};
+ghost use Rattle.mb_policy.specs.Policies.{comes_first, comes_last, kind_is, has_statement, has_call};
 ghost use Rattle.mb_policy.specs.Tables.{situation_meant};
 
-use mb_model::{Configuration, KeyKind, Layer, Report, Trust};
+use mb_model::{Configuration, KeyKind, Layer, Report, Said, Trust};
 
 /// A configuration of a report, with its index in the report's list.
 #[derive(Clone, Copy)]
@@ -101,11 +101,21 @@ impl<'a> Situation<'a> {
         }
     }
 
-    /// Whether the chain has a statement.
-    pub(crate) fn has_message(&self) -> bool
-        ensures { result ≡ holds has_message (situation_meant self.now) }
+    /// Whether the chain has a statement, a message or the answer of a call.
+    pub(crate) fn has_statement(&self) -> bool
+        ensures { result ≡ holds has_statement (situation_meant self.now) }
     {
-        self.report.message.is_some()
+        self.report.said.is_some()
+    }
+
+    /// Whether the chain has the statement of a call.
+    pub(crate) fn has_call(&self) -> bool
+        ensures { result ≡ holds has_call (situation_meant self.now) }
+    {
+        match &self.report.said {
+            Some(Said::Answer { .. }) => true,
+            Some(Said::Message(_)) | None => false,
+        }
     }
 }
 

@@ -1,2 +1,3 @@
 pub mod TrustLemmas
+pub mod CodeLemmas
 pub mod ShorteningLemmas

@@ -15,7 +15,7 @@ use Rattle.mb_model_lemmas.proofs.ReaderLemmas.{made_on}
 use Rattle.mb_model_histories.proofs.AgreementLemmas.{shortened_chains_list_less}
 use Rattle.mb_policy.specs.Examples.{allow_rule, deny_rule, small_configuration, small_report}
 use Rattle.mb_policy.specs.Judging.{AllowsFirst, is_same_kind, holds, Ruling, ruling_at}
-use Rattle.mb_policy.specs.Policies.{Test, PolicyItem, set_item, rule_item, both_of, either_of, opposite, owner_in, code_in, version_between, trust_is, reliable_at, number_between, comes_first, comes_last, kind_is, key_lives, has_message}
+use Rattle.mb_policy.specs.Policies.{Test, PolicyItem, set_item, rule_item, both_of, either_of, opposite, owner_in_set, code_in_set, version_between, trust_is, reliable_at, number_between, comes_first, comes_last, kind_is, key_lives, has_statement, has_call, input_in, answer_in}
 use Rattle.mb_policy_histories.specs.ShorteningLaws.{looks_at_end, IsBlindToEnd, IsShortened, ShortenedReportsStayAllowed, ShortenedChainsShortenReports, EndsMatter, ShorteningCanAllow}
 
 first_false : (one other : Bool) → (one || other) ≡ false → one ≡ false
@@ -45,8 +45,8 @@ module _ (short long : Report) (kind : short.kind ≡ long.kind) (index : ℕ) (
       let second : looks_at_end other ≡ false = second_false (looks_at_end one) (looks_at_end other) blind in
       ap (λ b. b || in_short other) (holds_alike one first) ∙ ap (λ b. in_long one || b) (holds_alike other second)
   holds_alike (opposite one) blind = ap not (holds_alike one blind)
-  holds_alike (owner_in layer set) blind = refl
-  holds_alike (code_in layer set) blind = refl
+  holds_alike (owner_in_set layer set) blind = refl
+  holds_alike (code_in_set layer set) blind = refl
   holds_alike (version_between layer least most) blind = refl
   holds_alike (trust_is layer lower trust) blind = refl
   holds_alike (reliable_at layer) blind = refl
@@ -55,7 +55,10 @@ module _ (short long : Report) (kind : short.kind ≡ long.kind) (index : ℕ) (
   holds_alike comes_last blind = absurd (grind (arith, blind))
   holds_alike (kind_is asked_kind) blind = ap (λ (k : KeyKind). is_same_kind k asked_kind) kind
   holds_alike key_lives blind = absurd (grind (arith, blind))
-  holds_alike has_message blind = absurd (grind (arith, blind))
+  holds_alike has_statement blind = absurd (grind (arith, blind))
+  holds_alike has_call blind = absurd (grind (arith, blind))
+  holds_alike (input_in set) blind = absurd (grind (arith, blind))
+  holds_alike (answer_in set) blind = absurd (grind (arith, blind))
 
   rules_alike : (items : List PolicyItem) → All IsBlindToEnd items → ruling_at items short index asked ≡ ruling_at items long index asked
   unfolding in_short in_long

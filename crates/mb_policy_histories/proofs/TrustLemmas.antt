@@ -3,6 +3,8 @@ use Rattle.std.proofs.Common.{◌≡◌, ℕ, ◌+◌, List, [], ◌∷◌, ◌+
 use Rattle.std.specs.Prelude.{slice_get, if◌then◌else◌}
 use Rattle.mb_model.specs.declared.key.PublicKey.{PublicKey}
 use Rattle.mb_model.specs.declared.entry.Entry.{Entry}
+use Rattle.mb_model.specs.declared.entry.Said.{Said}
+use Rattle.mb_model.specs.declared.entry.Statement.{Statement}
 use Rattle.mb_model.specs.declared.state.Configuration.{Configuration}
 use Rattle.mb_model.specs.declared.state.Report.{Report}
 use Rattle.mb_model.specs.chains.Acceptance.{IsCurrent, IsVerdict, Verdict, chain_acceptance, chain_rejection}
@@ -12,7 +14,7 @@ use Rattle.mb_model.specs.machine.Machine.{World}
 use Rattle.mb_model.specs.outside.Texts.{line_with_lf}
 use Rattle.mb_model_commands.specs.Commands.{Input, Command, read, find, print, refuse, HasRead, Past, Ended, end_seen_from, InputEnds, input_is_too_long, input_is_faulty, input_is_not_read, memory_lacks, text_is_printed, text_is_not_printed, CommandEnds, at_first}
 use Rattle.mb_model_commands.specs.Inputs.{root_input, chain_bytes_input}
-use Rattle.mb_model_commands.specs.Outside.{read_once, Prints}
+use Rattle.mb_model_commands.specs.Outside.{Outside, read_once, Prints}
 use Rattle.mb_model_histories.specs.AcceptanceLaws.{WasMade}
 use Rattle.mb_model_histories.specs.UseLaws.{ShowsStatement}
 use Rattle.mb_model_histories.proofs.AcceptanceLemmas.{accepted_statements_were_made, current_in}
@@ -22,7 +24,7 @@ use Rattle.mb_policy.specs.Judging.{default_ruling, IsJudged}
 use Rattle.mb_policy.specs.Policies.{PolicyItem}
 use Rattle.mb_tools_policy.specs.Inputs.{policy_input}
 use Rattle.mb_tools_policy.specs.TrustCommand.{TrustNames, trust, judge_verdict, tell_judgement}
-use Rattle.mb_policy_histories.specs.TrustLaws.{AllowsKey, DoneTrustAllows, AllowedStatementsWereMade, ShownStatementsCanBeAllowed, DeniedStatementsAreNotAllowed}
+use Rattle.mb_policy_histories.specs.TrustLaws.{AllowsKey, DoneTrustAllows, IsAllowedIn, AllowedStatementsWereMade, ShownStatementsCanBeAllowed, DeniedStatementsAreNotAllowed}
 
 -- ---- ends at status 0
 
@@ -112,37 +114,39 @@ last_listed : (sooner : List Configuration) (last : Configuration) → slice_get
 last_listed [] last = refl
 last_listed (first ∷ sooner) last = last_listed sooner last
 
+-- the policy allows the configuration in which the statement was made
+pub allowed_where_made : (names : TrustNames) (before after : Outside) (allows : AllowsKey names before after) (statement : Statement) (first last : World) (one : WasMade first last names.key allows.report statement)
+    → IsAllowedIn allows.items allows.report (configuration allows.report.layer one.number one.state.layers)
+allowed_where_made names before after allows statement first last one =
+    let asked : Configuration = configuration allows.report.layer one.number one.state.layers in
+    let listed : slice_get allows.report.lives (length one.sooner) ≡ Some asked = ap (λ lives. slice_get lives (length one.sooner)) one.lives ∙ last_listed one.sooner asked in
+    let long : length allows.report.lives ≡ length one.sooner + 1 = ap length one.lives ∙ length-append one.sooner (asked ∷ []) in
+    record { index = length one.sooner; listed = listed; allows = allows.judged (length one.sooner) asked (omega (arith, long)) listed }
+
 pub allowed_statements_were_made : AllowedStatementsWereMade
 allowed_statements_were_made names before after allows statement first last live valid comes is few honest stated not_forged =
     let made = accepted_statements_were_made allows.maker allows.bytes names.key allows.report allows.accepts statement first last live valid comes is few honest stated not_forged in
-    let one : WasMade first last names.key allows.report statement = made.0 in
-    let asked : Configuration = configuration allows.report.layer one.number one.state.layers in
-    let listed : slice_get allows.report.lives (length one.sooner) ≡ Some asked = ap (λ lives. slice_get lives (length one.sooner)) one.lives ∙ last_listed one.sooner asked in
-    let long : length allows.report.lives ≡ length one.sooner + 1 = ap length one.lives ∙ length-append one.sooner (asked ∷ []) in (
-      one,
-      made.1,
-      record { index = length one.sooner; listed = listed; allows = allows.judged (length one.sooner) asked (omega (arith, long)) listed },
-    )
+    (made.0, made.1, allowed_where_made names before after allows statement first last made.0)
 
 -- ---- values
 
 -- the report on a key of a chain with a statement says that it is alive
-alive_in : (maker : PublicKey) (first : World) (message : List ℕ) (shows : ShowsStatement maker first message) → shows.report.alive ≡ true
-alive_in maker first message shows =
+alive_in : (maker : PublicKey) (first : World) (said : Said) (shows : ShowsStatement maker first said) → shows.report.alive ≡ true
+alive_in maker first said shows =
     let entries : List Entry = entries_of shows.accepts.chain.entries in
     let current : IsCurrent entries shows.key_number shows.accepts.made shows.statement =
     current_in entries shows.key_number shows.accepts.made shows.accepts.chain.statement shows.statement shows.stated shows.accepts.current in
     ap (λ (report : Report). report.alive) shows.accepts.report_is ∙ current.alive
 
 pub shown_statements_can_be_allowed : ShownStatementsCanBeAllowed
-shown_statements_can_be_allowed maker first message shows = λ index asked less listed.
-    ap (λ b. (if b then record { name = codes "a"; allows = true } else default_ruling).allows) (alive_in maker first message shows)
+shown_statements_can_be_allowed maker first said shows = λ index asked less listed.
+    ap (λ b. (if b then record { name = codes "a"; allows = true } else default_ruling).allows) (alive_in maker first said shows)
 
 neither_allows : (b : Bool) → (if b then record { name = codes "a"; allows = false } else default_ruling).allows ≡ false
 neither_allows true = refl
 neither_allows false = refl
 
 pub denied_statements_are_not_allowed : DeniedStatementsAreNotAllowed
-denied_statements_are_not_allowed maker first message shows asked allowed =
+denied_statements_are_not_allowed maker first said shows asked allowed =
     let clash : false ≡ true = sym (neither_allows shows.report.alive) ∙ allowed.allows in
     absurd (grind (arith, clash))

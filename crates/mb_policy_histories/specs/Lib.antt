@@ -1,2 +1,3 @@
 pub mod TrustLaws
+pub mod CodeLaws
 pub mod ShorteningLaws

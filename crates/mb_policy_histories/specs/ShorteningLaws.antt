@@ -10,17 +10,22 @@ use Rattle.mb_policy.specs.declared.judging.Judgement.TheVariants as judgement
 use Rattle.mb_policy.specs.Examples.{allow_rule, deny_rule, small_configuration, small_report}
 use Rattle.mb_policy.specs.Judging.{IsJudged}
 use Rattle.mb_policy.specs.Policies.{Test, PolicyItem, set_item, rule_item, both_of, either_of, opposite}
-use Rattle.mb_policy.specs.Policies.{comes_first, comes_last, key_lives, has_message}
+use Rattle.mb_policy.specs.Policies.{comes_first, comes_last, key_lives, has_statement}
+use Rattle.mb_policy.specs.Policies.{has_call, input_in, answer_in}
 
 -- The test depends on the end of the chain: on whether a configuration is the last, whether the key is alive, and
--- whether there is a statement. All others look at the configuration, its place in the list, and the kind of the key.
+-- whether there is a statement and what it says. All others look at the configuration, its place in the list, and the
+-- kind of the key.
 abbrev pub looks_at_end : Test → Bool
 looks_at_end (both_of one other) = looks_at_end one || looks_at_end other
 looks_at_end (either_of one other) = looks_at_end one || looks_at_end other
 looks_at_end (opposite one) = looks_at_end one
 looks_at_end comes_last = true
 looks_at_end key_lives = true
-looks_at_end has_message = true
+looks_at_end has_statement = true
+looks_at_end has_call = true
+looks_at_end (input_in set) = true
+looks_at_end (answer_in set) = true
 looks_at_end _ = false
 
 -- no test of the item depends on the end of the chain

@@ -1,6 +1,7 @@
 -- Laws of a relying party's command. If `trust` allows a key by a chain with a statement, did that device make the
 -- statement, in a configuration that the policy allows?
 use Rattle.std.specs.Prelude.{◌≡◌, ◌≤◌, ℕ, List, [], ◌∷◌, length, codes, slice_get, true, Some}
+use Rattle.mb_model.specs.declared.entry.Said.{Said}
 use Rattle.mb_model.specs.declared.entry.Statement.{Statement}
 use Rattle.mb_model.specs.declared.key.PublicKey.{PublicKey}
 use Rattle.mb_model.specs.declared.limits.TheConstants.{ENTRY_LIMIT}
@@ -75,12 +76,12 @@ AllowedStatementsWereMade =
 -- A device in use shows a statement that a policy of one rule, `allow a alive`, allows.
 abbrev pub ShownStatementsCanBeAllowed : Type 0
 ShownStatementsCanBeAllowed =
-    (maker : PublicKey) (first : World) (message : List ℕ) (shows : ShowsStatement maker first message)
+    (maker : PublicKey) (first : World) (said : Said) (shows : ShowsStatement maker first said)
     → IsJudged (allow_rule (codes "a") key_lives ∷ []) shows.report judgement.Allowed
 
 -- That the policy allows the report cannot be left out: one of one rule, `deny a alive`, allows no configuration that
 -- it lists.
 abbrev pub DeniedStatementsAreNotAllowed : Type 0
 DeniedStatementsAreNotAllowed =
-    (maker : PublicKey) (first : World) (message : List ℕ) (shows : ShowsStatement maker first message)
+    (maker : PublicKey) (first : World) (said : Said) (shows : ShowsStatement maker first said)
     → (asked : Configuration) → IsAllowedIn (deny_rule (codes "a") key_lives ∷ []) shows.report asked → ⊥

@@ -6,4 +6,6 @@
 
 mod laws;
 
-pub use laws::{allowed_statements_were_made, shortened_chains_stay_allowed};
+pub use laws::{
+    allowed_calls_tell_the_code, allowed_statements_were_made, shortened_chains_stay_allowed,
+};

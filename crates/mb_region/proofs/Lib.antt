@@ -1,3 +1,4 @@
 pub mod Replaced
+pub mod Wiped
 pub mod Meant
 pub mod Placed

@@ -11,7 +11,7 @@ use Rattle.mb_model.specs.owners.Regions.{with_region}
 use Rattle.mb_model_memory.specs.Holding.{Means, KeepsContents}
 use Rattle.mb_model_memory.specs.InForce.{AgreeBesides}
 use Rattle.mb_board.specs.Calls.{Seen}
-use Rattle.mb_slot.specs.Slots.{WritesNothing, RanInOther, RanInSlot}
+use Rattle.mb_slot.specs.Slots.{MakesWrites, WritesNothing, RanInOther, RanInSlot}
 use Rattle.mb_layout.specs.declared.room.Room.{Room}
 use Rattle.mb_layout.specs.Plans.{SamePlans}
 use Rattle.mb_region.specs.Regions.{HasNoFate, ReplacesRegion, KeepsOrReplaces}
@@ -25,6 +25,7 @@ pub record CommitsBytes (slot : ℕ) (bytes : List ℕ) (area area_after : Vec �
       ⊎ HoldsInArea (area_of_slot after.memory.bbram slot) bytes
   pub left : OnOk result (inactive_area_of_slot after.memory.bbram slot ≡ area_of_slot before.memory.bbram slot)
   pub besides : AgreeBesides slot before.memory.bbram after.memory.bbram
+  pub writes : MakesWrites 2 result before after
   pub ran : RanInSlot 2 slot result before after
   pub capacity : vec_capacity area ≤ vec_capacity area_after
 
@@ -37,6 +38,7 @@ pub record CommitsRecord (slot : ℕ) (bytes : List ℕ) (area area_after : Vec 
       → KeepsOrReplaces slot region before.memory after.memory
   pub left : OnOk result (inactive_area_of_slot after.memory.bbram slot ≡ area_of_slot before.memory.bbram slot)
   pub besides : AgreeBesides slot before.memory.bbram after.memory.bbram
+  pub writes : MakesWrites 2 result before after
   pub ran : RanInSlot 2 slot result before after
   pub capacity : vec_capacity area ≤ vec_capacity area_after
 
@@ -51,6 +53,7 @@ pub record CommitsRegion (slot : ℕ) (region : Region) (room room_after : Room)
       → Means after.memory state ⊎ Means after.memory (with_region state slot region)
   pub left : OnOk result (inactive_area_of_slot after.memory.bbram slot ≡ area_of_slot before.memory.bbram slot)
   pub besides : AgreeBesides slot before.memory.bbram after.memory.bbram
+  pub writes : MakesWrites 2 result before after
   pub ran : RanInSlot 2 slot result before after
   pub plans : SamePlans room room_after
 
@@ -71,5 +74,6 @@ pub record WipesRegion (slot : ℕ) {A E : Type 0} (result : Result A E) (before
   pub current : area_of_slot after.memory.bbram slot ≡ area_of_slot before.memory.bbram slot
   pub contents : KeepsContents before.memory after.memory
   pub idle : IsBlank (inactive_area_of_slot before.memory.bbram slot) → WritesNothing result before after
+  pub writes : (IsBlank (inactive_area_of_slot before.memory.bbram slot) → ⊥) → MakesWrites 1 result before after
   pub besides : AgreeBesides slot before.memory.bbram after.memory.bbram
   pub ran : RanInOther 1 slot result before after

@@ -1,6 +1,8 @@
 -- The contents of a memory after a region is replaced. Can a power loss leave a part of the new region?
-use Rattle.std.specs.Prelude.{◌≡◌, ℕ, ◌⊎◌, List}
+use Rattle.std.specs.Prelude.{◌≡◌, ℕ, ◌⊎◌, List, []}
 use Rattle.mb_model.specs.declared.region.Region.{Region}
+use Rattle.mb_model.specs.declared.region.RegionKey.{RegionKey}
+use Rattle.mb_model.specs.declared.region.Secret.{Secret}
 use Rattle.mb_model.specs.declared.stored.Fate.TheVariants.{Keep}
 use Rattle.mb_model.specs.outside.Board.{Memory}
 use Rattle.mb_model.specs.memories.Meaning.{HoldsRegion, Contents}
@@ -26,3 +28,12 @@ pub record HasNoFate (slot : ℕ) (memory : Memory) : Type 0 where
 -- the contents of the memory stay, or the region in the slot is replaced by this one
 abbrev pub KeepsOrReplaces : ℕ → Region → Memory → Memory → Type 0
 KeepsOrReplaces slot region before after = KeepsContents before after ⊎ ReplacesRegion slot region before after
+
+-- How many write calls it takes to put a region in the place of this one, and to wipe this one: area, selector, and the
+-- old area. Of an empty region there is nothing to wipe.
+abbrev pub writes_over_all : List Secret → List RegionKey → ℕ
+writes_over_all [] [] = 2
+writes_over_all secrets keys = 3
+
+abbrev pub writes_over : Region → ℕ
+writes_over region = writes_over_all region.secrets region.keys

@@ -51,7 +51,7 @@ pub fn count_stored_keys<L: Named, B: Board>(_up: &Up<R1>, b: &B, room: &mut Roo
 }
 
 /// Replaces the stored region by the one that these bytes spell, at most 4,094 of them. If power fails, the memory
-/// holds the region before or this one. `area` is working space. There are at most two write calls.
+/// holds the region before or this one. `area` is working space. There are two write calls, at a stop one or two.
 pub fn commit_record<S: Reaches<L>, L: Named, B: Board>(
     s: S,
     b: &mut B,
@@ -69,8 +69,8 @@ pub fn commit_record<S: Reaches<L>, L: Named, B: Board>(
     }
 }
 
-/// Replaces the stored region by this one. If power fails, the memory holds the region before or this one. There are at
-/// most two write calls.
+/// Replaces the stored region by this one. If power fails, the memory holds the region before or this one. There are
+/// two write calls, at a stop one or two.
 pub fn commit_region<S: Reaches<L>, L: Named, B: Board>(
     s: S,
     b: &mut B,
@@ -105,8 +105,7 @@ pub fn apply_fate<S: Reaches<L>, L: Named, B: Board>(
     }
 }
 
-/// Sets each byte of the region's inactive area to zero, and writes nothing if each is zero already. There is at most
-/// one write call.
+/// Sets each byte of the region's inactive area to zero, by one write call; writes nothing if each is zero already.
 pub fn wipe_region<S: Reaches<L>, L: Named, B: Board>(s: S, b: &mut B) -> Result<S, Off>
     requires up { IsUp S.stage (B.seen b.old) }
     ensures { WipesRegion L.place result (B.seen b.old) (B.seen b.new) }

@@ -77,6 +77,7 @@ same_draw noise left before (event.Put region name value) e = refl
 same_draw noise left before (event.Get region name) e = refl
 same_draw noise left before (event.Drop region name) e = refl
 same_draw noise left before (event.Sign region key message) e = refl
+same_draw noise left before (event.Call region key input) e = refl
 
 -- ---- one place more
 

@@ -1,6 +1,6 @@
 -- Lines of each kind, without their first word, and what their events say of them.
 use Rattle.std.proofs.Common.{◌≡◌, ◌≢◌, ℕ, ◌≤◌, inl, inr, List, [], ◌∷◌, ◌++◌, refl, sym, ap, subst, ◌∙◌, arith}
-use Rattle.std.specs.Prelude.{codes}
+use Rattle.std.specs.Prelude.{codes, IfSome, Option}
 use Rattle.std.specs.Fmt.{decimal}
 use Rattle.std.proofs.lemmas.List.{append_cancel_left}
 use Rattle.mb_model.specs.declared.event.Event.{Event}
@@ -8,7 +8,7 @@ use Rattle.mb_model.specs.declared.event.Event.TheVariants as event
 use Rattle.mb_model.specs.declared.event.Tear.{Tear}
 use Rattle.mb_model.specs.outside.Texts.{IsHex}
 use Rattle.mb_model.specs.chains.Lines.{spaced_words, number_limit}
-use Rattle.mb_model.specs.chains.Script.{tear_of, IsName, FitsMessage, IsCutLine, SaysEvent}
+use Rattle.mb_model.specs.chains.Script.{called_word, tear_of, IsName, FitsMessage, FitsInput, IsCutLine, SaysEvent}
 use Rattle.mb_model_lemmas.proofs.LineLemmas.{Without, first_same, first_none}
 use Rattle.mb_model_lemmas.proofs.EventLemmas.{letters, letters_of, says_letters}
 use Rattle.mb_script.specs.Reading.{HasNumberFirst, HasRegionFirst, SaysSecret, SaysTail, kept_some, none, IsFill}
@@ -83,6 +83,29 @@ sign_says rest (event.Sign region key message) says = record {
   short = (says.3.1, says.2);
 }
 sign_says rest e says = absurd (other_kind (codes "sign " ++ rest) e (λ same. omega (arith, same)) says)
+
+-- ---- call
+
+pub record IsCall (rest : List ℕ) : Type 0 where
+  pub region : ℕ
+  pub key : Option ℕ
+  pub word : List ℕ
+  pub input : List ℕ
+  pub first : HasRegionFirst rest region (called_word key ++ 32 ∷ word)
+  pub within : IfSome key (λ number. number ≤ number_limit)
+  pub bounded : IsHex word input × FitsInput input
+
+pub call_says : (rest : List ℕ) (e : Event) → SaysEvent (codes "call " ++ rest) e → IsCall rest
+call_says rest (event.Call region key input) says = record {
+  region = region;
+  key = key;
+  word = says.3.0;
+  input = input;
+  first = record { upper = says.0; whole = append_cancel_left (codes "call ") rest (decimal region ++ 32 ∷ (called_word key ++ 32 ∷ says.3.0)) says.3.2 };
+  within = says.1;
+  bounded = (says.3.1, says.2);
+}
+call_says rest e says = absurd (other_kind (codes "call " ++ rest) e (λ same. omega (arith, same)) says)
 
 -- ---- cut
 
@@ -176,27 +199,30 @@ lone_none word plain boot off tamper status go (event.Put region name value) say
 lone_none word plain boot off tamper status go (event.Get region name) says = first_none 32 word (codes "get") _ plain says.2
 lone_none word plain boot off tamper status go (event.Drop region name) says = first_none 32 word (codes "drop") _ plain says.2
 lone_none word plain boot off tamper status go (event.Sign region key message) says = first_none 32 word (codes "sign") _ plain says.3.2
+lone_none word plain boot off tamper status go (event.Call region key input) says = first_none 32 word (codes "call") _ plain says.3.2
 
 -- the first word of a line is that of its kind
 kind_word : (word rest kind remaining : List ℕ) → Without 32 word → Without 32 kind → (word ≢ kind) → word ++ 32 ∷ rest ≡ kind ++ 32 ∷ remaining → ⊥
 kind_word word rest kind remaining plain kind_plain apart e = apart (first_same 32 word kind rest remaining plain kind_plain e).0
 
-pub words_none : (word rest : List ℕ) → Without 32 word → (word ≢ codes "cut") → (word ≢ codes "command") → (word ≢ codes "put") → (word ≢ codes "get") → (word ≢ codes "drop") → (word ≢ codes "sign")
+pub words_none : (word rest : List ℕ) → Without 32 word → (word ≢ codes "cut") → (word ≢ codes "command") → (word ≢ codes "put") → (word ≢ codes "get") → (word ≢ codes "drop") → (word ≢ codes "sign") → (word ≢ codes "call")
     → (e : Event) → SaysEvent (word ++ 32 ∷ rest) e → ⊥
-words_none word rest plain cut command put get drop sign event.Boot says = first_none 32 (codes "boot") word rest (Without-from_test 32 (codes "boot") refl) (sym says)
-words_none word rest plain cut command put get drop sign event.Off says = first_none 32 (codes "off") word rest (Without-from_test 32 (codes "off") refl) (sym says)
-words_none word rest plain cut command put get drop sign event.Tamper says = first_none 32 (codes "tamper") word rest (Without-from_test 32 (codes "tamper") refl) (sym says)
-words_none word rest plain cut command put get drop sign event.Status says = first_none 32 (codes "status") word rest (Without-from_test 32 (codes "status") refl) (sym says)
-words_none word rest plain cut command put get drop sign event.Go says = first_none 32 (codes "go") word rest (Without-from_test 32 (codes "go") refl) (sym says)
-words_none word rest plain cut command put get drop sign (event.Cut count tear) says =
+words_none word rest plain cut command put get drop sign call event.Boot says = first_none 32 (codes "boot") word rest (Without-from_test 32 (codes "boot") refl) (sym says)
+words_none word rest plain cut command put get drop sign call event.Off says = first_none 32 (codes "off") word rest (Without-from_test 32 (codes "off") refl) (sym says)
+words_none word rest plain cut command put get drop sign call event.Tamper says = first_none 32 (codes "tamper") word rest (Without-from_test 32 (codes "tamper") refl) (sym says)
+words_none word rest plain cut command put get drop sign call event.Status says = first_none 32 (codes "status") word rest (Without-from_test 32 (codes "status") refl) (sym says)
+words_none word rest plain cut command put get drop sign call event.Go says = first_none 32 (codes "go") word rest (Without-from_test 32 (codes "go") refl) (sym says)
+words_none word rest plain cut command put get drop sign call (event.Cut count tear) says =
     kind_word word rest (codes "cut") _ plain (Without-from_test 32 (codes "cut") refl) cut says.spelled
-words_none word rest plain cut command put get drop sign (event.Order text draw) says =
+words_none word rest plain cut command put get drop sign call (event.Order text draw) says =
     kind_word word rest (codes "command") _ plain (Without-from_test 32 (codes "command") refl) command says.0.2
-words_none word rest plain cut command put get drop sign (event.Put region name value) says =
+words_none word rest plain cut command put get drop sign call (event.Put region name value) says =
     kind_word word rest (codes "put") _ plain (Without-from_test 32 (codes "put") refl) put says.3.2
-words_none word rest plain cut command put get drop sign (event.Get region name) says =
+words_none word rest plain cut command put get drop sign call (event.Get region name) says =
     kind_word word rest (codes "get") _ plain (Without-from_test 32 (codes "get") refl) get says.2
-words_none word rest plain cut command put get drop sign (event.Drop region name) says =
+words_none word rest plain cut command put get drop sign call (event.Drop region name) says =
     kind_word word rest (codes "drop") _ plain (Without-from_test 32 (codes "drop") refl) drop says.2
-words_none word rest plain cut command put get drop sign (event.Sign region key message) says =
+words_none word rest plain cut command put get drop sign call (event.Sign region key message) says =
     kind_word word rest (codes "sign") _ plain (Without-from_test 32 (codes "sign") refl) sign says.3.2
+words_none word rest plain cut command put get drop sign call (event.Call region key input) says =
+    kind_word word rest (codes "call") _ plain (Without-from_test 32 (codes "call") refl) call says.3.2

@@ -1,6 +1,6 @@
 -- Parts of a line: each is what stands there in one way only.
 use Rattle.std.proofs.Common.{◌≡◌, ◌≢◌, ℕ, ◌-◌, ◌*◌, ◌/◌, ◌≤◌, inl, inr, List, [], ◌∷◌, ◌++◌, length, take, drop, replicate, refl, sym, ap, ◌∙◌, ◌↔◌, arith, Bool, true, not, ◌&&◌, eq-eqb}
-use Rattle.std.specs.Prelude.{◌==◌, nat_le, All, codes, IsTrue, Result, Ok, Err}
+use Rattle.std.specs.Prelude.{◌==◌, nat_le, All, codes, IsTrue, IfSome, Option, None, Some, Result, Ok, Err}
 use Rattle.std.specs.Fmt.{decimal}
 use Rattle.std.proofs.lemmas.Bool.{and_parts, le-leb, leb-true}
 use Rattle.std.specs.Result.{MatchResult}
@@ -13,11 +13,11 @@ use Rattle.mb_model.specs.declared.limits.TheConstants.{NAME_LIMIT}
 use Rattle.mb_model.specs.records.RegionFormat.{is_name, is_name_byte}
 use Rattle.mb_model.specs.chains.Lines.{IsNumber, number_limit}
 use Rattle.mb_model.specs.declared.event.Tear.{Tear}
-use Rattle.mb_model.specs.chains.Script.{IsName, tear_of}
+use Rattle.mb_model.specs.chains.Script.{IsName, called_word, tear_of}
 use Rattle.mb_model_lemmas.proofs.LineLemmas.{Without, isnt, cons_same, first_same, first_none}
-use Rattle.mb_model_lemmas.proofs.WordLemmas.{number_front, decimal_spaceless, upper_fits, name_spaceless, upper_within}
+use Rattle.mb_model_lemmas.proofs.WordLemmas.{no_dash, number_front, limited_fits, decimal_spaceless, upper_fits, name_spaceless, upper_within}
 use Rattle.mb_words.specs.Words.{IsSplit}
-use Rattle.mb_script.specs.Reading.{HasNumberFirst, HasRegionFirst, HasNameFirst, SaysSecret, SaysTail, kept_some, none, IsFill}
+use Rattle.mb_script.specs.Reading.{HasNumberFirst, HasRegionFirst, HasKeyFirst, HasNameFirst, SaysSecret, SaysTail, kept_some, none, IsFill}
 
 -- ---- bytes without a byte
 
@@ -56,6 +56,14 @@ pub region_number : (text : List ℕ) (region : ℕ) (rest : List ℕ) → HasRe
 region_number text region rest has =
     let within = upper_within region has.upper in
     (record { within = within.1; whole = has.whole }, within.0)
+
+-- a key before a space: a number begins with a digit, and is no dash
+pub key_same : (text : List ℕ) (j k : Option ℕ) (a b : List ℕ) → HasKeyFirst text j a → HasKeyFirst text k b → a ≡ b
+key_same text None None a b ha hb = append_cancel_left (codes "- ") a b (sym ha.whole ∙ hb.whole)
+key_same text None (Some k) a b ha hb = absurd (no_dash k (limited_fits k hb.within) (32 ∷ a) (32 ∷ b) (sym ha.whole ∙ hb.whole))
+key_same text (Some j) None a b ha hb = absurd (no_dash j (limited_fits j ha.within) (32 ∷ b) (32 ∷ a) (sym hb.whole ∙ ha.whole))
+key_same text (Some j) (Some k) a b ha hb =
+    (number_front j k a b (limited_fits j ha.within) (limited_fits k hb.within) (sym ha.whole ∙ hb.whole)).1
 
 pub name_word : (text word remaining name rest : List ℕ) → IsSplit 32 text word remaining → HasNameFirst text name rest → (word ≡ name) × (remaining ≡ rest)
 name_word text word remaining name rest split has =
@@ -148,6 +156,12 @@ sign_key text m n key rest word has first within = record { within = within; who
 pub sign_word : (text : List ℕ) (m n j k : ℕ) (rest v w : List ℕ) → HasRegionFirst text m rest → HasNumberFirst number_limit rest j v → HasRegionFirst text n (decimal k ++ 32 ∷ w) → k ≤ number_limit → v ≡ w
 sign_word text m n j k rest v w has number first within =
     (number_same number_limit rest j k v w (omega arith) number (sign_key text m n k rest w has first within)).1
+
+pub call_key : (text : List ℕ) (m n : ℕ) (key : Option ℕ) (rest word : List ℕ) → HasRegionFirst text m rest → HasRegionFirst text n (called_word key ++ 32 ∷ word) → IfSome key (λ number. number ≤ number_limit) → HasKeyFirst rest key word
+call_key text m n key rest word has first within = record { within = within; whole = (region_same text m n rest (called_word key ++ 32 ∷ word) has first).1 }
+
+pub call_input : (text : List ℕ) (m n : ℕ) (j k : Option ℕ) (rest v w : List ℕ) → HasRegionFirst text m rest → HasKeyFirst rest j v → HasRegionFirst text n (called_word k ++ 32 ∷ w) → IfSome k (λ number. number ≤ number_limit) → v ≡ w
+call_input text m n j k rest v w has key first within = key_same rest j k v w key (call_key text m n k rest w has first within)
 
 -- a tail that begins with a count of kept bytes, and does not go on with the word for what fills
 pub tail_none : (text remaining rest : List ℕ) (keep : ℕ) → ((word : List ℕ) → text ≢ codes "fill " ++ word) → text ≡ codes "keep " ++ remaining

@@ -1,11 +1,12 @@
 -- What the readers of a script give. Is what is read exactly what stands there?
 use Rattle.std.specs.Prelude.{◌≡◌, ℕ, ◌+◌, ◌≤◌, false, not, filter, List, ◌∷◌, ◌++◌, length, codes, IsTrue}
+use Rattle.std.specs.Prelude.{Option, IfSome}
 use Rattle.std.specs.Fmt.{decimal}
 use Rattle.mb_model.specs.declared.limits.TheConstants.{FILL_LIMIT, FLASH_LENGTH}
 use Rattle.mb_model.specs.owners.Layers.{is_upper}
 use Rattle.mb_model.specs.outside.Texts.{IsHex}
-use Rattle.mb_model.specs.chains.Lines.{HasLines}
-use Rattle.mb_model.specs.chains.Script.{IsName, is_skipped}
+use Rattle.mb_model.specs.chains.Lines.{HasLines, number_limit}
+use Rattle.mb_model.specs.chains.Script.{IsName, called_word, is_skipped}
 
 -- ---- a script
 
@@ -32,6 +33,11 @@ pub record HasNumberFirst (most : ℕ) (text : List ℕ) (number : ℕ) (rest : 
 pub record HasRegionFirst (text : List ℕ) (region : ℕ) (rest : List ℕ) : Type 0 where
   pub upper : IsTrue (is_upper region)
   pub whole : text ≡ decimal region ++ 32 ∷ rest
+
+-- a text is the key of a call, a space, and what stands after that
+pub record HasKeyFirst (text : List ℕ) (key : Option ℕ) (rest : List ℕ) : Type 0 where
+  pub within : IfSome key (λ number. number ≤ number_limit)
+  pub whole : text ≡ called_word key ++ 32 ∷ rest
 
 -- a text is a name, a space, and what stands after that
 pub record HasNameFirst (text name rest : List ℕ) : Type 0 where

@@ -5,8 +5,12 @@ ghost use Rattle.mb_model.specs.chains.Script.{SaysEvent};
 ghost use Rattle.mb_words.specs.Words.{Finds, FindsSome};
 ghost use Rattle.mb_script.specs.Reading.{SaysTail, SaysSecret};
 
-use crate::words::{is_name, read_short, read_tear, split_name, split_number, split_region};
-use mb_model::{Bytes, CUT_LIMIT, DRAW_LENGTH, Event, FLASH_LENGTH};
+use crate::words::{
+    is_name, read_bounded, read_tear, split_key, split_name, split_number, split_region,
+};
+use mb_model::{
+    Bytes, CUT_LIMIT, DRAW_LENGTH, Event, FLASH_LENGTH, INPUT_LIMIT, MESSAGE_LIMIT, VALUE_LIMIT,
+};
 use mb_words::{NotSaid, after_word, read_hex, split_at_byte};
 use std::alloc::Global;
 
@@ -65,6 +69,9 @@ fn read_words(alloc: Global, word: &[u8], rest: &[u8]) -> Result<Event, NotSaid>
     }
     if word == b"sign".as_slice() {
         return read_sign(alloc, rest);
+    }
+    if word == b"call".as_slice() {
+        return read_call(alloc, rest);
     }
     Err(NotSaid::Form)
 }
@@ -128,7 +135,7 @@ fn read_put(alloc: Global, words: &[u8]) -> Result<Event, NotSaid>
     let Some((name, word)) = split_name(rest) else {
         return Err(NotSaid::Form);
     };
-    let value = read_short(alloc, word)?;
+    let value = read_bounded(alloc, word, VALUE_LIMIT as usize)?;
     let name = Bytes::copy(alloc, name)?;
     Ok(Event::Put {
         region,
@@ -176,10 +183,24 @@ fn read_sign(alloc: Global, words: &[u8]) -> Result<Event, NotSaid>
     let Some((key, word)) = split_number(rest, u32::MAX) else {
         return Err(NotSaid::Form);
     };
-    let message = read_short(alloc, word)?;
+    let message = read_bounded(alloc, word, MESSAGE_LIMIT as usize)?;
     Ok(Event::Sign {
         region,
         key,
         message,
     })
+}
+
+/// Reads a `call` from its line without the first word.
+fn read_call(alloc: Global, words: &[u8]) -> Result<Event, NotSaid>
+    ensures { Finds (SaysEvent (codes "call " ++ words.now)) result }
+{
+    let Some((region, rest)) = split_region(words) else {
+        return Err(NotSaid::Form);
+    };
+    let Some((key, word)) = split_key(rest) else {
+        return Err(NotSaid::Form);
+    };
+    let input = read_bounded(alloc, word, INPUT_LIMIT as usize)?;
+    Ok(Event::Call { region, key, input })
 }

@@ -55,6 +55,7 @@ fn put_reply(reply: &Reply, out: &mut Vec<u8>) -> Result<(), NoMemory>
             index,
             statement,
         } => put_signed(*key, *index, statement.as_slice(), out),
+        Reply::Called(answer) => put_called(answer.as_slice(), out),
         Reply::Status {
             serial,
             number,
@@ -102,6 +103,14 @@ fn put_signed(key: u32, index: u32, statement: &[u8], out: &mut Vec<u8>) -> Resu
     put_number_word(key, out)?;
     put_number_word(index, out)?;
     put_hex_word(statement, out)
+}
+
+/// Appends the line of what a call was answered without a signature.
+fn put_called(answer: &[u8], out: &mut Vec<u8>) -> Result<(), NoMemory>
+    ensures { Puts (reply_line (Reply.Called answer.now)) out.old result out.new }
+{
+    put_slice(out, b"called")?;
+    put_hex_word(answer, out)
 }
 
 /// Appends the line of a refusal.
@@ -163,6 +172,8 @@ fn reason(number: u8) -> &'static str
         5 => "full",
         6 => "key",
         7 => "spent",
+        8 => "code",
+        9 => "run",
         10 => "text",
         11 => "target",
         12 => "state",

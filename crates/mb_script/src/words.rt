@@ -1,13 +1,13 @@
 //! The words of a line.
 
-ghost use Rattle.std.specs.Prelude.{◌≡◌, ◌↔◌, ℕ, List, MatchOption, IsTrue};
+ghost use Rattle.std.specs.Prelude.{◌≡◌, ◌↔◌, ◌≤◌, ℕ, List, length, Option, MatchOption, IsTrue};
 ghost use Rattle.mb_model.specs.outside.Texts.{IsHex};
-ghost use Rattle.mb_model.specs.chains.Script.{IsName, FitsMessage, tear_of};
+ghost use Rattle.mb_model.specs.chains.Script.{IsName, tear_of};
 ghost use Rattle.mb_words.specs.Words.{Finds};
-ghost use Rattle.mb_script.specs.Reading.{HasNumberFirst, HasRegionFirst, HasNameFirst, IsFill};
+ghost use Rattle.mb_script.specs.Reading.{HasNumberFirst, HasRegionFirst, HasKeyFirst, HasNameFirst, IsFill};
 
-use mb_model::{Bytes, FILL_LIMIT, MESSAGE_LIMIT, NAME_LIMIT, Tear};
-use mb_words::{NotSaid, read_hex, read_number, split_at_byte};
+use mb_model::{Bytes, FILL_LIMIT, NAME_LIMIT, Tear};
+use mb_words::{NotSaid, after_word, read_hex, read_number, split_at_byte};
 use std::alloc::Global;
 
 /// Reads a number, at most `most`, and a space; answers the number and what follows.
@@ -30,6 +30,19 @@ pub(crate) fn split_region(text: &[u8]) -> Option<(u8, &[u8])>
     match split_number(text, 3) {
         Some((region, rest)) if region >= 2 => Some((region as u8, rest)),
         _ => None,
+    }
+}
+
+/// Reads the key of a call, a number or a dash for none, and a space; answers the key and what follows.
+pub(crate) fn split_key(text: &[u8]) -> Option<(Option<u32>, &[u8])>
+    ensures { MatchOption result ((key : Option ℕ) (rest : List ℕ) → HasKeyFirst text.now key rest → ⊥) (λ parts. HasKeyFirst text.now parts.0 parts.1.now) }
+{
+    if let Some(rest) = after_word(text, b"- ") {
+        return Some((None, rest));
+    }
+    match split_number(text, u32::MAX) {
+        Some((number, rest)) => Some((Some(number), rest)),
+        None => None,
     }
 }
 
@@ -60,12 +73,12 @@ pub(crate) fn is_name(word: &[u8]) -> bool
     mb_bytes::is_name(word)
 }
 
-/// Reads a value or a message, at most 128 bytes, from a whole hexadecimal word.
-pub(crate) fn read_short(alloc: Global, word: &[u8]) -> Result<Bytes, NotSaid>
-    ensures { Finds (λ bytes. IsHex word.now bytes × FitsMessage bytes) result }
+/// Reads bytes, at most `most`, from a whole hexadecimal word.
+pub(crate) fn read_bounded(alloc: Global, word: &[u8], most: usize) -> Result<Bytes, NotSaid>
+    ensures { Finds (λ bytes. IsHex word.now bytes × (length bytes ≤ most)) result }
 {
     let bytes = read_hex(alloc, word)?;
-    if bytes.as_slice().len() > MESSAGE_LIMIT as usize {
+    if bytes.as_slice().len() > most {
         return Err(NotSaid::Form);
     }
     Ok(bytes)

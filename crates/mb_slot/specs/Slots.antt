@@ -1,12 +1,12 @@
 -- What a call on a slot of the battery-backed memory needs, and what it may change. Can a write to one slot reach
 -- another?
 use Rattle.std.specs.Prelude.{◌≡◌, ◌≢◌, ℕ, ◌+◌, ◌<◌, ◌≤◌, ◌%◌, ◌==◌, ◌⊎◌, List, length, slice_index}
-use Rattle.std.specs.Prelude.{Bool, true, not, if◌then◌else◌, Result, IsOk}
+use Rattle.std.specs.Prelude.{zero, suc, Bool, true, not, if◌then◌else◌, Result, IsOk, OnOk}
 use Rattle.mb_model.specs.declared.limits.TheConstants.{AREA_LENGTH, BBRAM_LENGTH}
 use Rattle.mb_model.specs.memories.Memory.{slots, selector_of, area_of_slot, inactive_area_of_slot}
 use Rattle.mb_board.specs.Reach.{Reached}
 use Rattle.mb_model.specs.outside.Board.{IsLoaded}
-use Rattle.mb_board.specs.Calls.{Seen, Ran}
+use Rattle.mb_board.specs.Calls.{Seen, Ran, counted_write}
 
 -- A slot can be used if power is on, the level of the ratchet reaches it, and a memory is loaded.
 pub record CanUse (seen : Seen) (slot : ℕ) : Type 0 where
@@ -44,6 +44,17 @@ pub record IsAreaAt (level wanted at : ℕ) : Type 0 where
 pub record AreExchanged (slot : ℕ) (before after : List ℕ) : Type 0 where
   pub in_force : area_of_slot after slot ≡ inactive_area_of_slot before slot
   pub not_in_force : inactive_area_of_slot after slot ≡ area_of_slot before slot
+
+-- ---- how often is written
+
+-- what a count of write calls is after n more
+abbrev pub counted_writes : ℕ → ℕ → ℕ
+counted_writes zero writes = writes
+counted_writes (suc n) writes = counted_writes n (counted_write writes)
+
+-- unless they were stopped, calls with this result made exactly n write calls
+abbrev pub MakesWrites : ℕ → {A E : Type 0} → Result A E → Seen → Seen → Type 0
+MakesWrites n result before after = OnOk result (after.meter.writes ≡ counted_writes n before.meter.writes)
 
 -- ---- what stays
 

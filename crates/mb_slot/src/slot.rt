@@ -3,7 +3,7 @@
 ghost use Rattle.std.specs.Prelude.{◌≡◌, ◌≤◌, ◌%◌, ◌==◌, ◌⊎◌, ◌↔◌, length, IsTrue, OnOk};
 ghost use Rattle.mb_model.specs.memories.Memory.{IsBlank, area_of_slot, inactive_area_of_slot};
 ghost use Rattle.mb_model.specs.declared.limits.TheConstants.{AREA_LENGTH};
-ghost use Rattle.mb_slot.specs.Slots.{CanUse, is_first_in_force, area_offset, current_offset, other_offset, IsAreaAt, AreExchanged, RanInOther, RanInSlot};
+ghost use Rattle.mb_slot.specs.Slots.{CanUse, is_first_in_force, area_offset, current_offset, other_offset, IsAreaAt, AreExchanged, MakesWrites, RanInOther, RanInSlot};
 ghost use Rattle.mb_slot.specs.Calls.{CommitsArea, WipesOther};
 
 use mb_board::{Board, Stopped};
@@ -57,6 +57,7 @@ fn write_other<B: Board>(b: &mut B, slot: u16, area: &[u8]) -> Result<(), Stoppe
     ensures done { OnOk result (inactive_area_of_slot (B.seen b.new).memory.bbram slot ≡ area.now) }
     ensures current { area_of_slot (B.seen b.new).memory.bbram slot
         ≡ area_of_slot (B.seen b.old).memory.bbram slot }
+    ensures writes { MakesWrites 1 result (B.seen b.old) (B.seen b.new) }
     ensures ran { RanInOther 1 slot result (B.seen b.old) (B.seen b.new) }
 {
     b.bbram_write(other_at(b, slot), area)
@@ -77,6 +78,7 @@ fn flip<B: Board>(b: &mut B, slot: u16) -> Result<(), Stopped>
     ensures either { (area_of_slot (B.seen b.new).memory.bbram slot
         ≡ area_of_slot (B.seen b.old).memory.bbram slot)
         ⊎ (area_of_slot (B.seen b.new).memory.bbram slot ≡ inactive_area_of_slot (B.seen b.old).memory.bbram slot) }
+    ensures writes { MakesWrites 1 result (B.seen b.old) (B.seen b.new) }
     ensures ran { RanInSlot 1 slot result (B.seen b.old) (B.seen b.new) }
 {
     let selector = selector_for(!is_first_in_force(b, slot));
@@ -112,7 +114,7 @@ pub fn is_other_blank<B: Board>(b: &B, slot: u16) -> bool
 }
 
 /// Makes an area of 4,096 bytes the current one of the slot; the one before becomes the inactive one. If power fails,
-/// one of the two is current, whole. There are at most two write calls.
+/// one of the two is current, whole. There are two write calls, at a stop one or two.
 pub fn commit<B: Board>(b: &mut B, slot: u16, area: &[u8]) -> Result<(), Stopped>
     requires can_use { CanUse (B.seen b.old) slot }
     requires area { length area.now ≡ AREA_LENGTH }
@@ -122,8 +124,7 @@ pub fn commit<B: Board>(b: &mut B, slot: u16, area: &[u8]) -> Result<(), Stopped
     flip(b, slot)
 }
 
-/// Sets each byte of the inactive area to zero, and writes nothing if each is zero already. There is at most one write
-/// call.
+/// Sets each byte of the inactive area to zero, by one write call; writes nothing if each is zero already.
 pub fn wipe_other<B: Board>(b: &mut B, slot: u16) -> Result<(), Stopped>
     requires can_use { CanUse (B.seen b.old) slot }
     ensures { WipesOther slot result (B.seen b.old) (B.seen b.new) }

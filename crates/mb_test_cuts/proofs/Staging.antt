@@ -1,10 +1,19 @@
 -- An image that stands for a state gives the calls what they require.
-use Rattle.std.proofs.Common.{◌≡◌, ℕ, Bool, List, [], length, Some, sym, ap, subst, arith, length-append}
+use Rattle.std.proofs.Common.{◌≡◌, ℕ, Bool, true, false, List, [], length, Option, Some, None, Result, Ok, Err, refl, sym, ap, subst, arith, length-append}
+use Rattle.std.specs.Prelude.{nat_le, find, if◌then◌else◌}
+use Rattle.std.proofs.lemmas.Bool.{leb-false}
+use Rattle.mb_model.specs.declared.region.Region.{Region}
+use Rattle.mb_model.specs.declared.region.RegionKey.{RegionKey}
+use Rattle.mb_model.specs.declared.reply.Refusal.{Refusal}
+use Rattle.mb_model.specs.machine.LayerEvents.{has_number}
+use Rattle.mb_model.specs.declared.reply.Refusal.TheVariants.{KeySpent}
+use Rattle.mb_model.specs.machine.Calls.{usable_key, key_for}
 use Rattle.mb_model.specs.declared.state.State.{State}
 use Rattle.mb_model.specs.outside.Board.{Memory, IsLoaded, image_of}
 use Rattle.mb_model.specs.memories.Meaning.{StandsFor, IsWellFormed}
 use Rattle.mb_model_lemmas.proofs.FaultLemmas.{image_parts}
 use Rattle.mb_model_memory.proofs.CommitLemmas.{live_contents}
+use Rattle.mb_outbound.specs.Binding.{HasUnspentKey}
 use Rattle.mb_boot.specs.Booting.{StandsForValid, KeepsState}
 use Rattle.mb_test_cuts.specs.Staged.{IsLiveImage, HoldsImage, IsReadyForCalls}
 
@@ -38,3 +47,16 @@ still_loaded before after stands keeps = (keeps.kept stands.state stands.stands)
 
 pub is_live : (image : List ℕ) (state : State) → IsWellFormed image (Some state) → IsLiveImage image
 is_live image state formed = record { state = state; well_formed = formed }
+
+-- a key that is found with an index left can sign
+pub can_sign : (number : ℕ) (region : Region) (key : RegionKey) → Ok (Some key) ≡ key_for (Some number) region → HasUnspentKey region number
+can_sign number region key is = among (find (has_number number) region.keys) refl is
+  where
+    has_left : (one : RegionKey) (spent : Bool) → find (has_number number) region.keys ≡ Some one → nat_le 32 one.uses ≡ spent
+        → Ok (Some key) ≡ (if spent then Err KeySpent else Ok (Some one)) → HasUnspentKey region number
+    has_left one true found most same = absurd (cc same)
+    has_left one false found most same = (one, record { found = found; left = leb-false 32 one.uses most })
+
+    among : (one : Option RegionKey) → find (has_number number) region.keys ≡ one → Ok (Some key) ≡ usable_key one → HasUnspentKey region number
+    among None found same = absurd (cc same)
+    among (Some one) found same = has_left one (nat_le 32 one.uses) found refl same

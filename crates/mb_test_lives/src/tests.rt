@@ -1,6 +1,7 @@
 //! Whole lives of devices, as tables of plays: words one after another, how each ends, and what files then hold. They
 //! expect values of an independent program.
 
+mod calls;
 mod chains;
 mod cutat;
 mod lives;

@@ -24,8 +24,8 @@ use Rattle.mb_console.specs.Ending.{CarriesOut, CarriesOutAfter, CarriesOutRest,
 use Rattle.mb_console.specs.Outputs.{writes}
 use Rattle.mb_console.proofs.CommandLemmas.{goes_first, goes_second, finds, refuse_here, memory_unfound, memory_unprinted, memory_unrefused}
 use Rattle.mb_console.proofs.Leading.{is_refused}
-use Rattle.mb_appvm.specs.declared.running.AppEnd.{AppEnd}
-use Rattle.mb_appvm.specs.declared.running.AppEnd.TheVariants as app
+use Rattle.mb_model.specs.declared.running.AppEnd.{AppEnd}
+use Rattle.mb_model.specs.declared.running.AppEnd.TheVariants as app
 use Rattle.mb_tools_app.specs.AppCommand.{AppNames, code_of_layer, RunsStoredCode, app_line, tell_end, run_stored_code}
 
 -- ---- a layer that may run has code

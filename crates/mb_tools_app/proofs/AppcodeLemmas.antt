@@ -9,8 +9,8 @@ use Rattle.mb_model.specs.declared.region.Region.{Region}
 use Rattle.mb_model.specs.declared.state.State.{State}
 use Rattle.mb_model.specs.owners.Layers.{Runnable}
 use Rattle.mb_model_commands.specs.Commands.{Past, Ended, CommandEnds}
-use Rattle.mb_appvm.specs.declared.running.AppEnd.{AppEnd}
-use Rattle.mb_appvm.specs.Runs.{is_readable, readable_secrets, AppRun}
+use Rattle.mb_model.specs.declared.running.AppEnd.{AppEnd}
+use Rattle.mb_model.specs.application.Runs.{is_readable, readable_secrets, AppRun}
 use Rattle.mb_tools_app.specs.AppCommand.{AppNames, RunsStoredCode, run_stored_code}
 use Rattle.mb_tools_app.specs.AppcodeCommand.{no_secrets, run_code, AppcodeRunsAsApp}
 

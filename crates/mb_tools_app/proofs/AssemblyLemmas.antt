@@ -15,8 +15,8 @@ use Rattle.mb_console.specs.declared.end.End.TheVariants as end
 use Rattle.mb_console.specs.Ending.{CarriesOut, CarriesOutAfter}
 use Rattle.mb_console.specs.Outputs.{writes}
 use Rattle.mb_console.proofs.CommandLemmas.{memory_here}
-use Rattle.mb_appvm.specs.declared.instruction.Instruction.{Instruction}
-use Rattle.mb_appvm.specs.Instructions.{instruction_format}
+use Rattle.mb_model.specs.declared.instruction.Instruction.{Instruction}
+use Rattle.mb_model.specs.application.Instructions.{instruction_format}
 use Rattle.mb_appvm.specs.Listing.{instruction_line}
 use Rattle.mb_appvm.proofs.Listings.{are_lines}
 use Rattle.mb_tools_app.specs.AssemblyCommands.{line_of_count, write_counted}

@@ -7,10 +7,10 @@ use Rattle.std.proofs.lemmas.List.Concat.{flat_map-cons}
 use Rattle.mb_format.specs.Format.{IsBytes}
 use Rattle.mb_format.proofs.Exact.{IsBytes-drop, IsClear-from_exact}
 use Rattle.mb_model_commands.specs.Inputs.{IsClearInput}
-use Rattle.mb_appvm.specs.declared.instruction.Instruction.{Instruction}
-use Rattle.mb_appvm.specs.Instructions.{instruction_format, Stands}
+use Rattle.mb_model.specs.declared.instruction.Instruction.{Instruction}
+use Rattle.mb_model.specs.application.Instructions.{instruction_format, Stands}
 use Rattle.mb_appvm.specs.Listing.{listing_bytes}
-use Rattle.mb_appvm.proofs.Instructions.{instruction_exact}
+use Rattle.mb_model_lemmas.proofs.InstructionLemmas.{instruction_exact}
 use Rattle.mb_appvm.proofs.Clear.{assemblies_are_clear}
 use Rattle.mb_tools_app.specs.AppInputs.{app_input, assembly_input, listing_input}
 

@@ -3,7 +3,6 @@ use Rattle.std.proofs.Common.{◌≡◌, ℕ, ◌==◌, ◌≤◌, ◌⊎◌, Li
 use mathlib.Core.Path.{fun_ext}
 use Rattle.std.proofs.lemmas.List.{append_cancel_left}
 use Rattle.std.proofs.lemmas.Option.{same_Some}
-use Rattle.mb_format.specs.Format.{IsBytes}
 use Rattle.mb_model.specs.declared.state.State.{State}
 use Rattle.mb_model.specs.declared.region.Secret.{Secret}
 use Rattle.mb_model.specs.declared.layer.Layers.{Layers}
@@ -11,10 +10,10 @@ use Rattle.mb_model.specs.owners.Layers.{Runnable}
 use Rattle.mb_model.specs.outside.Texts.{line_with_lf}
 use Rattle.mb_model_commands.specs.Outside.{Outside, HasRisen, Prints}
 use Rattle.mb_model_commands.specs.Commands.{Past, Ended, SaysLine, Stops, WantsMemory, PrintEnds, text_is_printed, text_is_not_printed, CommandEnds, IsFaultless}
-use Rattle.mb_appvm.specs.declared.running.AppEnd.{AppEnd}
-use Rattle.mb_appvm.specs.declared.running.AppEnd.TheVariants as end
-use Rattle.mb_appvm.specs.Runs.{is_readable, readable_secrets, AppRun}
-use Rattle.mb_appvm.proofs.Determined.{runs_end_once}
+use Rattle.mb_model.specs.declared.running.AppEnd.{AppEnd}
+use Rattle.mb_model.specs.declared.running.AppEnd.TheVariants as end
+use Rattle.mb_model.specs.application.Runs.{is_readable, readable_secrets, AppRun}
+use Rattle.mb_model_lemmas.proofs.Determined.{runs_end_once}
 use Rattle.mb_console.proofs.Completing.{raised_rises}
 use Rattle.mb_tools_app.specs.AppCommand.{AppNames, code_of_layer, RunsStoredCode, app_line, tell_end, run_stored_code}
 use Rattle.mb_tools_app.specs.Seeing.{AgreeFor, ShowsPrinted, AppSeesNothingElse}
@@ -126,31 +125,31 @@ shown_same first second m n e f text line same equal tells other shows also =
     (line_shown first text m e tells shows ∙ ap line_with_lf same ∙ sym (line_shown second line n f other also), tells.status_is ∙ equal ∙ sym other.status_is)
 
 endings_same : (layer : ℕ) (a b : State) (input : List ℕ) (steps : ℕ) (first second : AppEnd) → AgreeFor layer a b
-    → ((code : List ℕ) → code_of_layer a.codes layer ≡ Some code → IsBytes code) → RunsStoredCode a layer input steps first → RunsStoredCode b layer input steps second
+    → RunsStoredCode a layer input steps first → RunsStoredCode b layer input steps second
     → first ≡ second
-endings_same layer a b input steps first second agree are is other =
+endings_same layer a b input steps first second agree is other =
     let also = runs_same layer a b input steps first agree is in
     let code : other.code ≡ also.code = same_Some _ _ (sym other.stored ∙ also.stored) in
     let run = subst (λ (c : List ℕ). AppRun c input (readable_secrets b.layers layer b.two b.three) steps second) code other.run in
-    runs_end_once also.code input (readable_secrets b.layers layer b.two b.three) steps first second (are also.code (agree.code ∙ also.stored)) also.run run
+    runs_end_once also.code input (readable_secrets b.layers layer b.two b.three) steps first second also.run run
 
 told_same : (names : AppNames) (a b : State) (input : List ℕ) (e f : Ended) (text line : List ℕ) → AgreeFor names.layer a b
-    → ((code : List ℕ) → code_of_layer a.codes names.layer ≡ Some code → IsBytes code) → IsTold names a input e → ShowsPrinted e text → IsTold names b input f → ShowsPrinted f line
+    → IsTold names a input e → ShowsPrinted e text → IsTold names b input f → ShowsPrinted f line
     → (text ≡ line) × (e.status ≡ f.status)
-told_same names a b input e f text line agree are (ran runs first is tells) shows (ran also second other too) shown =
-    let same = endings_same names.layer a b input names.steps first second agree are is other in
+told_same names a b input e f text line agree (ran runs first is tells) shows (ran also second other too) shown =
+    let same = endings_same names.layer a b input names.steps first second agree is other in
     shown_same (app_line first) (app_line second) (status_of first) (status_of second) e f text line (ap app_line same) (ap status_of same) tells too shows shown
-told_same names a b input e f text line agree are (ran runs first is tells) shows (barred not too) shown =
+told_same names a b input e f text line agree (ran runs first is tells) shows (barred not too) shown =
     absurd (not (subst (λ (l : Layers). Runnable l names.layer) agree.layers runs))
-told_same names a b input e f text line agree are (barred not tells) shows (ran runs second other too) shown =
+told_same names a b input e f text line agree (barred not tells) shows (ran runs second other too) shown =
     absurd (not (subst (λ (l : Layers). Runnable l names.layer) (sym agree.layers) runs))
-told_same names a b input e f text line agree are (barred not tells) shows (barred neither too) shown =
+told_same names a b input e f text line agree (barred not tells) shows (barred neither too) shown =
     shown_same _ _ 7 7 e f text line refl refl tells too shows shown
 
 pub app_sees_nothing_else : AppSeesNothingElse
 app_sees_nothing_else = record {
   same_ends = ends_same;
-  equal_lines = λ names a b input past other e f text line agree are ends shows also shown.
-      told_same names a b input e f text line agree are (is_told names a input past e shows.faultless shows.complete ends) shows
+  equal_lines = λ names a b input past other e f text line agree ends shows also shown.
+      told_same names a b input e f text line agree (is_told names a input past e shows.faultless shows.complete ends) shows
       (is_told names b input other f shown.faultless shown.complete also) shown;
 }

@@ -8,10 +8,10 @@ use Rattle.mb_model.specs.chains.Lines.{spaced_words, hex_word}
 use Rattle.mb_model.specs.owners.Layers.{Runnable}
 use Rattle.mb_model_commands.specs.Commands.{Command, read, find, either_command, print, refuse}
 use Rattle.mb_model_commands.specs.Inputs.{image_input}
-use Rattle.mb_appvm.specs.declared.running.AppEnd.{AppEnd}
-use Rattle.mb_appvm.specs.declared.running.AppEnd.TheVariants as end
-use Rattle.mb_appvm.specs.Application.{trap_number}
-use Rattle.mb_appvm.specs.Runs.{readable_secrets, AppRun}
+use Rattle.mb_model.specs.declared.running.AppEnd.{AppEnd}
+use Rattle.mb_model.specs.declared.running.AppEnd.TheVariants as end
+use Rattle.mb_model.specs.application.Application.{trap_number}
+use Rattle.mb_model.specs.application.Runs.{readable_secrets, AppRun}
 use Rattle.mb_tools_app.specs.AppInputs.{app_input}
 
 -- the names of the files, the layer whose code runs, and the most instructions that are executed

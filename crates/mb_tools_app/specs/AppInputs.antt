@@ -6,8 +6,8 @@ use Rattle.mb_model_commands.specs.declared.role.Role.TheVariants as role
 use Rattle.mb_model_commands.specs.declared.role.Place.{Place}
 use Rattle.mb_model_commands.specs.declared.role.Place.TheVariants as fault
 use Rattle.mb_model_commands.specs.Commands.{Input}
-use Rattle.mb_appvm.specs.declared.instruction.Instruction.{Instruction}
-use Rattle.mb_appvm.specs.Instructions.{instruction_format}
+use Rattle.mb_model.specs.declared.instruction.Instruction.{Instruction}
+use Rattle.mb_model.specs.application.Instructions.{instruction_format}
 use Rattle.mb_appvm.specs.Assembly.{Assembles, AssemblyFailsAt}
 use Rattle.mb_appvm.specs.Listing.{listing_bytes, LacksInstruction}
 

@@ -6,7 +6,7 @@ use Rattle.mb_model.specs.declared.state.State.{State}
 use Rattle.mb_model.specs.owners.Layers.{Runnable}
 use Rattle.mb_model_commands.specs.Commands.{Command, read, find, Past, Ended, CommandEnds}
 use Rattle.mb_model_commands.specs.Inputs.{code_input}
-use Rattle.mb_appvm.specs.Runs.{AppRun}
+use Rattle.mb_model.specs.application.Runs.{AppRun}
 use Rattle.mb_tools_app.specs.AppInputs.{app_input}
 use Rattle.mb_tools_app.specs.AppCommand.{AppNames, tell_end, run_stored_code}
 

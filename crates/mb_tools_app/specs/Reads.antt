@@ -3,7 +3,7 @@ use Rattle.std.specs.Prelude.{◌≡◌, ℕ, List, map}
 use Rattle.mb_model.specs.chains.Lines.{text_of}
 use Rattle.mb_model_commands.specs.Outside.{Outside}
 use Rattle.mb_console.specs.Ending.{HasInput}
-use Rattle.mb_appvm.specs.declared.instruction.Instruction.{Instruction}
+use Rattle.mb_model.specs.declared.instruction.Instruction.{Instruction}
 use Rattle.mb_appvm.specs.Listing.{instruction_line}
 use Rattle.mb_tools_app.specs.AppInputs.{listing_input}
 

@@ -1,6 +1,5 @@
 -- What `app` can report of a device. Can anything else of the device change its line?
 use Rattle.std.specs.Prelude.{◌≡◌, ℕ, ◌≤◌, ◌⊎◌, List, ◌++◌, Some}
-use Rattle.mb_format.specs.Format.{IsBytes}
 use Rattle.mb_model.specs.declared.state.State.{State}
 use Rattle.mb_model_commands.specs.Commands.{Past, Ended, CommandEnds, IsFaultless}
 use Rattle.mb_tools_app.specs.AppCommand.{AppNames, code_of_layer, run_stored_code}
@@ -21,10 +20,10 @@ pub record ShowsPrinted (e : Ended) (text : List ℕ) : Type 0 where
   pub after : e.after.printed ≡ Some (shown ++ text)
 
 -- Over devices that agree on what the layer sees, the command has the same ends, whatever else differs; and if two of
--- these ends show what they print, they print the same, with the same status. The code's numbers are bytes. It speaks
--- of the command after its inputs were read. From the law on ends of the machine alone (`RunsSeeNothingElse`) nothing
--- follows about the printed line. It is of two states; the law that begins with the bytes of two images stands on it,
--- in `mb_top_laws` (`app_tells_no_more_of_images`).
+-- these ends show what they print, they print the same, with the same status. It speaks of the command after its
+-- inputs were read. From the law on ends of the machine alone (`RunsSeeNothingElse`) nothing follows about the printed
+-- line. It is of two states; the law that begins with the bytes of two images stands on it, in `mb_top_laws`
+-- (`app_tells_no_more_of_images`).
 pub record AppSeesNothingElse : Type 0 where
   pub same_ends : (names : AppNames) (a b : State) (input : List ℕ) (past : Past) (e : Ended)
       → AgreeFor names.layer a b
@@ -32,7 +31,6 @@ pub record AppSeesNothingElse : Type 0 where
       → CommandEnds (run_stored_code names (Some b) input) past e
   pub equal_lines : (names : AppNames) (a b : State) (input : List ℕ) (past other : Past) (e f : Ended)
       (text line : List ℕ) → AgreeFor names.layer a b
-      → ((code : List ℕ) → code_of_layer a.codes names.layer ≡ Some code → IsBytes code)
       → CommandEnds (run_stored_code names (Some a) input) past e → ShowsPrinted e text
       → CommandEnds (run_stored_code names (Some b) input) other f → ShowsPrinted f line
       → (text ≡ line) × (e.status ≡ f.status)

@@ -5,7 +5,7 @@ ghost use Rattle.mb_model.specs.declared.limits.TheConstants.{FILE_LIMIT};
 ghost use Rattle.mb_model.specs.owners.Layers.{Runnable};
 ghost use Rattle.mb_console.specs.Ending.{CarriesOut};
 ghost use Rattle.mb_console.specs.Words.{given_argument};
-ghost use Rattle.mb_appvm.specs.Runs.{AppRun};
+ghost use Rattle.mb_model.specs.application.Runs.{AppRun};
 ghost use Rattle.mb_tools_app.specs.AppcodeCommand.{appcode, no_secrets};
 ghost use Rattle.mb_tools_app.specs.Names.{appcode_files, appcode_given};
 

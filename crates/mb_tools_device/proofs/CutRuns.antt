@@ -33,6 +33,7 @@ drawn_uncut noise before (event.Put region name value) uncut = refl
 drawn_uncut noise before (event.Get region name) uncut = refl
 drawn_uncut noise before (event.Drop region name) uncut = refl
 drawn_uncut noise before (event.Sign region key message) uncut = refl
+drawn_uncut noise before (event.Call region key input) uncut = refl
 
 -- where each event with those before it is made one that is no cut
 all_made : (f : List Event × Event → Event) (events : List Event) → ((at : List Event × Event) → is_cut at.1 ≡ false → is_cut (f at) ≡ false) → All IsUncut events → All IsUncut (map f (with_before events))

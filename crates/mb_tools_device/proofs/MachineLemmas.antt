@@ -13,7 +13,8 @@ use Rattle.mb_model.specs.declared.reply.Refusal.TheVariants.{WrongPhase, WrongL
 use Rattle.mb_model.specs.declared.state.State.{State}
 use Rattle.mb_model.specs.owners.Layers.{is_runnable}
 use Rattle.mb_model.specs.machine.Refusals.{refusal_reply}
-use Rattle.mb_model.specs.machine.Machine.{Phase, off, dead, ratchet, World, Told, Machine, Step, machine_step, lacks_memory, loses_power, Run, boot_event, running_state_in, status_event, go_event, region_event, CommandStep}
+use Rattle.mb_model.specs.machine.Machine.{Phase, off, dead, ratchet, World, Told, Machine, Step, machine_step, lacks_memory, loses_power, Run, boot_event, running_state_in, status_event, go_event, region_event, CommandStep, CallTold}
+use Rattle.mb_model.specs.machine.Calls.{Call}
 use Rattle.mb_model.specs.machine.LayerEvents.{Outcome, put_event, get_event, drop_event, sign_event}
 use Rattle.mb_model_lemmas.proofs.LineLemmas.{cons_same}
 use Rattle.mb_model_lemmas.proofs.RefusalLemmas.{machine_is_whole}
@@ -62,6 +63,11 @@ command_disarmed world text draw (Err refusal) answer next step = (step.0, ap di
 command_disarmed world text draw (Ok on) answer next (inl step) = inl (step.0, (step.1.0, step.1.1, ap disarmed step.1.2))
 command_disarmed world text draw (Ok on) answer next (inr step) = inr (step.0, step.1, ap disarmed step.2)
 
+call_disarmed : (world : World) (call : Call) (on : Result (ℕ × State) Refusal) (answer : Reply) (next : World) → CallTold world call on answer next
+    → CallTold (disarmed world) call on answer (disarmed next)
+call_disarmed world call (Err refusal) answer next told = (told.0, ap disarmed told.1)
+call_disarmed world call (Ok on) answer next told = (told.0, told.1, told.2, ap disarmed told.3)
+
 pub machine_disarmed : (world : World) (e : Event) (answer : Reply) (next : World) → is_cut e ≡ false → Machine world e answer next → Machine (disarmed world) e answer (disarmed next)
 machine_disarmed world event.Boot answer next uncut m = ap told_disarmed m ∙ boot_disarmed world world.phase world.state
 machine_disarmed world event.Off answer next uncut m = (m.0, ap disarmed m.1)
@@ -74,6 +80,7 @@ machine_disarmed world (event.Put L name value) answer next uncut m = ap told_di
 machine_disarmed world (event.Get L name) answer next uncut m = ap told_disarmed m ∙ region_disarmed world L (get_event L name) (running_state_in world)
 machine_disarmed world (event.Drop L name) answer next uncut m = ap told_disarmed m ∙ region_disarmed world L (drop_event L name) (running_state_in world)
 machine_disarmed world (event.Sign L key message) answer next uncut m = ap told_disarmed m ∙ region_disarmed world L (sign_event L key message) (running_state_in world)
+machine_disarmed world (event.Call L key input) answer next uncut m = call_disarmed world (record { layer = L; key = key; input = input }) (running_state_in world) answer next m
 
 -- ---- an event that is no cut leaves whether a power loss is armed
 
@@ -110,6 +117,10 @@ command_armed world text draw (Err refusal) answer next step = ap (λ (w : World
 command_armed world text draw (Ok on) answer next (inl step) = ap (λ (w : World). w.armed) step.1.2
 command_armed world text draw (Ok on) answer next (inr step) = ap (λ (w : World). w.armed) step.2
 
+call_armed : (world : World) (call : Call) (on : Result (ℕ × State) Refusal) (answer : Reply) (next : World) → CallTold world call on answer next → next.armed ≡ world.armed
+call_armed world call (Err refusal) answer next told = ap (λ (w : World). w.armed) told.1
+call_armed world call (Ok on) answer next told = ap (λ (w : World). w.armed) told.3
+
 pub armed_stays : (world : World) (e : Event) (answer : Reply) (next : World) → is_cut e ≡ false → Machine world e answer next → next.armed ≡ world.armed
 unfolding armed_in
 armed_stays world event.Boot answer next uncut m = ap armed_in m ∙ boot_armed world world.phase world.state
@@ -123,6 +134,7 @@ armed_stays world (event.Put L name value) answer next uncut m = ap armed_in m �
 armed_stays world (event.Get L name) answer next uncut m = ap armed_in m ∙ region_armed world L (get_event L name) (running_state_in world)
 armed_stays world (event.Drop L name) answer next uncut m = ap armed_in m ∙ region_armed world L (drop_event L name) (running_state_in world)
 armed_stays world (event.Sign L key message) answer next uncut m = ap armed_in m ∙ region_armed world L (sign_event L key message) (running_state_in world)
+armed_stays world (event.Call L key input) answer next uncut m = call_armed world (record { layer = L; key = key; input = input }) (running_state_in world) answer next m
 
 -- ---- a run without cuts in which memory is found is the machine's
 

@@ -33,6 +33,7 @@ is_cut (event.Put region name value) = false
 is_cut (event.Get region name) = false
 is_cut (event.Drop region name) = false
 is_cut (event.Sign region key message) = false
+is_cut (event.Call region key input) = false
 
 -- no power loss is armed by the event, and memory was found for it
 pub record IsPlain (answered : Answered) : Type 0 where

@@ -1,5 +1,5 @@
 -- What the command `rehearse` does. Are the events of a script served as `run` serves them, with no file written, and
--- no value of a secret and no statement told?
+-- no value of a secret, no statement and no answer to a call told?
 use Rattle.std.specs.Prelude.{◌≡◌, ℕ, Bool, true, false, List, [], ◌∷◌, ◌++◌, length, codes, All, flat_map}
 use Rattle.std.specs.Fmt.{decimal}
 use Rattle.mb_model.specs.declared.event.Answered.{Answered}
@@ -34,10 +34,11 @@ whole_script_input name = record {
 
 -- ---- what is told
 
--- a reply without what it hands out: the value of a secret, or a statement
+-- a reply without what it hands out: the value of a secret, a statement, or the answer to a call
 abbrev pub veiled : Reply → Reply
 veiled (reply.Value value) = reply.Value []
 veiled (reply.Signed key index statement) = reply.Signed key index []
+veiled (reply.Called answer) = reply.Called []
 veiled other = other
 
 -- the line of each reply, veiled

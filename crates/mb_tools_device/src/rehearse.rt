@@ -30,7 +30,8 @@ use std::alloc::Global;
 use std::sync::ledger::Ledger;
 
 /// Serves the script on the device of the image, on the board alone, and prints the replies without the values of
-/// secrets and the statements. Writes no file. Refuses if an event was not obeyed, and tells which was the first.
+/// secrets, the statements and the answers to calls. Writes no file. Refuses if an event was not obeyed, and tells which
+/// was the first.
 pub fn rehearse<H: Host, B: Board, L: Ledger>(
     alloc: Global,
     names: &RunNames<'_>,
@@ -82,7 +83,7 @@ fn write_veiled(alloc: Global, answered: &[Answered]) -> Result<Vec<u8>, NoMemor
     Ok(text)
 }
 
-/// Appends the line of a reply, veiled: without the value of a secret, and without a statement.
+/// Appends the line of a reply, veiled: without the value of a secret, a statement, or the answer to a call.
 fn put_veiled(alloc: Global, reply: &Reply, out: &mut Vec<u8>) -> Result<(), NoMemory>
     ensures { OnOk result (out.new.items ≡ out.old.items ++ line_with_lf (reply_line (veiled reply.now))) }
 {
@@ -96,6 +97,7 @@ fn put_veiled(alloc: Global, reply: &Reply, out: &mut Vec<u8>) -> Result<(), NoM
             };
             write_reply(&veiled, out)
         }
+        Reply::Called(_) => write_reply(&Reply::Called(nothing(alloc)), out),
         other => write_reply(other, out),
     }
 }

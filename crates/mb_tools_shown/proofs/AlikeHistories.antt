@@ -18,16 +18,19 @@ use Rattle.mb_model.specs.declared.order.KeyKind.TheVariants as key_kinds
 use Rattle.mb_model.specs.declared.entry.Chain.{Chain}
 use Rattle.mb_model.specs.declared.entry.Entry.{Entry}
 use Rattle.mb_model.specs.declared.entry.Entry.TheVariants.{Birth, Change, NewKey, Succession}
+use Rattle.mb_model.specs.declared.entry.Said.{Said}
+use Rattle.mb_model.specs.declared.entry.Said.TheVariants.{Message, Answer}
 use Rattle.mb_model.specs.declared.entry.Statement.{Statement}
 use Rattle.mb_model.specs.owners.Log.{entries_of, figures_of, is_change, layers_in, last_of, number_of, Ruled, RuledLog, serial_in, serial_of}
 use Rattle.mb_model.specs.chains.Drafts.{kind_word}
-use Rattle.mb_model.specs.chains.Lines.{hex_word, text_of}
+use Rattle.mb_model.specs.outside.Texts.{line_with_lf}
+use Rattle.mb_model.specs.chains.Lines.{hex_word, spaced_words, text_of}
 use Rattle.mb_model_lemmas.proofs.ChainLemmas.{good_is_ruled}
 use Rattle.mb_model_lemmas.proofs.LineLemmas.{cons_same}
 use Rattle.mb_model_lemmas.proofs.LogLemmas.{number_of-push}
 use Rattle.mb_verifier.proofs.Listed.{text_of-append}
 use Rattle.mb_tools_shown.specs.HistoryLaws.{TellTheSame, NamesOwner, OwnersCollide, HistoriesTellEntries}
-use Rattle.mb_tools_shown.specs.HistoryShown.{change_word, pair_word, entry_lines, life_lines, signed_lines, history_shown}
+use Rattle.mb_tools_shown.specs.HistoryShown.{change_word, pair_word, entry_lines, life_lines, signed_words, signed_line, signed_lines, history_shown}
 use Rattle.mb_tools_shown.specs.LayersShown.{layers_shown}
 use Rattle.mb_tools_shown.specs.StateShown.{serial_shown}
 use Rattle.mb_tools_shown.proofs.AlikeLayers.{space, lf, letters, number_read, bytes_read, LayersCollide, layers_read}
@@ -325,10 +328,19 @@ lives_begin log (Change version position number kind layer cosigned layers kept 
 lives_begin log (NewKey position number key_number layer kind key ∷ entries) more none = λ same. omega (arith, same)
 lives_begin log (Succession position key ∷ entries) more none = lives_begin log entries more none
 
+one_begins : (signer number : ℕ) (said : Said) → NoEntry (line_with_lf (spaced_words (signed_words signer number said)))
+one_begins signer number (Message message) = λ same. omega (arith, same)
+one_begins signer number (Answer input answer) = λ same. omega (arith, same)
+
+begins_on : (line more : List ℕ) → NoEntry (line_with_lf line) → NoEntry (line_with_lf line ++ more)
+begins_on [] more none = λ same. omega (arith, same)
+begins_on (byte ∷ line) more none = none
+
 signed_begins : (statement : Option Statement) (signer : Option ℕ) → NoEntry (text_of (signed_lines statement signer))
 signed_begins None signer = λ same. omega (arith, same)
 signed_begins (Some statement) None = λ same. omega (arith, same)
-signed_begins (Some statement) (Some signer) = λ same. omega (arith, same)
+signed_begins (Some statement) (Some signer) =
+    begins_on (signed_line signer statement) [] (one_begins signer statement.number statement.said)
 
 abbrev last_text : Chain → Option ℕ → List ℕ
 last_text chain signer = text_of (flat_map (life_lines (entries_of chain.entries)) (entries_of chain.entries)) ++ text_of (signed_lines chain.statement signer)

@@ -5,6 +5,8 @@ use Rattle.std.specs.Fmt.{decimal}
 use Rattle.mb_model.specs.declared.entry.Chain.{Chain}
 use Rattle.mb_model.specs.declared.entry.Entry.{Entry}
 use Rattle.mb_model.specs.declared.entry.Entry.TheVariants.{Birth, Change, NewKey, Succession}
+use Rattle.mb_model.specs.declared.entry.Said.{Said}
+use Rattle.mb_model.specs.declared.entry.Said.TheVariants.{Message, Answer}
 use Rattle.mb_model.specs.declared.entry.Statement.{Statement}
 use Rattle.mb_model.specs.declared.layer.Pair.{Pair}
 use Rattle.mb_model.specs.declared.order.ChangeKind.{ChangeKind}
@@ -81,10 +83,16 @@ life_lines log (NewKey position number key_number layer kind key) =
     life_line key_number kind layer (is_alive log key_number layer) ∷ []
 life_lines log (Succession position key) = []
 
--- the line of a statement: the key that signed it, its configuration, and its message
+-- the words of a statement of this key and configuration: its message; or the hash of a call's input, and the answer
+abbrev pub signed_words : ℕ → ℕ → Said → List (List ℕ)
+signed_words signer number (Message message) =
+    codes "statement" ∷ decimal signer ∷ decimal number ∷ hex_word message ∷ []
+signed_words signer number (Answer input answer) =
+    codes "called" ∷ decimal signer ∷ decimal number ∷ hex_word input ∷ hex_word answer ∷ []
+
+-- the line of a statement: the key that signed it, its configuration, and what it says
 abbrev pub signed_line : ℕ → Statement → List ℕ
-signed_line signer statement =
-    spaced_words (codes "statement" ∷ decimal signer ∷ decimal statement.number ∷ hex_word statement.message ∷ [])
+signed_line signer statement = spaced_words (signed_words signer statement.number statement.said)
 
 abbrev pub signed_lines : Option Statement → Option ℕ → List (List ℕ)
 signed_lines (Some statement) (Some signer) = signed_line signer statement ∷ []

@@ -9,7 +9,7 @@ ghost use Rattle.mb_tools_shown.specs.HistoryShown.{change_word, pair_word, chan
 ghost use Rattle.mb_tools_shown.specs.HistoryShown.{entry_lines, life_line, life_lines, signed_line, signed_lines};
 
 use crate::lines::{put, put_layers};
-use mb_model::{ChangeKind, Entry, KeyKind, NoMemory, Pair, SignedEntry, Statement};
+use mb_model::{ChangeKind, Entry, KeyKind, NoMemory, Pair, Said, SignedEntry, Statement};
 use mb_verifier::{kind_word, life_of, life_word};
 use mb_words::hex_word;
 use std::alloc::Global;
@@ -197,6 +197,15 @@ fn signed_line(alloc: Global, signer: u32, statement: &Statement) -> Result<Stri
     ensures { IfOk result (λ line. string_bytes line ≡ line_with_lf (signed_line signer statement.now)) }
 {
     let number = statement.number;
-    let message = hex_word(alloc, statement.message.as_slice())?;
-    Ok(format!(in alloc; "statement {signer} {number} {message}\n")?)
+    match &statement.said {
+        Said::Message(message) => {
+            let message = hex_word(alloc, message.as_slice())?;
+            Ok(format!(in alloc; "statement {signer} {number} {message}\n")?)
+        }
+        Said::Answer { input, answer } => {
+            let input = hex_word(alloc, input)?;
+            let answer = hex_word(alloc, answer.as_slice())?;
+            Ok(format!(in alloc; "called {signer} {number} {input} {answer}\n")?)
+        }
+    }
 }

@@ -5,7 +5,6 @@ use Rattle.std.proofs.lemmas.Option.{same_Some}
 use Rattle.mb_format.specs.Format.{IsBytes}
 use Rattle.mb_format.proofs.Whole.{IsClearWhole-from_exact}
 use Rattle.mb_model.specs.declared.key.PublicKey.{PublicKey}
-use Rattle.mb_model.specs.declared.state.Codes.{Codes}
 use Rattle.mb_model.specs.declared.state.State.{State}
 use Rattle.mb_model.specs.chains.Acceptance.{Verdict, chain_acceptance, chain_rejection}
 use Rattle.mb_model.specs.memories.Meaning.{IsWellFormed}
@@ -26,11 +25,11 @@ use Rattle.mb_policy.specs.Policies.{PolicyItem}
 use Rattle.mb_policy.proofs.Clearness.{policies_clear, judgements_clear}
 use Rattle.mb_tools_policy.specs.Inputs.{policy_input}
 use Rattle.mb_tools_policy.specs.TrustCommand.{TrustNames, trust, tell_judgement, judge_verdict}
-use Rattle.mb_appvm.specs.declared.running.AppEnd.{AppEnd}
-use Rattle.mb_appvm.specs.declared.running.AppEnd.TheVariants as app_end
-use Rattle.mb_appvm.specs.Runs.{readable_secrets, AppRun}
-use Rattle.mb_appvm.proofs.Determined.{runs_end_once}
-use Rattle.mb_tools_app.specs.AppCommand.{AppNames, code_of_layer, RunsStoredCode, app, run_stored_code, tell_end}
+use Rattle.mb_model.specs.declared.running.AppEnd.{AppEnd}
+use Rattle.mb_model.specs.declared.running.AppEnd.TheVariants as app_end
+use Rattle.mb_model.specs.application.Runs.{readable_secrets, AppRun}
+use Rattle.mb_model_lemmas.proofs.Determined.{runs_end_once}
+use Rattle.mb_tools_app.specs.AppCommand.{AppNames, RunsStoredCode, app, run_stored_code, tell_end}
 use Rattle.mb_tools_app.specs.AppcodeCommand.{AppcodeNames, no_secrets, appcode}
 use Rattle.mb_tools_app.specs.AssemblyCommands.{AsmNames, DisasmNames, asm, disasm}
 use Rattle.mb_fleet.specs.declared.row.Row.{Row}
@@ -49,7 +48,6 @@ use Rattle.mb_top_laws.proofs.HistoryOnce.{one_finding}
 use Rattle.mb_top_laws.proofs.AlikeSteps.{IsReadOnce, Alike, alike_read, alike_find, alike_found, alike_either, alike_write, alike_print, alike_refuse, lack_never}
 use Rattle.mb_top_laws.proofs.InputsOnce.{binary_once, leading_once, bounded_once, whole_once, root_once, image_once}
 use Rattle.mb_top_laws.proofs.AlikeCommands.{one_verdict, whole_bytes}
-use Rattle.mb_top_laws.proofs.StoredCodes.{AreCodesBytes, image_codes}
 use Rattle.mb_top_laws.proofs.ListingOnce.{listing_once, assembly_once}
 use Rattle.mb_top_laws.proofs.FleetOnce.{IsOfBytes, items_bytes, served_same, register_once, register_ordered, items_once}
 
@@ -122,35 +120,27 @@ ending_alike (app_end.Halted steps output) = alike_print _
 ending_alike (app_end.Trap cause place output) = alike_refuse _
 ending_alike (app_end.OutOfSteps output) = alike_refuse _
 
-layer_bytes : (codes : Codes) (layer : ℕ) (code : List ℕ) → AreCodesBytes codes → code_of_layer codes layer ≡ Some code → IsBytes code
-layer_bytes codes layer code are is = by (layer == 2) refl
-  where
-    by : (b : Bool) → (layer == 2) ≡ b → IsBytes code
-    by true at = are.two code (sym (ap (λ (c : Bool). if c then codes.two else codes.three) at) ∙ is)
-    by false at = are.three code (sym (ap (λ (c : Bool). if c then codes.two else codes.three) at) ∙ is)
-
-one_ending : (state : State) (layer : ℕ) (input : List ℕ) (steps : ℕ) (a b : AppEnd) → AreCodesBytes state.codes → RunsStoredCode state layer input steps a → RunsStoredCode state layer input steps b
+one_ending : (state : State) (layer : ℕ) (input : List ℕ) (steps : ℕ) (a b : AppEnd) → RunsStoredCode state layer input steps a → RunsStoredCode state layer input steps b
     → a ≡ b
-one_ending state layer input steps a b are one other =
+one_ending state layer input steps a b one other =
     let same : other.code ≡ one.code = same_Some other.code one.code (sym other.stored ∙ one.stored) in
     let run = subst (λ (c : List ℕ). AppRun c input (readable_secrets state.layers layer state.two state.three) steps b) same other.run in
-    runs_end_once one.code input (readable_secrets state.layers layer state.two state.three) steps a b (layer_bytes state.codes layer one.code are one.stored) one.run run
+    runs_end_once one.code input (readable_secrets state.layers layer state.two state.three) steps a b one.run run
 
-stored_alike : (names : AppNames) (bytes : List ℕ) (state : Option State) (input : List ℕ) → IsBytes bytes → IsWellFormed bytes state
-    → Alike (run_stored_code names state input) (run_stored_code names state input)
-stored_alike names bytes None input are formed = alike_refuse _
-stored_alike names bytes (Some state) input are formed = alike_either _ _ _
-    (λ runs. alike_found _ _ (λ a b is also. one_ending state names.layer input names.steps a b (image_codes bytes state are formed) is also) (λ ending is. ending_alike ending))
+stored_alike : (names : AppNames) (state : Option State) (input : List ℕ) → Alike (run_stored_code names state input) (run_stored_code names state input)
+stored_alike names None input = alike_refuse _
+stored_alike names (Some state) input = alike_either _ _ _
+    (λ runs. alike_found _ _ (λ a b is also. one_ending state names.layer input names.steps a b is also) (λ ending is. ending_alike ending))
     (λ not. alike_refuse _)
 
 pub app_alike : (names : AppNames) → Alike (app names) (app names)
 unfolding app
-app_alike names = alike_read _ _ (image_once _) (λ bytes image are is. alike_read _ _ (whole_once _ _) (λ text input given held. stored_alike names bytes image.state input are is.1))
+app_alike names = alike_read _ _ (image_once _) (λ bytes image are is. alike_read _ _ (whole_once _ _) (λ text input given held. stored_alike names image.state input))
 
 pub appcode_alike : (names : AppcodeNames) → Alike (appcode names) (appcode names)
 unfolding appcode
 appcode_alike names = alike_read _ _ (bounded_once _ _ _) (λ bytes code are is. alike_read _ _ (whole_once _ _) (λ text input given held.
-    alike_found _ _ (λ a b one other. runs_end_once code input no_secrets names.steps a b (subst IsBytes (sym is.1) are) one other) (λ ending run. ending_alike ending)))
+    alike_found _ _ (λ a b one other. runs_end_once code input no_secrets names.steps a b one other) (λ ending run. ending_alike ending)))
 
 pub asm_alike : (names : AsmNames) → Alike (asm names) (asm names)
 unfolding asm

@@ -18,15 +18,15 @@ use Rattle.mb_model_commands.specs.Inputs.{image_input}
 use Rattle.mb_model_commands.specs.Outside.{Outside, HasRisen, read_once, FailsToRead, by_fault, by_absence, Prints, FailsToPrint}
 use Rattle.mb_model_lemmas.proofs.FaultLemmas.{well_formed_has_no_fault, well_formed_stands_for_one}
 use Rattle.mb_console.proofs.Completing.{raised_rises}
-use Rattle.mb_appvm.specs.declared.running.AppEnd.{AppEnd}
-use Rattle.mb_appvm.specs.declared.running.AppEnd.TheVariants as app_end
-use Rattle.mb_appvm.specs.declared.instruction.Plain.TheVariants as plain
-use Rattle.mb_appvm.specs.declared.instruction.Instruction.TheVariants as instruction
-use Rattle.mb_appvm.specs.declared.trap.Trap.TheVariants as trap
-use Rattle.mb_appvm.specs.Application.{AppState, Surroundings, StepOutcome, goes, run_halts, traps, after_push, after_write, DoesGet, DoesCopy, AppStep, does}
-use Rattle.mb_appvm.specs.Instructions.{Stands, instruction_format}
-use Rattle.mb_appvm.specs.Runs.{first_state, RunsTo, readable_secrets, AppRun}
-use Rattle.mb_appvm.proofs.Determined.{runs_end_once}
+use Rattle.mb_model.specs.declared.running.AppEnd.{AppEnd}
+use Rattle.mb_model.specs.declared.running.AppEnd.TheVariants as app_end
+use Rattle.mb_model.specs.declared.instruction.Plain.TheVariants as plain
+use Rattle.mb_model.specs.declared.instruction.Instruction.TheVariants as instruction
+use Rattle.mb_model.specs.declared.trap.Trap.TheVariants as trap
+use Rattle.mb_model.specs.application.Application.{AppState, Surroundings, StepOutcome, goes, run_halts, traps, after_push, after_write, DoesGet, DoesCopy, AppStep, does}
+use Rattle.mb_model.specs.application.Instructions.{Stands, instruction_format}
+use Rattle.mb_model.specs.application.Runs.{first_state, RunsTo, readable_secrets, AppRun}
+use Rattle.mb_model_lemmas.proofs.Determined.{runs_end_once}
 use Rattle.mb_model_histories.specs.KeyFileLaws.{Files}
 use Rattle.mb_tools_app.specs.AppCommand.{RunsStoredCode, AppNames, app, run_stored_code, code_of_layer, app_line, tell_end}
 use Rattle.mb_tools_app.specs.AppInputs.{app_input}
@@ -34,7 +34,6 @@ use Rattle.mb_tools_app.specs.Seeing.{ShowsPrinted}
 use Rattle.mb_tools_app.proofs.SeeingLemmas.{app_sees_nothing_else, IsComplete, never_lacks}
 use Rattle.mb_model_histories.proofs.KeyFileLemmas.{stopped_files}
 use Rattle.mb_top_laws.proofs.FileLemmas.{input_undone}
-use Rattle.mb_top_laws.proofs.StoredCodes.{image_codes}
 use Rattle.mb_top_laws.specs.AppImageLaws.{copying_code, HasCopyingCode, SecretsAreSeen, dead_alike, live_alike, HoldImages, with_files, over_files, ImagesAlikeHaveEqualEnds, ImagesAlikeHaveEqualLines, LayersAreSeen}
 
 -- ---- what an image holds
@@ -42,14 +41,6 @@ use Rattle.mb_top_laws.specs.AppImageLaws.{copying_code, HasCopyingCode, Secrets
 formed_short : (image : List ℕ) (state : Option State) → IsWellFormed image state → length image ≤ 4194304
 formed_short image state formed =
     omega (arith, ap length formed.image_is.0, length-append formed.flash formed.bbram, formed.image_is.1.flash, formed.image_is.1.bbram)
-
--- the stored code of a well-formed image is bytes
-stored_bytes : (image : List ℕ) (state : State) (layer : ℕ) (code : List ℕ) → IsBytes image → IsWellFormed image (Some state) → code_of_layer state.codes layer ≡ Some code → IsBytes code
-stored_bytes image state layer code are formed is = by (layer == 2) is
-  where
-    by : (second : Bool) → (if second then state.codes.two else state.codes.three) ≡ Some code → IsBytes code
-    by true is = (image_codes image state are formed).two code is
-    by false is = (image_codes image state are formed).three code is
 
 -- ---- ends over other files
 
@@ -274,7 +265,7 @@ images_alike_have_equal_lines names past other_past e f files now image other te
     let two = reaches names now other (Some twin) other_past f also holds.other_held formed_also shows_also.complete ends_also in
     let same : two.input ≡ one.input = same_Some two.input one.input (sym two.held ∙ holds.input ∙ one.held) in
     app_sees_nothing_else.equal_lines names state twin one.input past other_past (once (once e)) (once (once f)) text line agree
-    (λ code stored. stored_bytes image state names.layer code one.are_bytes formed stored) one.ends (shown_later e text shows)
+    one.ends (shown_later e text shows)
     (subst (λ (i : List ℕ). CommandEnds (run_stored_code names (Some twin) i) other_past (once (once f))) same two.ends) (shown_later f line shows_also)
 
 -- ---- layers that may run, and that may not
@@ -388,13 +379,12 @@ reads_two : (state : State) → Runnable state.layers 2 → readable_secrets sta
 reads_two state runs = ap (λ (b : Bool). if b then Some state.two.secrets else None) runs
 
 -- the code comes to no other end than one to which it is seen to come
-one_end : (image value input : List ℕ) (state : State) (ending told : AppEnd) → HasCopyingCode image value state → IsBytes image
+one_end : (image value input : List ℕ) (state : State) (ending told : AppEnd) → HasCopyingCode image value state
     → AppRun copying_code input (readable_secrets state.layers 2 state.two state.three) 4 ending → RunsStoredCode state 2 input 4 told → told ≡ ending
-one_end image value input state ending told has are run is =
+one_end image value input state ending told has run is =
     let seen : ℕ → Option (List Secret) = readable_secrets state.layers 2 state.two state.three in
     let code : is.code ≡ copying_code = same_Some is.code copying_code (sym is.stored ∙ has.code) in
-    runs_end_once copying_code input seen 4 told ending (stored_bytes image state 2 copying_code are has.formed has.code)
-    (subst (λ (c : List ℕ). AppRun c input seen 4 told) code is.run) run
+    runs_end_once copying_code input seen 4 told ending (subst (λ (c : List ℕ). AppRun c input seen 4 told) code is.run) run
 
 -- the text that is printed is the line of that end
 prints_end : (names : AppNames) (state : State) (input text : List ℕ) (past : Past) (e : Ended) (ending : AppEnd) → Runnable state.layers names.layer
@@ -419,9 +409,9 @@ secrets_are_seen image_name input_name past other_past e f files now image other
     let fails = full_traps two.input (readable_secrets twin.layers 2 twin.two twin.three) twin.two.secrets (reads_two twin has_also.runs) has_also.secret has_also.found
     (omega (arith, full, ap length has_also.value_is)) in
     let first : text ≡ line_with_lf (app_line halts) =
-    prints_end names state one.input text past (once (once e)) halts has.runs (λ told is. one_end image [] one.input state halts told has one.are_bytes runs is) (shown_later e text shows) one.ends in
+    prints_end names state one.input text past (once (once e)) halts has.runs (λ told is. one_end image [] one.input state halts told has runs is) (shown_later e text shows) one.ends in
     let second : line ≡ line_with_lf (app_line stops) =
-    prints_end names twin two.input line other_past (once (once f)) stops has_also.runs (λ told is. one_end other value two.input twin stops told has_also two.are_bytes fails is) (shown_later f line shows_also) two.ends in
+    prints_end names twin two.input line other_past (once (once f)) stops has_also.runs (λ told is. one_end other value two.input twin stops told has_also fails is) (shown_later f line shows_also) two.ends in
     λ same.
     let begins : leading (line_with_lf (app_line halts)) ≡ leading (line_with_lf (app_line stops)) = ap leading (sym first ∙ same ∙ second) in
     omega (arith, begins)

@@ -23,6 +23,7 @@ says_bytes line (event.Put region name value) says = tt
 says_bytes line (event.Get region name) says = tt
 says_bytes line (event.Drop region name) says = tt
 says_bytes line (event.Sign region key message) says = tt
+says_bytes line (event.Call region key input) says = tt
 
 all_bytes : (lines : List (List ℕ)) (events : List Event) → AllZip SaysEvent lines events → All BringsBytes events
 all_bytes [] [] says = All-nil BringsBytes
@@ -47,6 +48,7 @@ drawn_one noise before (event.Put region name value) are = are
 drawn_one noise before (event.Get region name) are = are
 drawn_one noise before (event.Drop region name) are = are
 drawn_one noise before (event.Sign region key message) are = are
+drawn_one noise before (event.Call region key input) are = are
 
 abbrev At : Type 0
 At = List Event × Event

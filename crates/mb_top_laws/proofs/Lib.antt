@@ -4,7 +4,6 @@ pub mod EndorsementLemmas
 pub mod AlikeSteps
 pub mod InputsOnce
 pub mod AlikeCommands
-pub mod StoredCodes
 pub mod FleetOnce
 pub mod ListingOnce
 pub mod AlikeTools

@@ -8,10 +8,10 @@ use Rattle.mb_format.specs.Format.{IsBytes}
 use Rattle.mb_format.proofs.Exact.{IsBytes-drop, IsClear-from_exact}
 use Rattle.mb_model_commands.specs.declared.role.Place.{Place}
 use Rattle.mb_model_commands.specs.declared.role.Place.TheVariants as fault
-use Rattle.mb_appvm.specs.declared.instruction.Instruction.{Instruction}
-use Rattle.mb_appvm.specs.Instructions.{instruction_format, Stands}
+use Rattle.mb_model.specs.declared.instruction.Instruction.{Instruction}
+use Rattle.mb_model.specs.application.Instructions.{instruction_format, Stands}
 use Rattle.mb_appvm.specs.Listing.{listing_bytes, LacksInstruction}
-use Rattle.mb_appvm.proofs.Instructions.{instruction_exact}
+use Rattle.mb_model_lemmas.proofs.InstructionLemmas.{instruction_exact}
 use Rattle.mb_appvm.proofs.Listings.{spelling_some}
 use Rattle.mb_appvm.proofs.Clear.{assemblies_are_clear}
 use Rattle.mb_tools_app.specs.AppInputs.{assembly_input, ListingFailsAt, listing_input}

@@ -23,8 +23,8 @@ use Rattle.mb_model_commands.specs.Commands.{Command, read, find, either_command
 use Rattle.mb_policy.specs.declared.judging.Judgement.{Judgement}
 use Rattle.mb_policy.specs.declared.judging.Judgement.TheVariants as judgement
 use Rattle.mb_policy.specs.Policies.{PolicyItem}
-use Rattle.mb_appvm.specs.declared.running.AppEnd.{AppEnd}
-use Rattle.mb_appvm.specs.declared.running.AppEnd.TheVariants as app_end
+use Rattle.mb_model.specs.declared.running.AppEnd.{AppEnd}
+use Rattle.mb_model.specs.declared.running.AppEnd.TheVariants as app_end
 use Rattle.mb_tools.specs.Names.{keygen_given, sign_given, countersign_given, factory_given, migrate_given, verify_given, audit_given, chain_given, attach_given}
 use Rattle.mb_tools_orders.specs.ShowOrder.{ShowOrderNames, showorder}
 use Rattle.mb_tools_orders.specs.Ordered.{OrderedNames, ordered}

@@ -101,12 +101,12 @@ configuration_whole item out start one two three start_is one_is two_is three_is
     ∙ ap (λ t. out ++ t) (sym lines)
 
 pub listing_whole : (key : ℕ) (report : Report) (first second third : List ℕ) → first ≡ line_with_lf (key_line key report)
-    → second ≡ first ++ text_of (flat_map configuration_lines report.lives) → third ≡ second ++ text_of (statement_lines report.message)
+    → second ≡ first ++ text_of (flat_map configuration_lines report.lives) → third ≡ second ++ text_of (statement_lines report.said)
     → third ≡ text_of (listing key report)
 unfolding listing
 listing_whole key report first second third first_is second_is third_is =
     let lives = flat_map configuration_lines report.lives in
-    let stated = statement_lines report.message in
+    let stated = statement_lines report.said in
     third_is ∙ ap (λ t. t ++ text_of stated) (second_is ∙ ap (λ t. t ++ text_of lives) first_is)
     ∙ append_assoc (line_with_lf (key_line key report)) (text_of lives) (text_of stated)
     ∙ ap (λ t. line_with_lf (key_line key report) ++ t) (sym (text_of-append lives stated))

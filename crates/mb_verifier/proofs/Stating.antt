@@ -3,19 +3,23 @@ use Rattle.std.proofs.Common.{◌≡◌, ℕ, List, ◌∷◌, ◌++◌, Some, a
 use Rattle.std.specs.Int.{w32, to_be_bytes}
 use Rattle.std.specs.Option.{option_map}
 use Rattle.mb_model.specs.declared.entry.Entry.{Entry}
-use Rattle.mb_model.specs.machine.SignedTexts.{statement_text}
+use Rattle.mb_model.specs.declared.entry.Said.{Said}
+use Rattle.mb_model.specs.declared.entry.Said.TheVariants.{Message, Answer}
+use Rattle.mb_model.specs.machine.SignedTexts.{statement_text, call_text, said_text}
 use Rattle.mb_model.specs.chains.Acceptance.{key_of, is_alive}
 use Rattle.mb_log.specs.declared.life.BornKey.{BornKey}
 use Rattle.mb_log.specs.declared.life.Life.{Life}
 use Rattle.mb_log.specs.KeyLife.{as_entry, IsLifeOf}
+use Rattle.mb_verifier.specs.SaidParts.{said_separator, said_bytes}
 
 -- ---- the signature
 
 -- what is fed piece by piece is the text of the statement
-pub pieces_are : (serial front middle back message : List ℕ) (key number : ℕ) → front ≡ to_be_bytes w32 key → middle ≡ to_be_bytes w32 number → back ≡ message
-    → 4 ∷ (((serial ++ front) ++ middle) ++ back) ≡ statement_text serial key number message
-unfolding statement_text
-pieces_are serial front middle back message key number key_is number_is message_is = rw (key_is, number_is, message_is) (simp append_assoc)
+pub pieces_are : (serial front middle : List ℕ) (separator key number : ℕ) (said : Said) → separator ≡ said_separator said → front ≡ to_be_bytes w32 key → middle ≡ to_be_bytes w32 number
+    → separator ∷ (((serial ++ front) ++ middle) ++ said_bytes said) ≡ said_text serial key number said
+unfolding statement_text call_text
+pieces_are serial front middle separator key number (Message message) separator_is key_is number_is = rw (separator_is, key_is, number_is) (simp append_assoc)
+pieces_are serial front middle separator key number (Answer input answer) separator_is key_is number_is = rw (separator_is, key_is, number_is) (simp append_assoc)
 
 -- ---- what the entries say
 

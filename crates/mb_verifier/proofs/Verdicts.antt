@@ -7,6 +7,7 @@ use Rattle.mb_format.proofs.Whole.{IsClearWhole-from_exact}
 use Rattle.mb_model.specs.declared.key.PublicKey.{PublicKey}
 use Rattle.mb_model.specs.declared.entry.Chain.{Chain}
 use Rattle.mb_model.specs.declared.entry.SignedEntry.{SignedEntry}
+use Rattle.mb_model.specs.declared.entry.Said.{Said}
 use Rattle.mb_model.specs.declared.entry.Statement.{Statement}
 use Rattle.mb_model.specs.declared.order.KeyKind.{KeyKind}
 use Rattle.mb_model.specs.declared.state.Configuration.{Configuration}
@@ -14,7 +15,7 @@ use Rattle.mb_model.specs.declared.state.Report.{Report}
 use Rattle.mb_model.specs.owners.Log.{figures_of, entries_of, serial_of, RuledLog}
 use Rattle.mb_model.specs.records.EntryFormat.{entry_format, entry_hash}
 use Rattle.mb_model.specs.records.ChainFormat.{chain_format}
-use Rattle.mb_model.specs.chains.Acceptance.{ChainRefusal, bad_form, bad_signature, bad_order, breaks_rules, key_unknown, bad_statement, wrong_number, key_ended, AreGood, IsNext, IfStatement, IsCurrent, message_of, Accepts, IsRefused}
+use Rattle.mb_model.specs.chains.Acceptance.{ChainRefusal, bad_form, bad_signature, bad_order, breaks_rules, key_unknown, bad_statement, wrong_number, key_ended, AreGood, IsNext, IfStatement, IsCurrent, said_of, Accepts, IsRefused}
 use Rattle.mb_cert.proofs.Sizes.{entries_allowed}
 use Rattle.mb_model.specs.declared.state.Figures.{Figures}
 use Rattle.mb_log.specs.declared.life.BornKey.{BornKey}
@@ -111,18 +112,18 @@ with_statement P stated statement is holds = subst (λ (o : Option Statement). I
 pub without_statement : (P : Statement → Type 0) (stated : Option Statement) → stated ≡ None → IfStatement stated P
 without_statement P stated is = subst (λ (o : Option Statement). IfStatement o P) (sym is) tt
 
-same_report : (layer : ℕ) (kind : KeyKind) (alive alive' : Bool) (lives lives' : List Configuration) (entries entries' : ℕ) (message message' : Option (List ℕ))
-    → alive ≡ alive' → lives ≡ lives' → entries ≡ entries' → message ≡ message'
-    → ◌≡◌ {A = Report} (record { layer = layer; kind = kind; alive = alive; lives = lives; entries = entries; message = message })
-    (record { layer = layer; kind = kind; alive = alive'; lives = lives'; entries = entries'; message = message' })
-same_report layer kind alive alive' lives lives' entries entries' message message' a l e m = rw (a, l, e, m) refl
+same_report : (layer : ℕ) (kind : KeyKind) (alive alive' : Bool) (lives lives' : List Configuration) (entries entries' : ℕ) (said said' : Option Said)
+    → alive ≡ alive' → lives ≡ lives' → entries ≡ entries' → said ≡ said'
+    → ◌≡◌ {A = Report} (record { layer = layer; kind = kind; alive = alive; lives = lives; entries = entries; said = said })
+    (record { layer = layer; kind = kind; alive = alive'; lives = lives'; entries = entries'; said = said' })
+same_report layer kind alive alive' lives lives' entries entries' said said' a l e m = rw (a, l, e, m) refl
 
 -- what is judged of a chain whose statement, where it has one, is current
-pub accepted : (maker : PublicKey) (bytes : List ℕ) (chain : Chain) (log : List SignedEntry) (n : ℕ) (figures : Figures) (life : Life) (born : BornKey) (message : Option (List ℕ))
+pub accepted : (maker : PublicKey) (bytes : List ℕ) (chain : Chain) (log : List SignedEntry) (n : ℕ) (figures : Figures) (life : Life) (born : BornKey) (said : Option Said)
     → Spells chain_format bytes chain → log ≡ chain.entries → AreGood maker log → figures ≡ figures_of (entries_of log) → IsLifeOf (entries_of log) n life → life.born ≡ Some born
-    → IfStatement chain.statement (IsCurrent (entries_of log) n (as_entry born)) → message ≡ message_of chain.statement
-    → Accepts maker bytes n (record { layer = born.layer; kind = born.kind; alive = life.alive; lives = life.lives; entries = figures.length; message = message })
-accepted maker bytes chain log n figures life born message spelled log_is good figures_are is some current message_is =
+    → IfStatement chain.statement (IsCurrent (entries_of log) n (as_entry born)) → said ≡ said_of chain.statement
+    → Accepts maker bytes n (record { layer = born.layer; kind = born.kind; alive = life.alive; lives = life.lives; entries = figures.length; said = said })
+accepted maker bytes chain log n figures life born said spelled log_is good figures_are is some current said_is =
     let own : IsLifeOf (entries_of chain.entries) n life = subst (λ (l : List SignedEntry). IsLifeOf (entries_of l) n life) log_is is in
     let count : figures.length ≡ length chain.entries = ap (λ (f : Figures). f.length) figures_are ∙ length-map log (λ (s : SignedEntry). s.entry) ∙ ap length log_is in
     record {
@@ -132,7 +133,7 @@ accepted maker bytes chain log n figures life born message spelled log_is good f
       made = as_entry born;
       named = born_is (entries_of chain.entries) n life born own some;
       current = subst (λ (l : List SignedEntry). IfStatement chain.statement (IsCurrent (entries_of l) n (as_entry born))) log_is current;
-      report_is = same_report born.layer born.kind _ _ _ _ _ _ _ _ (alive_is (entries_of chain.entries) n life born own some) own.lives count message_is;
+      report_is = same_report born.layer born.kind _ _ _ _ _ _ _ _ (alive_is (entries_of chain.entries) n life born own some) own.lives count said_is;
     }
 
 -- an accepted chain, which is the only one of its bytes, obeys the rules

@@ -5,7 +5,7 @@ ghost use Rattle.mb_model.specs.declared.limits.TheConstants.{FILE_LIMIT};
 ghost use Rattle.mb_model.specs.declared.entry.Chain.{Chain};
 ghost use Rattle.mb_model.specs.records.ChainFormat.{chain_format};
 ghost use Rattle.mb_model.specs.owners.Log.{entries_of, RuledLog};
-ghost use Rattle.mb_model.specs.chains.Acceptance.{Accepts, AreGood, IsRefused, message_of};
+ghost use Rattle.mb_model.specs.chains.Acceptance.{Accepts, AreGood, IsRefused, said_of};
 ghost use Rattle.mb_model.specs.chains.Acceptance as acceptance;
 ghost use Rattle.mb_format.specs.Format.{Spells};
 ghost use Rattle.mb_verifier.specs.Ends.{chain_refusal_of};
@@ -16,7 +16,7 @@ use crate::refusal::ChainRefusal;
 use crate::statement::check_statement;
 use mb_cert::{ChainEnd, read_chain};
 use mb_log::serial_of;
-use mb_model::{Bytes, Chain, Figures, Items, PublicKey, Report, Statement};
+use mb_model::{Chain, Figures, Items, PublicKey, Report, Said, Statement};
 use std::alloc::Global;
 
 /// What the entries of a chain show of their device.
@@ -78,7 +78,7 @@ fn report_on(
         alive: judged.life.alive,
         lives: judged.life.lives,
         entries: judged.figures.length,
-        message: message_of(chain.statement),
+        said: said_of(chain.statement),
     })
 }
 
@@ -147,12 +147,12 @@ fn shown_by(alloc: Global, root: &PublicKey, chain: &Chain) -> Result<Shown, Cha
     })
 }
 
-/// The message of a statement, if there is one.
-fn message_of(statement: Option<Statement>) -> Option<Bytes>
-    ensures { result ≡ message_of statement }
+/// What a statement says, if there is one.
+fn said_of(statement: Option<Statement>) -> Option<Said>
+    ensures { result ≡ said_of statement }
 {
     match statement {
-        Some(statement) => Some(statement.message),
+        Some(statement) => Some(statement.said),
         None => None,
     }
 }

@@ -5,12 +5,12 @@ ghost use Rattle.std.specs.String.{string_bytes};
 ghost use Rattle.mb_model.specs.outside.Texts.{line_with_lf};
 ghost use Rattle.mb_model.specs.chains.Lines.{spaced_words, text_of};
 ghost use Rattle.mb_model.specs.chains.Drafts.{kind_word, trust_word};
-ghost use Rattle.mb_model.specs.chains.Listing.{trust_words, life_word, reliable_word, owner_word, code_words, layer_line, configuration_lines, statement_lines, listing};
+ghost use Rattle.mb_model.specs.chains.Listing.{trust_words, life_word, reliable_word, owner_word, code_words, layer_line, configuration_lines, said_words, statement_lines, listing};
 ghost use Rattle.mb_verifier.specs.Lines.{key_line, line_upto};
 
 use mb_lms::key_hash;
 use mb_model::{
-    Bytes, CodeName, Configuration, KeyKind, Layer, NoMemory, PublicKey, Report, Trust, Trusts,
+    CodeName, Configuration, KeyKind, Layer, NoMemory, PublicKey, Report, Said, Trust, Trusts,
 };
 use mb_words::hex_word;
 use std::alloc::Global;
@@ -22,7 +22,7 @@ pub fn write_listing(alloc: Global, key: u32, report: &Report) -> Result<Vec<u8>
 {
     let mut out = key_line(alloc, key, report)?.into_bytes();
     put_lives(alloc, report.lives.as_slice(), &mut out)?;
-    put_statement(alloc, &report.message, &mut out)?;
+    put_statement(alloc, &report.said, &mut out)?;
     Ok(out)
 }
 
@@ -86,16 +86,32 @@ pub fn layer_line(alloc: Global, number: u8, layer: &Layer) -> Result<String, No
     Ok(format!(in alloc; "layer {number} {owner} {code} {reliable} {trust}\n")?)
 }
 
-/// Appends the line of a statement with this message, if there is one.
-fn put_statement(alloc: Global, message: &Option<Bytes>, out: &mut Vec<u8>) -> Result<(), NoMemory>
-    ensures { OnOk result (out.new.items ≡ out.old.items ++ text_of (statement_lines message.now)) }
+/// Appends the line of a statement that says this, if there is one.
+fn put_statement(alloc: Global, said: &Option<Said>, out: &mut Vec<u8>) -> Result<(), NoMemory>
+    ensures { OnOk result (out.new.items ≡ out.old.items ++ text_of (statement_lines said.now)) }
 {
-    if let Some(message) = message {
-        let word = hex_word(alloc, message.as_slice())?;
-        let line = format!(in alloc; "statement {word}\n")?;
+    if let Some(said) = said {
+        let line = statement_line(alloc, said)?;
         out.extend_from_slice(line.as_bytes())?;
     }
     Ok(())
+}
+
+/// The line of a statement that says this, with its LF: its message; or the hash of a call's input, and the answer.
+fn statement_line(alloc: Global, said: &Said) -> Result<String, NoMemory>
+    ensures { IfOk result (λ line. string_bytes line ≡ line_with_lf (spaced_words (said_words said.now))) }
+{
+    match said {
+        Said::Message(message) => {
+            let message = hex_word(alloc, message.as_slice())?;
+            Ok(format!(in alloc; "statement {message}\n")?)
+        }
+        Said::Answer { input, answer } => {
+            let input = hex_word(alloc, input)?;
+            let answer = hex_word(alloc, answer.as_slice())?;
+            Ok(format!(in alloc; "called {input} {answer}\n")?)
+        }
+    }
 }
 
 /// The hash of the owner's key, or a dash.

@@ -17,6 +17,15 @@ struct Details {
     configuration: u32,
 }
 
+/// What is told of a statement, as the header declares it.
+#[repr(C)]
+struct Stated {
+    kind: u32,
+    length: u32,
+    input: [u8; 32],
+    bytes: [u8; 128],
+}
+
 unsafe extern "C" {
     fn mb_lms_verify(
         key: *const u8,
@@ -47,6 +56,14 @@ unsafe extern "C" {
         key: u32,
         listing: *mut u8,
         listing_room: usize,
+        details: *mut Details,
+    ) -> u32;
+    fn mb_chain_said(
+        maker: *const u8,
+        chain: *const u8,
+        chain_length: usize,
+        key: u32,
+        stated: *mut Stated,
         details: *mut Details,
     ) -> u32;
     fn mb_trust(
@@ -202,6 +219,64 @@ pub fn chain_verify<'a>(
     };
     answer(code, &details)?;
     Ok(&listing[..details.listing])
+}
+
+/// What the statement of a chain says.
+#[derive(Clone, Copy, Debug, PartialEq, Eq)]
+pub enum Said {
+    /// A message, which the host of the device chose: the first so many of the bytes, which zeros follow.
+    Message { length: usize, bytes: [u8; 128] },
+    /// What the code of the key's layer answered to the input with this SHA-256, in a call.
+    Answer {
+        input: [u8; 32],
+        length: usize,
+        bytes: [u8; 128],
+    },
+}
+
+impl Said {
+    /// The message or the answer.
+    #[must_use]
+    pub fn bytes(&self) -> &[u8] {
+        match self {
+            Said::Message { length, bytes } | Said::Answer { length, bytes, .. } => &bytes[..*length],
+        }
+    }
+}
+
+/// Verifies a chain under the maker's key for the key with the number `key`. The answer is what its statement says, or
+/// `None` if it has none.
+pub fn chain_said(maker: &[u8; 56], chain: &[u8], key: u32) -> Result<Option<Said>, Refusal> {
+    let mut details = Details::default();
+    let mut stated = Stated {
+        kind: 0,
+        length: 0,
+        input: [0; 32],
+        bytes: [0; 128],
+    };
+    // SAFETY: as in `chain_verify`.
+    let code = unsafe {
+        mb_chain_said(
+            maker.as_ptr(),
+            chain.as_ptr(),
+            chain.len(),
+            key,
+            &mut stated,
+            &mut details,
+        )
+    };
+    answer(code, &details)?;
+    let (length, bytes) = (stated.length as usize, stated.bytes);
+    Ok(match stated.kind {
+        0 => None,
+        1 => Some(Said::Message { length, bytes }),
+        2 => Some(Said::Answer {
+            input: stated.input,
+            length,
+            bytes,
+        }),
+        kind => panic!("mb_library told {kind}, which is no kind of a statement"),
+    })
 }
 
 /// Verifies a chain under the maker's key, and has the policy judge each configuration in which the key with the number

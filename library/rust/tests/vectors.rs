@@ -1,6 +1,6 @@
 //! The functions on values of another program, in the folder that MB_VECTORS names.
 
-use mb_library::{Refusal, chain_verify, hss_verify, lms_verdict, lms_verify, trust};
+use mb_library::{Refusal, Said, chain_said, chain_verify, hss_verify, lms_verdict, lms_verify, trust};
 
 struct Row {
     verifies: bool,
@@ -90,4 +90,25 @@ fn chains_are_listed_and_judged() {
     assert_eq!(trust(maker, &chain, 1, b"allow alive alive\n"), Ok(()));
     assert_eq!(trust(maker, &chain, 1, b""), Err(Refusal::Denied { configuration: 4 }));
     assert_eq!(trust(maker, &chain, 1, b"\nallow\n"), Err(Refusal::BadPolicy { line: 2 }));
+}
+
+#[test]
+fn statements_are_told() {
+    let (plain, maker) = (file("maker"), file("said_maker"));
+    let maker: &[u8; 56] = maker[..].try_into().unwrap();
+    let (message, answer) = (file("said_message"), file("said_answer"));
+    assert_eq!(chain_said(plain[..].try_into().unwrap(), &file("chain"), 1), Ok(None));
+    let Ok(Some(said)) = chain_said(maker, &message, 1) else {
+        panic!("a message")
+    };
+    assert!(matches!(said, Said::Message { .. }) && said.bytes() == b"hello");
+    let Ok(Some(said)) = chain_said(maker, &answer, 1) else {
+        panic!("an answer")
+    };
+    let Said::Answer { input, .. } = said else {
+        panic!("no answer")
+    };
+    assert_eq!(input[..], bytes_of("4fddb6e92a8333684779335007eda9426ddd8ea849ce4ab7c8340016d9d9d89a"));
+    assert_eq!(said.bytes(), b"abc");
+    assert_eq!(chain_said(maker, &answer, 9), Err(Refusal::KeyUnknown));
 }

@@ -8,6 +8,7 @@ use Rattle.mb_model.specs.declared.order.KeyKind.{KeyKind}
 use Rattle.mb_model.specs.declared.entry.Chain.{Chain}
 use Rattle.mb_model.specs.declared.entry.Entry.{Entry}
 use Rattle.mb_model.specs.declared.entry.Entry.TheVariants.{Birth, Change, NewKey, Succession}
+use Rattle.mb_model.specs.declared.entry.Said.{Said}
 use Rattle.mb_model.specs.declared.entry.SignedEntry.{SignedEntry}
 use Rattle.mb_model.specs.declared.entry.Statement.{Statement}
 use Rattle.mb_model.specs.declared.state.Figures.{Figures}
@@ -16,7 +17,7 @@ use Rattle.mb_model.specs.signatures.Merkle.{leaf_number, Verifies}
 use Rattle.mb_model.specs.owners.Log.{entries_of, device_in, last_of, number_of, serial_of, figures_of, Ordered, Ruled}
 use Rattle.mb_model.specs.owners.Lives.{alive_keys, lives_of}
 use Rattle.mb_model.specs.records.ChainFormat.{chain_format}
-use Rattle.mb_model.specs.machine.SignedTexts.{entry_text, statement_text, IsSignedBy}
+use Rattle.mb_model.specs.machine.SignedTexts.{entry_text, said_text, IsSignedBy}
 
 -- why a chain is not accepted
 pub data ChainRefusal : Type 0 where
@@ -121,7 +122,7 @@ is_alive log key_number layer = list_any (λ made. made.number == key_number) (a
 abbrev pub IsStated : List Entry → ℕ → PublicKey → Statement → Type 0
 IsStated log key_number key statement =
     IsSomeAnd (serial_of log)
-    (λ serial. Verifies key (statement_text serial key_number statement.number statement.message) statement.signature)
+    (λ serial. Verifies key (said_text serial key_number statement.number statement.said) statement.signature)
 
 -- the property holds of the statement, if there is one
 abbrev pub IfStatement : Option Statement → (Statement → Type 0) → Type 0
@@ -136,9 +137,9 @@ pub record IsCurrent (log : List Entry) (key_number : ℕ) (made : KeyEntry) (st
 
 -- ---- the verdict
 
-abbrev pub message_of : Option Statement → Option (List ℕ)
-message_of None = None
-message_of (Some statement) = Some statement.message
+abbrev pub said_of : Option Statement → Option Said
+said_of None = None
+said_of (Some statement) = Some statement.said
 
 -- what an accepted chain says of a key
 abbrev pub report_of : Chain → ℕ → KeyEntry → Report
@@ -148,7 +149,7 @@ report_of chain key_number made = record {
   alive = is_alive (entries_of chain.entries) key_number made.layer;
   lives = lives_of (entries_of chain.entries) key_number;
   entries = length chain.entries;
-  message = message_of chain.statement;
+  said = said_of chain.statement;
 }
 
 -- The bytes are accepted under the maker's key, with this report on the key with this number.

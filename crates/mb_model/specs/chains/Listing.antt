@@ -5,6 +5,8 @@ use Rattle.std.specs.Prelude.{Option, None, Some, if◌then◌else◌}
 use Rattle.std.specs.Fmt.{decimal}
 use Rattle.sha2.specs.Sha256.{sha256}
 use Rattle.mb_model.specs.declared.key.PublicKey.{PublicKey}
+use Rattle.mb_model.specs.declared.entry.Said.{Said}
+use Rattle.mb_model.specs.declared.entry.Said.TheVariants.{Message, Answer}
 use Rattle.mb_model.specs.declared.layer.CodeName.{CodeName}
 use Rattle.mb_model.specs.declared.layer.Layer.{Layer}
 use Rattle.mb_model.specs.declared.layer.Trusts.{Trusts}
@@ -55,16 +57,21 @@ configuration_lines item =
     spaced_words (codes "configuration" ∷ decimal item.number ∷ [])
     ∷ take item.upto (layer_line 1 item.layers.one ∷ layer_line 2 item.layers.two ∷ layer_line 3 item.layers.three ∷ [])
 
-abbrev pub statement_lines : Option (List ℕ) → List (List ℕ)
+-- the words for what a statement says: a message; or the hash of a call's input, and the answer
+abbrev pub said_words : Said → List (List ℕ)
+said_words (Message message) = codes "statement" ∷ hex_word message ∷ []
+said_words (Answer input answer) = codes "called" ∷ hex_word input ∷ hex_word answer ∷ []
+
+abbrev pub statement_lines : Option Said → List (List ℕ)
 statement_lines None = []
-statement_lines (Some message) = spaced_words (codes "statement" ∷ hex_word message ∷ []) ∷ []
+statement_lines (Some said) = spaced_words (said_words said) ∷ []
 
 -- the lines of the report on the key with this number
 unfoldable pub listing : ℕ → Report → List (List ℕ)
 listing key report =
     spaced_words (codes "key" ∷ decimal key ∷ kind_word report.kind
     ∷ codes "layer" ∷ decimal report.layer ∷ life_word report.alive ∷ [])
-    ∷ flat_map configuration_lines report.lives ++ statement_lines report.message
+    ∷ flat_map configuration_lines report.lives ++ statement_lines report.said
 
 -- ---- the summary of a generated workload
 

@@ -36,6 +36,7 @@ reply_line (reply.Value value) = spaced_words (codes "value" ∷ hex_word value 
 reply_line reply.Absent = codes "absent"
 reply_line (reply.Signed key index statement) =
     spaced_words (codes "signed" ∷ decimal key ∷ decimal index ∷ hex_word statement ∷ [])
+reply_line (reply.Called answer) = spaced_words (codes "called" ∷ hex_word answer ∷ [])
 reply_line (reply.Status serial number length one two three) =
     spaced_words (codes "status" ∷ hex_word serial ∷ decimal number ∷ decimal length
     ∷ standing_word one ∷ standing_word two ∷ standing_word three ∷ [])

@@ -1,10 +1,10 @@
 -- Which events a script means, and which draw each command gets. Does a script say all that happens, and nothing else?
 use Rattle.std.specs.Prelude.{◌≡◌, ℕ, ◌*◌, ◌-◌, ◌<◌, ◌≤◌, ◌==◌, ◌⊎◌, Bool, true, false, not, List, [], ◌∷◌, ◌++◌}
-use Rattle.std.specs.Prelude.{length, map, replicate, codes, All, filter, count_by, IsTrue}
+use Rattle.std.specs.Prelude.{length, map, replicate, codes, All, filter, count_by, IsTrue, IfSome, Option, None, Some}
 use Rattle.std.specs.List.{AllZip}
 use Rattle.std.specs.Fmt.{decimal}
 use Rattle.mb_model.specs.declared.limits.TheConstants.{NAME_LIMIT, MESSAGE_LIMIT, FILL_LIMIT, FLASH_LENGTH}
-use Rattle.mb_model.specs.declared.limits.TheConstants.{CUT_LIMIT, DRAW_LENGTH, EVENT_LIMIT}
+use Rattle.mb_model.specs.declared.limits.TheConstants.{CUT_LIMIT, DRAW_LENGTH, EVENT_LIMIT, INPUT_LIMIT}
 use Rattle.mb_model.specs.declared.event.Event.{Event}
 use Rattle.mb_model.specs.declared.event.Event.TheVariants as event
 use Rattle.mb_model.specs.declared.event.Tear.{Tear}
@@ -25,6 +25,15 @@ pub record IsName (name : List ℕ) : Type 0 where
 -- the value of a secret, or a message to be signed
 abbrev pub FitsMessage : List ℕ → Type 0
 FitsMessage bytes = length bytes ≤ MESSAGE_LIMIT
+
+-- the input of a call
+abbrev pub FitsInput : List ℕ → Type 0
+FitsInput bytes = length bytes ≤ INPUT_LIMIT
+
+-- the word for the key of a call: its number, or a dash if no key signs
+abbrev pub called_word : Option ℕ → List ℕ
+called_word None = codes "-"
+called_word (Some number) = decimal number
 
 -- The tear that keeps `keep` bytes and fills with the bytes `fill`, at most 16. They come first in its field of 16
 -- bytes, and zeros after them.
@@ -62,6 +71,8 @@ IsScriptEvent (event.Put region name value) = IsTrue (is_upper region) × IsName
 IsScriptEvent (event.Get region name) = IsTrue (is_upper region) × IsName name
 IsScriptEvent (event.Drop region name) = IsTrue (is_upper region) × IsName name
 IsScriptEvent (event.Sign region key message) = IsTrue (is_upper region) × (key ≤ number_limit) × FitsMessage message
+IsScriptEvent (event.Call region key input) =
+    IsTrue (is_upper region) × IfSome key (λ number. number ≤ number_limit) × FitsInput input
 
 -- ---- lines
 
@@ -102,6 +113,9 @@ SaysEvent line (event.Drop region name) =
 SaysEvent line (event.Sign region key message) =
     IsTrue (is_upper region) × (key ≤ number_limit) × FitsMessage message
     × EndsInHex line (codes "sign" ∷ decimal region ∷ decimal key ∷ []) message
+SaysEvent line (event.Call region key input) =
+    IsTrue (is_upper region) × IfSome key (λ number. number ≤ number_limit) × FitsInput input
+    × EndsInHex line (codes "call" ∷ decimal region ∷ called_word key ∷ []) input
 
 -- Empty lines, and lines that begin with a number sign, say nothing. They may hold any bytes. A line of spaces is not
 -- empty, and is wrong.
@@ -133,6 +147,7 @@ is_command (event.Put region name value) = false
 is_command (event.Get region name) = false
 is_command (event.Drop region name) = false
 is_command (event.Sign region key message) = false
+is_command (event.Call region key input) = false
 
 -- how many of the events are commands
 unfoldable pub commands_in : List Event → ℕ

@@ -1,10 +1,13 @@
 -- What layers do with their regions: secrets and statements. Who can read a secret, and what does a key sign?
-use Rattle.std.specs.Prelude.{ℕ, ◌+◌, ◌==◌, nat_lt, nat_le, Bool, not, ◌&&◌, ◌||◌, List, [], ◌∷◌, ◌++◌, length, map}
-use Rattle.std.specs.Prelude.{filter, find, Option, None, Some, if◌then◌else◌}
+use Rattle.std.specs.Prelude.{ℕ, ◌+◌, ◌==◌, nat_lt, nat_le, Bool, false, not, ◌&&◌, ◌||◌, List, [], ◌∷◌, ◌++◌, length}
+use Rattle.std.specs.Prelude.{map, filter, find, Option, None, Some, if◌then◌else◌}
 use Rattle.std.specs.List.{list_any}
 use Rattle.mb_format.specs.Combinators.{same_bytes}
 use Rattle.mb_model.specs.declared.limits.TheConstants.{SECRET_LIMIT, KEY_USES}
+use Rattle.mb_model.specs.declared.entry.Said.TheVariants.{Message}
 use Rattle.mb_model.specs.declared.entry.Statement.{Statement}
+use Rattle.mb_model.specs.declared.state.Codes.{Codes}
+use Rattle.mb_model.specs.machine.Actions.{begins_with_call_word}
 use Rattle.mb_model.specs.declared.region.Secret.{Secret}
 use Rattle.mb_model.specs.declared.region.RegionKey.{RegionKey}
 use Rattle.mb_model.specs.declared.region.Region.{Region}
@@ -16,7 +19,7 @@ use Rattle.mb_model.specs.owners.Log.{entries_of, number_of}
 use Rattle.mb_model.specs.signatures.Signing.{signature_of}
 use Rattle.mb_model.specs.records.ChainFormat.{statement_format}
 use Rattle.mb_model.specs.machine.SignedTexts.{statement_text}
-use Rattle.mb_model.specs.declared.reply.Refusal.TheVariants.{WrongLayer, RegionFull, NoSuchKey, KeySpent}
+use Rattle.mb_model.specs.declared.reply.Refusal.TheVariants.{WrongLayer, WrongCode, RegionFull, NoSuchKey, KeySpent}
 use Rattle.mb_model.specs.machine.Refusals.{refusal_reply}
 use Rattle.mb_model.specs.owners.Regions.{region_of, with_region}
 
@@ -79,7 +82,7 @@ statement_of state key message =
     let number = number_of (entries_of state.log) in
     record {
       number = number;
-      message = message;
+      said = Message message;
       signature = signature_of key.seed key.uses (statement_text state.serial key.number number message);
     }
 
@@ -99,9 +102,19 @@ unfoldable pub sign_event : ℕ → ℕ → List ℕ → State → Outcome
 sign_event layer number message state =
     sign_with layer (find (has_number number) (region_of state layer).keys) message state
 
--- An event on the region of a layer is refused if control is past that layer, or if the layer may not run. A layer can
--- use the regions above it: those rest on its code, and have to trust it anyhow.
+-- the stored code of layer 2 or 3
+abbrev pub code_in : Codes → ℕ → Option (List ℕ)
+code_in codes layer = if layer == 2 then codes.two else codes.three
+
+-- whether a layer's code takes calls; its region is then the code's alone
+abbrev pub takes_calls : Option (List ℕ) → Bool
+takes_calls None = false
+takes_calls (Some code) = begins_with_call_word code
+
+-- An event on the region of a layer is refused if control is past that layer, if the layer may not run, or if its code
+-- takes calls. A layer can use the regions above it: those rest on its code, and have to trust it anyhow.
 abbrev pub on_region : ℕ → ℕ → (State → Outcome) → State → Outcome
 on_region ratchet layer event state =
     if nat_lt layer ratchet || not (is_runnable state.layers layer) then (refusal_reply WrongLayer, state)
+    else if takes_calls (code_in state.codes layer) then (refusal_reply WrongCode, state)
     else event state

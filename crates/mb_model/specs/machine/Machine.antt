@@ -14,6 +14,7 @@ use Rattle.mb_model.specs.declared.reply.Refusal.{Refusal}
 use Rattle.mb_model.specs.declared.reply.Refusal.TheVariants.{PoweredOff, WrongPhase, Zeroised, WrongLayer}
 use Rattle.mb_model.specs.machine.Refusals.{refusal_reply}
 use Rattle.mb_model.specs.machine.OrderStep.{OrderStep}
+use Rattle.mb_model.specs.machine.Calls.{Call, OnLayer}
 use Rattle.mb_model.specs.machine.LayerEvents.{Outcome, on_region, put_event, get_event, drop_event, sign_event}
 
 -- where control is: power is off, the device is on and dead, or the layer with this number runs, which is 1, 2 or 3
@@ -91,6 +92,13 @@ CommandStep world text draw (Ok on) answer next =
     × ((state : State) × OrderStep on.1 text draw answer state × (next ≡ record world { state = Some state })))
     ⊎ ((1 < on.0) × (answer ≡ refusal_reply WrongPhase) × (next ≡ world))
 
+-- a call, once a layer runs on a device that is alive
+abbrev pub CallTold : World → Call → Result (ℕ × State) Refusal → Reply → World → Type 0
+CallTold world call (Err refusal) answer next = (answer ≡ refusal_reply refusal) × (next ≡ world)
+CallTold world call (Ok on) answer next =
+    (outcome : Outcome) × OnLayer on.0 call on.1 outcome × (answer ≡ outcome.0)
+    × (next ≡ record world { state = Some outcome.1 })
+
 -- An event has this reply and leads to this world, if no allocation fails and power holds.
 abbrev pub Machine : World → Event → Reply → World → Type 0
 Machine world event.Boot answer next = (answer, next) ≡ boot_event world world.phase world.state
@@ -109,6 +117,8 @@ Machine world (event.Drop layer name) answer next =
     (answer, next) ≡ region_event world layer (drop_event layer name) (running_state_in world)
 Machine world (event.Sign layer key message) answer next =
     (answer, next) ≡ region_event world layer (sign_event layer key message) (running_state_in world)
+Machine world (event.Call layer key input) answer next =
+    CallTold world (record { layer = layer; key = key; input = input }) (running_state_in world) answer next
 
 -- the events that may need to allocate memory
 abbrev pub may_want_memory : Event → Bool
@@ -119,6 +129,7 @@ may_want_memory (event.Put layer name value) = true
 may_want_memory (event.Get layer name) = true
 may_want_memory (event.Drop layer name) = true
 may_want_memory (event.Sign layer key message) = true
+may_want_memory (event.Call layer key input) = true
 may_want_memory event.Off = false
 may_want_memory event.Tamper = false
 may_want_memory event.Go = false
@@ -131,6 +142,7 @@ may_be_cut (reply.Done number size) = true
 may_be_cut reply.Kept = true
 may_be_cut reply.Dropped = true
 may_be_cut (reply.Signed key index statement) = true
+may_be_cut (reply.Called answer) = true
 may_be_cut reply.Off = false
 may_be_cut reply.Tampered = false
 may_be_cut reply.Armed = false

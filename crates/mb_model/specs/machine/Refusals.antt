@@ -5,7 +5,7 @@ use Rattle.mb_model.specs.declared.reply.OrderRefusal.TheVariants.{WrongTarget, 
 use Rattle.mb_model.specs.declared.reply.OrderRefusal.TheVariants.{WrongCountersignature, LogFull, KeysFull}
 use Rattle.mb_model.specs.declared.reply.Refusal.{Refusal}
 use Rattle.mb_model.specs.declared.reply.Refusal.TheVariants.{PoweredOff, WrongPhase, Zeroised, WrongLayer, RegionFull}
-use Rattle.mb_model.specs.declared.reply.Refusal.TheVariants.{NoSuchKey, KeySpent, BadText, Order}
+use Rattle.mb_model.specs.declared.reply.Refusal.TheVariants.{NoSuchKey, KeySpent, WrongCode, RunFailed, BadText, Order}
 use Rattle.mb_model.specs.declared.reply.Reply.{Reply}
 use Rattle.mb_model.specs.declared.reply.Reply.TheVariants as reply
 
@@ -27,6 +27,8 @@ refusal_number WrongLayer = 4
 refusal_number RegionFull = 5
 refusal_number NoSuchKey = 6
 refusal_number KeySpent = 7
+refusal_number WrongCode = 8
+refusal_number RunFailed = 9
 refusal_number BadText = 10
 refusal_number (Order refusal) = order_refusal_number refusal
 
@@ -43,6 +45,8 @@ refusal_words number =
     else if number == 5 then Some (codes "full")
     else if number == 6 then Some (codes "key")
     else if number == 7 then Some (codes "spent")
+    else if number == 8 then Some (codes "code")
+    else if number == 9 then Some (codes "run")
     else if number == 10 then Some (codes "text")
     else if number == 11 then Some (codes "target")
     else if number == 12 then Some (codes "state")

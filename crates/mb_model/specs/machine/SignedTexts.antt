@@ -1,9 +1,12 @@
 -- The texts that are signed. Can a signature on one thing pass for a signature on another?
 use Rattle.std.specs.Prelude.{ℕ, List, ◌∷◌, ◌++◌, Option, IsSomeAnd}
 use Rattle.std.specs.Int.{w32, to_be_bytes}
-use Rattle.mb_model.specs.declared.separators.TheConstants.{ORDER_TEXT, COUNTERSIGNED_TEXT, ENTRY_TEXT, STATEMENT_TEXT}
+use Rattle.mb_model.specs.declared.separators.TheConstants.{ORDER_TEXT, COUNTERSIGNED_TEXT, ENTRY_TEXT}
+use Rattle.mb_model.specs.declared.separators.TheConstants.{STATEMENT_TEXT, CALL_TEXT}
 use Rattle.mb_model.specs.declared.key.PublicKey.{PublicKey}
 use Rattle.mb_model.specs.declared.entry.Entry.{Entry}
+use Rattle.mb_model.specs.declared.entry.Said.{Said}
+use Rattle.mb_model.specs.declared.entry.Said.TheVariants.{Message, Answer}
 use Rattle.mb_model.specs.records.EntryFormat.{entry_format}
 use Rattle.mb_model.specs.signatures.Merkle.{Verifies}
 
@@ -24,6 +27,16 @@ entry_text entry = ENTRY_TEXT ∷ entry_format.spelling entry
 unfoldable pub statement_text : List ℕ → ℕ → ℕ → List ℕ → List ℕ
 statement_text serial key_number number message =
     STATEMENT_TEXT ∷ serial ++ to_be_bytes w32 key_number ++ to_be_bytes w32 number ++ message
+
+-- what it signs for a call: the hash of the input, and the answer of the code
+unfoldable pub call_text : List ℕ → ℕ → ℕ → List ℕ → List ℕ → List ℕ
+call_text serial key_number number input_hash answer =
+    CALL_TEXT ∷ serial ++ to_be_bytes w32 key_number ++ to_be_bytes w32 number ++ input_hash ++ answer
+
+-- the text of what a statement says
+abbrev pub said_text : List ℕ → ℕ → ℕ → Said → List ℕ
+said_text serial key_number number (Message message) = statement_text serial key_number number message
+said_text serial key_number number (Answer input answer) = call_text serial key_number number input answer
 
 -- there is a key, and the signature is one of the text under it
 abbrev pub IsSignedBy : Option PublicKey → List ℕ → List ℕ → Type 0

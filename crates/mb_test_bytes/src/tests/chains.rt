@@ -8,7 +8,7 @@ use super::values::{BIRTH, CHANGE, EMERGENCY, KEY_43, NEW_KEY, SUCCESSION};
 use super::vectors;
 use mb_cert::{Chain, Statement, attach, certifies, leaf_number, read_chain, write_chain};
 use mb_layout::entry_bytes;
-use mb_model::{Bytes, Entry, Items, SignedEntry};
+use mb_model::{Bytes, Entry, Items, Said, SignedEntry};
 use std::alloc::Global;
 use std::process::Abort;
 use std::test::Fail;
@@ -69,7 +69,7 @@ fn keeps(
 ) -> Result<(), Fail> {
     let statement = Statement {
         number,
-        message: Bytes::copy(alloc, b"hello")?,
+        said: Said::Message(Bytes::copy(alloc, b"hello")?),
         signature: [0x63; 2348],
     };
     let chain = attach(chain_of(alloc, log)?, statement);

@@ -3,7 +3,7 @@
 ghost use Rattle.std.specs.Prelude.{◌≤◌, length};
 
 use super::spelled::joined;
-use super::statements::FIRST;
+use super::statements::{ASKED, FIRST};
 use super::{trusts, vectors};
 use mb_bytes::Cursor;
 use mb_cert::{ChainEnd, read_chain, read_statement};
@@ -210,9 +210,17 @@ const CHAINS: &[(Form, &[(&str, usize)], u32)] = &[
         2_525,
     ),
     (Form::Statement, &[("000000", 1)], 0),
-    (Form::Statement, &[("0000000581", 1)], 4),
+    (Form::Statement, &[("0000000582", 1)], 4),
     (Form::Statement, &[FIRST], 10),
     (Form::Statement, &[FIRST, ("63", 2_349)], 2_358),
+    (Form::Statement, &[("0000000580", 1), ("63", 2_475)], 133),
+    (Form::Statement, &[("0000000581", 1)], 5),
+    (Form::Statement, &[("0000000581", 1), ("11", 31)], 5),
+    (Form::Statement, &[ASKED], 37),
+    (Form::Statement, &[ASKED, ("8163", 1)], 37),
+    (Form::Statement, &[ASKED, ("03", 1), ("63", 2)], 38),
+    (Form::Statement, &[ASKED, ("03", 1), ("63", 2_350)], 41),
+    (Form::Statement, &[ASKED, ("00", 1), ("63", 2_349)], 2_386),
 ];
 
 #[test]

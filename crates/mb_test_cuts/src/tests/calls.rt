@@ -17,9 +17,9 @@ use mb_boot::{BootEnd, boot};
 use mb_layout::{ReadEnd, Room, region_of_bytes, root_of_bytes};
 use mb_lms::HashCount;
 use mb_model::{Items, Region, Root};
-use mb_outbound::{BindEnd, bind};
+use mb_outbound::{BindEnd, bind, bind_region, check_key, put_region};
 use mb_ratchet::{Off, One, R1, Reaches, Register, Three, Two, Up};
-use mb_region::{Named, commit_region, read_stored, wipe_region};
+use mb_region::{Named, read_stored};
 use mb_signer::sign;
 use std::alloc::Global;
 use std::marker::Brand;
@@ -34,6 +34,9 @@ pub enum Call {
     /// The key of this number is bound, in region 2.
     BindTwo(u32),
     BindThree(u32),
+    /// The key of this number is bound in the region of this record, which becomes region 2.
+    BindGivenTwo(u32, &'static str),
+    BindGivenThree(u32, &'static str),
     /// The region of this record is stored.
     StoreTwo(&'static str),
     StoreThree(&'static str),
@@ -124,6 +127,38 @@ fn bind_key<P: Named, L: Ledger>(
     }
 }
 
+/// Binds a key of a region that is given and takes the stored one's place, signs a message with it, and answers whether
+/// power failed.
+#[tactic(auto, using(crate::proofs::Staging::can_sign))]
+fn bind_given<P: Named, L: Ledger>(
+    alloc: Global,
+    board: &mut SimBoard,
+    key: u32,
+    record: &str,
+    hashes: &mut HashCount<L>,
+) -> Result<bool, Fail>
+    requires off { board.old.power ≡ false }
+    requires loaded { IsLoaded board.old.memory }
+    ensures loaded { IsLoaded board.new.memory }
+{
+    let mut room = Room::new(alloc)?;
+    let mut region = region_of(alloc, record)?;
+    if region.keys.as_slice().len() > 1 {
+        return Err("the region has several keys")?;
+    }
+    let Ok(Some(_key)) = check_key(&region, Some(key)) else {
+        return Err("the key is not bound")?;
+    };
+    let up = wake(board);
+    match bind_region::<Up<R1>, P, SimBoard>(up, board, key, &mut region, &mut room) {
+        Ok((_up, right, seed)) => {
+            sign(right, &seed, &[], &[], &mut [0; 2348], hashes);
+            Ok(false)
+        }
+        Err(_off) => Ok(true),
+    }
+}
+
 /// Stores a region and wipes the one before it, and answers whether power failed.
 fn store_region<P: Named>(alloc: Global, board: &mut SimBoard, record: &str) -> Result<bool, Fail>
     requires off { board.old.power ≡ false }
@@ -133,10 +168,7 @@ fn store_region<P: Named>(alloc: Global, board: &mut SimBoard, record: &str) -> 
     let mut room = Room::new(alloc)?;
     let region = region_of(alloc, record)?;
     let up = wake(board);
-    match commit_region::<Up<R1>, P, SimBoard>(up, board, &region, &mut room) {
-        Ok(up) => Ok(wipe_region::<Up<R1>, P, SimBoard>(up, board).is_err()),
-        Err(_off) => Ok(true),
-    }
+    Ok(put_region::<Up<R1>, P, SimBoard>(up, board, &region, &mut room).is_err())
 }
 
 /// Makes a root current, and answers whether power failed.
@@ -177,6 +209,10 @@ fn make<L: Ledger>(
         Call::Boot => come_up(alloc, board, hashes),
         Call::BindTwo(key) => bind_key::<Two, L>(alloc, board, key, hashes),
         Call::BindThree(key) => bind_key::<Three, L>(alloc, board, key, hashes),
+        Call::BindGivenTwo(key, record) => bind_given::<Two, L>(alloc, board, key, record, hashes),
+        Call::BindGivenThree(key, record) => {
+            bind_given::<Three, L>(alloc, board, key, record, hashes)
+        }
         Call::StoreTwo(record) => store_region::<Two>(alloc, board, record),
         Call::StoreThree(record) => store_region::<Three>(alloc, board, record),
         Call::PutRoot(record) => put_root(alloc, board, record),

@@ -39,6 +39,14 @@ const TWO_PUT: &str =
 const THREE_PUT: &str = "02010370696e043132333400000004010000000\
     2002b98f80d867125f7622b17092bb5aec0baef31f723051f380f1ce09412fd2358fc74211fc5054269b94106e0d3ee50f200";
 
+/// Regions 2 and 3 with these secrets, after one more use of the key.
+const TWO_PUT_USED: &str =
+    "02010370696e043536373800000004010000000101bb85e69f768b454548412a965c3436199a21ceb74d969db602db1cb\
+    46e4a5eefe94cd49a7cafd9830ae5d03bf0a7862d01";
+
+const THREE_PUT_USED: &str = "02010370696e043132333400000004010000000\
+    2002b98f80d867125f7622b17092bb5aec0baef31f723051f380f1ce09412fd2358fc74211fc5054269b94106e0d3ee50f201";
+
 /// A call, the records of both regions after it, the number of its writes, and the bytes that fill a torn one.
 struct Row {
     call: Call,
@@ -177,6 +185,24 @@ const BINDS_THREE: Row = Row {
     fills: FILLS,
 };
 
+/// Region 2 takes another value and key 1 is bound, in one.
+const BINDS_GIVEN_TWO: Row = Row {
+    call: Call::BindGivenTwo(1, TWO_PUT),
+    two: TWO_PUT_USED,
+    three: THREE,
+    writes: 3,
+    fills: FILLS,
+};
+
+/// Region 3 takes a secret and key 2 is bound, in one.
+const BINDS_GIVEN_THREE: Row = Row {
+    call: Call::BindGivenThree(2, THREE_PUT),
+    two: TWO,
+    three: THREE_PUT_USED,
+    writes: 3,
+    fills: FILLS,
+};
+
 /// Another region 2 is stored.
 const STORES_TWO: Row = Row {
     call: Call::StoreTwo(TWO_PUT),
@@ -208,6 +234,16 @@ fn key_of_region_two_is_bound(rt: HostRuntime) -> Result<(), Fail> {
 #[test]
 fn key_of_region_three_is_bound(rt: HostRuntime) -> Result<(), Fail> {
     expect(&rt, rt.alloc(), &BINDS_THREE)
+}
+
+#[test]
+fn key_is_bound_as_region_two_changes(rt: HostRuntime) -> Result<(), Fail> {
+    expect(&rt, rt.alloc(), &BINDS_GIVEN_TWO)
+}
+
+#[test]
+fn key_is_bound_as_region_three_changes(rt: HostRuntime) -> Result<(), Fail> {
+    expect(&rt, rt.alloc(), &BINDS_GIVEN_THREE)
 }
 
 #[test]

@@ -6,7 +6,7 @@ ghost use Rattle.std.specs.Prelude.{◌≤◌, vec_len, IfOk};
 use super::{joined, public_key};
 use hex::FromHex;
 use mb_model::{
-    Bytes, CodeName, Configuration, KeyKind, Layer, Layers, Lives, Report, Trust, Trusts,
+    Bytes, CodeName, Configuration, KeyKind, Layer, Layers, Lives, Report, Said, Trust, Trusts,
 };
 use mb_verifier::{ChainRefusal, verify, write_listing};
 use std::alloc::Global;
@@ -223,15 +223,30 @@ layer 1 - - - unreliable never\n\
 layer 2 - - - unreliable never\n\
 statement -\n";
 
+/// The listing of the report of `ENDED`, if the key stated the answer abc to the input `an input`.
+const ENDED_CALLED: &str = "key 20 configuration layer 2 ended\n\
+configuration 3\n\
+layer 1 - - - unreliable never\n\
+layer 2 - - - unreliable never\n\
+called 4fddb6e92a8333684779335007eda9426ddd8ea849ce4ab7c8340016d9d9d89a 616263\n";
+
+/// The hash of `an input`.
+const INPUT: &str = "4fddb6e92a8333684779335007eda9426ddd8ea849ce4ab7c8340016d9d9d89a";
+
+/// What a statement of this message says.
+fn message(alloc: Global, message: &[u8]) -> Result<Said, Fail> {
+    Ok(Said::Message(Bytes::copy(alloc, message)?))
+}
+
 /// The report on key `number` is listed as `listing`. The key lived in the configuration `life` alone and stated
-/// `message`. An epoch key lives, and another has ended.
+/// `said`. An epoch key lives, and another has ended.
 fn is_listed(
     rt: &impl Abort,
     alloc: Global,
     number: u32,
     kind: KeyKind,
     life: Configuration,
-    message: &[u8],
+    said: Said,
     listing: &str,
 ) -> Result<(), Fail> {
     let mut lives = Lives::new(alloc);
@@ -242,7 +257,7 @@ fn is_listed(
         alive: kind == KeyKind::Epoch,
         lives,
         entries: 6,
-        message: Some(Bytes::copy(alloc, message)?),
+        said: Some(said),
     };
     let text = write_listing(alloc, number, &report)?;
     assert!(rt; text.as_slice() == listing.as_bytes());
@@ -251,38 +266,44 @@ fn is_listed(
 
 #[test]
 fn reports_are_listed(rt: HostRuntime) -> Result<(), Fail> {
+    let alloc = rt.alloc();
     let life = Configuration {
         number: 4,
         upto: 3,
         layers: stated()?,
     };
-    is_listed(&rt, rt.alloc(), 1, KeyKind::Epoch, life, b"hello", STATED)?;
+    let said = message(alloc, b"hello")?;
+    is_listed(&rt, alloc, 1, KeyKind::Epoch, life, said, STATED)?;
     let life = Configuration {
         number: 4,
         upto: 3,
         layers: stated_apart()?,
     };
-    is_listed(
-        &rt,
-        rt.alloc(),
-        1,
-        KeyKind::Epoch,
-        life,
-        b"hello",
-        STATED_APART,
-    )?;
+    let said = message(alloc, b"hello")?;
+    is_listed(&rt, alloc, 1, KeyKind::Epoch, life, said, STATED_APART)
+}
+
+#[test]
+fn reports_on_keys_that_ended_are_listed(rt: HostRuntime) -> Result<(), Fail> {
+    let alloc = rt.alloc();
     let life = Configuration {
         number: 3,
         upto: 2,
         layers: ALL_BARE,
     };
+    let said = message(alloc, b"")?;
+    is_listed(&rt, alloc, 20, KeyKind::Configuration, life, said, ENDED)?;
+    let said = Said::Answer {
+        input: <[u8; 32] as FromHex>::from_hex(INPUT)?,
+        answer: Bytes::copy(alloc, b"abc")?,
+    };
     is_listed(
         &rt,
-        rt.alloc(),
+        alloc,
         20,
         KeyKind::Configuration,
         life,
-        b"",
-        ENDED,
+        said,
+        ENDED_CALLED,
     )
 }

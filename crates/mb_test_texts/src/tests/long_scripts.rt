@@ -30,14 +30,23 @@ fn is_command(alloc: Global, count: usize) -> bool {
     }
 }
 
+/// Whether a call with an input of `count` bytes is read.
+fn is_call(alloc: Global, count: usize) -> bool {
+    match text_of(alloc, &[("call 3 - ", 1), ("07", count)]) {
+        Ok(text) => count_events(alloc, text.as_slice()) == Ok(1),
+        Err(_) => false,
+    }
+}
+
 #[test]
 fn long_lines_are_read_and_written(rt: HostRuntime) {
     assert!(rt; is_command(rt.alloc(), 61_034));
-    let Ok(line) = text_of(rt.alloc(), &[("signed 1 0 ", 1), ("07", 2_481), ("\n", 1)]) else {
+    assert!(rt; is_call(rt.alloc(), 4_096) && !is_call(rt.alloc(), 4_097));
+    let Ok(line) = text_of(rt.alloc(), &[("signed 1 0 ", 1), ("07", 2_514), ("\n", 1)]) else {
         panic!(rt; "no memory");
     };
-    assert!(rt; line.len() == 4_974);
-    is_statement(&rt, rt.alloc(), &[7; 2_481], line.as_slice());
+    assert!(rt; line.len() == 5_040);
+    is_statement(&rt, rt.alloc(), &[7; 2_514], line.as_slice());
 }
 
 /// How many events are copied.
@@ -64,4 +73,6 @@ fn all_events_are_copied(rt: HostRuntime) {
     assert!(rt; are_copied(rt.alloc(), plain, 6));
     let worded = b"command 00\nput 2 pin 31323334\nget 2 pin\ndrop 2 pin\nsign 3 1 68656c6c6f\n";
     assert!(rt; are_copied(rt.alloc(), worded, 5));
+    let calls = b"call 3 1 68656c6c6f\ncall 2 - -\n";
+    assert!(rt; are_copied(rt.alloc(), calls, 2));
 }

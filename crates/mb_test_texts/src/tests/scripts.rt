@@ -34,6 +34,13 @@ const SCRIPTS: &[(&str, u32)] = &[
     ("cut 1 keep fill 00", 1),
     ("sign 2 4294967295 -", 0),
     ("sign 2 4294967296 -", 1),
+    ("call 2 - -", 0),
+    ("call 3 4294967295 00", 0),
+    ("call 3 4294967296 00", 1),
+    ("call 3 -1 00", 1),
+    ("call 3 -", 1),
+    ("call 3 - ", 1),
+    ("call 1 - -", 1),
     ("get 2 abcdefghijklmnopqrstuvwxyz012345", 0),
     ("get 2 abcdefghijklmnopqrstuvwxyz0123456", 1),
     ("get 4 pin", 1),
@@ -57,6 +64,7 @@ pub enum Said {
     Long(usize),
     Put(u8, &'static [u8], &'static [u8]),
     Sign(u8, u32, &'static [u8]),
+    Call(u8, Option<u32>, &'static [u8]),
 }
 
 /// Lines, and what they say.
@@ -65,6 +73,8 @@ const LINES: &[(&str, Said)] = &[
     ("command 0aFF", Said::Command(b"\x0A\xFF")),
     ("put 2 pin 31323334", Said::Put(2, b"pin", b"1234")),
     ("sign 3 1 68656c6c6f", Said::Sign(3, 1, b"hello")),
+    ("call 3 1 68656c6c6f", Said::Call(3, Some(1), b"hello")),
+    ("call 2 - -", Said::Call(2, None, b"")),
     (
         "cut 3 keep 5 fill fF",
         Said::Cut(
@@ -105,6 +115,10 @@ fn is_event(event: &Event, said: &Said) -> bool {
             message,
         } => match said {
             Said::Sign(r, k, m) => region == r && key == k && message.as_slice() == *m,
+            _ => false,
+        },
+        Event::Call { region, key, input } => match said {
+            Said::Call(r, k, i) => region == r && key == k && input.as_slice() == *i,
             _ => false,
         },
         _ => false,
@@ -188,6 +202,8 @@ fn plain_replies_are_written(rt: HostRuntime) {
 fn replies_with_numbers_are_written(rt: HostRuntime) {
     let alloc = rt.alloc();
     is_written(&rt, alloc, Reply::At(2), b"at 2\n");
+    is_written(&rt, alloc, Reply::Refused(8), b"refused 8 code\n");
+    is_written(&rt, alloc, Reply::Refused(9), b"refused 9 run\n");
     is_written(&rt, alloc, Reply::Refused(15), b"refused 15 log full\n");
     let done = Reply::Done {
         number: 31,
@@ -214,6 +230,14 @@ fn is_value(rt: &impl Abort, alloc: Global, value: &[u8], line: &[u8]) {
     }
 }
 
+/// An answer of these bytes has this line.
+fn is_answer(rt: &impl Abort, alloc: Global, answer: &[u8], line: &[u8]) {
+    match Bytes::copy(alloc, answer) {
+        Ok(answer) => is_written(rt, alloc, Reply::Called(answer), line),
+        Err(_) => panic!(rt; "no memory"),
+    }
+}
+
 /// A signed statement of these bytes has this line.
 pub fn is_statement(rt: &impl Abort, alloc: Global, statement: &[u8], line: &[u8]) {
     let signed = match Bytes::copy(alloc, statement) {
@@ -231,5 +255,7 @@ pub fn is_statement(rt: &impl Abort, alloc: Global, statement: &[u8], line: &[u8
 fn replies_with_bytes_are_written(rt: HostRuntime) {
     is_value(&rt, rt.alloc(), b"1234", b"value 31323334\n");
     is_value(&rt, rt.alloc(), b"", b"value -\n");
+    is_answer(&rt, rt.alloc(), b"\x02\x01", b"called 0201\n");
+    is_answer(&rt, rt.alloc(), b"", b"called -\n");
     is_statement(&rt, rt.alloc(), b"\xAB", b"signed 1 0 ab\n");
 }

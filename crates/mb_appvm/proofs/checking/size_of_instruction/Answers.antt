@@ -1,7 +1,7 @@
 use Rattle.std.proofs.Common.{ap, sym, ◌∙◌, length, ℕ, List, ◌+◌}
-use Rattle.mb_appvm.specs.declared.instruction.Instruction.{Instruction}
+use Rattle.mb_model.specs.declared.instruction.Instruction.{Instruction}
 use Rattle.mb_appvm.specs.declared.keyword.Jump.TheVariants as jump
-use Rattle.mb_appvm.specs.Instructions.{instruction_format}
+use Rattle.mb_model.specs.application.Instructions.{instruction_format}
 use Rattle.mb_appvm.proofs.Sizes.{size_plain, size_push, size_jump, size_get}
 use Rattle.mb_appvm.proofs.checking.size_of_instruction.Goals as goal
 

@@ -37,7 +37,7 @@ returns-in-Ok-boot g c = record {
   steps = as_taken event.Boot (λ held. refl) (λ world sound.
       let booted = is_booted c.args.off (g.B.Board.seen c.args.b.now).memory (g.B.Board.seen c.args.b.now).power (g.B.Board.seen c.args.b.now).level (g.B.Board.seen c.args.b.now).meter world sound (g.B.Board.seen c.boot.new.b).memory c.in-Ok-boot.ensures.clean c.boot.ensures.meaning c.in-Ok-boot.ensures.zeroised in
       boots c.args.off (g.B.Board.seen c.args.b.now).memory (g.B.Board.seen c.args.b.now).power (g.B.Board.seen c.args.b.now).level (g.B.Board.seen c.args.b.now).meter world sound c.in-Ok-boot.up (record { known = c.remember-known.result; room = c.remember-known.new.room })
-      (g.B.Board.seen c.boot.new.b).memory (g.B.Board.seen c.boot.new.b).power (g.B.Board.seen c.boot.new.b).level (g.B.Board.seen c.boot.new.b).meter booted c.remember-known.ensures.knows c.in-Ok-boot.ensures.power c.in-Ok-boot.ensures.level c.in-Ok-boot.ensures.events.meter.armed);
+      (g.B.Board.seen c.boot.new.b).memory (g.B.Board.seen c.boot.new.b).power (g.B.Board.seen c.boot.new.b).level (g.B.Board.seen c.boot.new.b).meter booted c.remember-known.ensures.knows c.remember-known.ensures.codes c.in-Ok-boot.ensures.power c.in-Ok-boot.ensures.level c.in-Ok-boot.ensures.events.meter.armed);
   untold = λ unwritten. absurd (cc);
   quiet = c.boot.ensures.quiet;
   spared = c.boot.ensures.spared;

@@ -7,7 +7,7 @@ use Rattle.mb_device_orders.specs.declared.remembering.Trees.{Trees}
 use Rattle.mb_device_orders.specs.Remembering.{Knows}
 use Rattle.mb_signer.specs.Tree.{IsTreeOf}
 use Rattle.mb_device_orders.proofs.Planned.{knows_next, device_committed}
-use Rattle.mb_device_orders.proofs.Remembered.{device_in_force}
+use Rattle.mb_device_orders.proofs.Remembered.{device_in_force, knows_code}
 use Rattle.mb_device_orders.proofs.Answered.{has_commit, answered_before, answered_done, order_cut}
 use Rattle.mb_boot.proofs.Joined.{ok_most, err_most}
 use Rattle.mb_device_orders.proofs.KeptTrees.{commits_plan, keys_planned, signers_there, device_tree_kept}
@@ -36,11 +36,18 @@ commit-requires-clause-commit g c =
     has_commit c.args.running.now.known (g.B.Board.seen c.args.b.now).memory c.args.text.now c.args.draw.now c.in-Ok.judged c.in-Ok-plan_commit.planned.root c.plan_commit.new.room c.requires.remembered c.in-Ok.ensures.judged
     c.in-Ok-plan_commit.ensures.commit
 
+pub note_header-noted-requires-clause-ready : goal.note_header-noted-requires-clause-ready
+note_header-noted-requires-clause-ready g c =
+    let is = c.requires.remembered in
+    let passed = c.in-Ok.ensures.judged is.state is.ready is.knows in
+    let commit = c.in-Ok-plan_commit.ensures.commit is.state c.args.text.now c.args.draw.now is.ready passed in
+    record { state = _; ready = c.in_ok-up.ensures.done is.state c.in-Ok.judged.order c.args.draw.now commit }
+
 pub returns-in_err-up : goal.returns-in_err-up
 returns-in_err-up g c =
     let p = err_from_is_err_and c.from_residual.result c.from_residual.ensures.1 in
     rw p.1 (record {
-      told = λ state ready knows.
+      told = λ state ready knows codes.
           let still : Knows c.judge_text.new.running.known state = subst (λ (k : Known). Knows k state) (sym c.judge_text.ensures.stays) knows in
           let passed = c.in-Ok.ensures.judged state ready knows in
           let commit = c.in-Ok-plan_commit.ensures.commit state c.args.text.now c.args.draw.now ready passed in
@@ -65,17 +72,24 @@ returns-in_err-up g c =
 pub returns : goal.returns
 returns g c =
     let trees : Trees = record { device = c.take.result; region = None } in
-    let known : Known = record { serial = c.lend.new.self.serial; figures = c.in-Ok-plan_commit.planned.figures; trees = with_value c.lend.new.self.trees trees } in
+    let known : Known = record {
+      serial = c.lend.new.self.serial;
+      figures = c.in-Ok-plan_commit.planned.figures;
+      two = c.note_header-noted.result.two;
+      three = c.note_header-noted.result.three;
+      trees = with_value c.lend.new.self.trees trees;
+    } in
     record {
-      told = λ state ready knows.
+      told = λ state ready knows codes.
           let still : Knows c.judge_text.new.running.known state = subst (λ (k : Known). Knows k state) (sym c.judge_text.ensures.stays) knows in
           let passed = c.in-Ok.ensures.judged state ready knows in
           let commit = c.in-Ok-plan_commit.ensures.commit state c.args.text.now c.args.draw.now ready passed in
           let figures = c.in-Ok-plan_commit.ensures.figures state c.args.text.now c.args.draw.now ready still passed in
-          answered_done (g.B.Board.seen c.args.b.now).memory (g.B.Board.seen c.commit.new.b).memory state c.args.text.now c.args.draw.now c.in-Ok.judged known passed
-          (c.in_ok-up.ensures.done state c.in-Ok.judged.order c.args.draw.now commit)
+          let ready_after = c.in_ok-up.ensures.done state c.in-Ok.judged.order c.args.draw.now commit in
+          answered_done (g.B.Board.seen c.args.b.now).memory (g.B.Board.seen c.commit.new.b).memory state c.args.text.now c.args.draw.now c.in-Ok.judged known passed ready_after
           (knows_next state c.in-Ok.judged.order c.args.draw.now c.judge_text.new.running.known known still c.lend.ensures.serial figures refl
-          (device_committed c.in-Ok-plan_commit.planned.root state c.in-Ok.judged.order c.args.draw.now (1 - commit.area) c.take.result commit.root_is c.take.ensures.tree));
+          (device_committed c.in-Ok-plan_commit.planned.root state c.in-Ok.judged.order c.args.draw.now (1 - commit.area) c.take.result commit.root_is c.take.ensures.tree))
+          (knows_code c.note_header-noted.result known (g.B.Board.seen c.commit.new.b).memory.flash _ refl refl (c.note_header-noted.ensures _ ready_after));
       stays = λ undone. absurd (cc);
       keeps = λ done.
           let is = c.requires.remembered in

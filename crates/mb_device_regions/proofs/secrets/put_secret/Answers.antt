@@ -6,7 +6,7 @@ use Rattle.mb_model.specs.owners.Regions.{region_of}
 use Rattle.mb_device_regions.specs.declared.end.NotPut.TheVariants.{Full}
 use Rattle.mb_device_regions.specs.Secrets.{PutsInto}
 use Rattle.mb_device_regions.proofs.Outcomes.{put_refused, put_told, put_cut}
-use Rattle.mb_device_regions.proofs.Promised.{remembered_ready, told_on_bbram, stopped_on_bbram, plans_then, answers_idle}
+use Rattle.mb_device_regions.proofs.Promised.{remembered_ready, told_on_bbram, stopped_on_bbram, plans_then, codes_stay, answers_idle}
 use Rattle.mb_device_regions.proofs.secrets.put_secret.Goals as goal
 
 pub region_with-requires-clause-ready : goal.region_with-requires-clause-ready
@@ -29,6 +29,7 @@ returns-in_err-s-clause-answers g c =
           (ap (λ f. f.number) knows.figures) (c.replace.ensures.either state ready);
       writes = tt;
       known = λ state ready knows. knows;
+      codes = λ state codes. codes_stay _ _ _ _ state refl refl c.in_err-s.ensures.ran.flash codes;
       ran = stopped_on_bbram 3 _ _ _ _ c.in_err-s.ensures.ran;
       plans = plans_then c.region_with.ensures.plans c.replace.ensures.plans;
     })
@@ -41,6 +42,7 @@ returns-clause-answers g c = record {
       (ap (λ f. f.number) knows.figures) runs ready (c.in_ok-s.ensures.done state ready);
   writes = λ uncut. absurd (cc);
   known = λ state ready knows. knows;
+  codes = λ state codes. codes_stay _ _ _ _ state refl refl c.in_ok-s.ensures.ran.flash codes;
   ran = told_on_bbram 3 _ _ _ _ c.in_ok-s.ensures.ran;
   plans = plans_then c.region_with.ensures.plans c.replace.ensures.plans;
 }

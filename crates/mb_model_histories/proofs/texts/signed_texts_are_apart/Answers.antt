@@ -7,5 +7,6 @@ returns c = record {
   begin = lemmas.texts_begin;
   keys = lemmas.keys_are_no_texts;
   sized = lemmas.serials_have_to_be_sized;
+  hashed = lemmas.hashes_have_to_be_sized;
   range = lemmas.numbers_have_to_be_in_range;
 }

@@ -13,6 +13,6 @@ returns-in-Some c =
 pub loop-index-preserved : goal.loop-index-preserved
 loop-index-preserved c =
     line_passed c.args.lines.now (situation_meant c.args.situation.now) c.loop-index.seen c.push.new.self c.loop-index.index c.index-lines-index.result c.index-lines-index.result c.members_of.result
-    c.hash_layers-hashes.result c.loop-index.invariant c.loop-index-test.true c.index-lines-index.is
+    c.find_hashes-hashes.result c.loop-index.invariant c.loop-index-test.true c.index-lines-index.is
     (ap (λ (x : List Members). ruling_of_line x (situation_meant c.args.situation.now) c.index-lines-index.result) (sym c.as_slice.ensures) ∙ c.in-None.ensures)
-    c.hash_layers-hashes.ensures c.members_of.ensures c.in_ok-push-in-None.ensures.ok
+    c.find_hashes-hashes.ensures c.members_of.ensures c.in_ok-push-in-None.ensures.ok

@@ -13,6 +13,7 @@ returns g c =
       either = keeps_or_replaces c.args.slot before after c.args.bytes.now c.requires.slot given.ran.flash given.besides given.either;
       left = given.left;
       besides = given.besides;
+      writes = given.writes;
       ran = given.ran;
       capacity = given.capacity;
     }

@@ -18,6 +18,7 @@ returns g c =
       means_either = λ none. state_replaced_or_kept c.args.slot c.args.slot region before after refl c.requires.slot given.ran.ran.sized none (given.either region spelled);
       left = given.left;
       besides = given.besides;
+      writes = given.writes;
       ran = given.ran;
       plans = search rules;
     }

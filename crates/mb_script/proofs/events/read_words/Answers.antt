@@ -14,4 +14,5 @@ returns c =
     let get : c.args.word.now ≢ codes "get" = λ is. clash _ ((slice_eq-Decides Decides-eqb _ _ _ c.eq-4.ensures).1 (is ∙ sym c.as_slice-4.ensures)) c.if-eq-4.false in
     let drop : c.args.word.now ≢ codes "drop" = λ is. clash _ ((slice_eq-Decides Decides-eqb _ _ _ c.eq-5.ensures).1 (is ∙ sym c.as_slice-5.ensures)) c.if-eq-5.false in
     let sign : c.args.word.now ≢ codes "sign" = λ is. clash _ ((slice_eq-Decides Decides-eqb _ _ _ c.eq-6.ensures).1 (is ∙ sym c.as_slice-6.ensures)) c.if-eq-6.false in
-    words_none c.args.word.now c.args.rest.now c.requires cut command put get drop sign
+    let call : c.args.word.now ≢ codes "call" = λ is. clash _ ((slice_eq-Decides Decides-eqb _ _ _ c.eq-7.ensures).1 (is ∙ sym c.as_slice-7.ensures)) c.if-eq-7.false in
+    words_none c.args.word.now c.args.rest.now c.requires cut command put get drop sign call

@@ -8,6 +8,7 @@ returns-in_err-write_other g c = record {
   left = search rules;
   either = inl c.write_other.ensures.current;
   besides = agree_besides c.args.slot _ _ c.requires.can_use.least c.requires.can_use.most c.requires.can_use.loaded.bbram (but_other c.args.slot _ _ c.write_other.ensures.ran.rest);
+  writes = search rules;
   ran = search rules;
 }
 
@@ -18,5 +19,6 @@ returns g c = record {
   either = search rules;
   besides = agree_besides c.args.slot _ _ c.requires.can_use.least c.requires.can_use.most c.requires.can_use.loaded.bbram
       (but_then c.args.slot _ _ _ (but_other c.args.slot _ _ c.write_other.ensures.ran.rest) c.flip.ensures.ran.rest);
+  writes = search rules;
   ran = search rules;
 }

@@ -9,6 +9,7 @@ returns g c = record {
   blank = on_ok c.write_other.result (λ done. subst IsBlank (sym done) (All-replicate (λ (byte : ℕ). byte ≡ 0) 4096 0 refl)) c.write_other.ensures.done;
   current = c.write_other.ensures.current;
   idle = search rules;
+  writes = λ some. c.write_other.ensures.writes;
   others = λ m least most apart. other_other c.args.slot m _ _ c.requires.can_use.least c.requires.can_use.most least most apart c.requires.can_use.loaded.bbram (but_other c.args.slot _ _ c.write_other.ensures.ran.rest);
   besides = agree_besides c.args.slot _ _ c.requires.can_use.least c.requires.can_use.most c.requires.can_use.loaded.bbram (but_other c.args.slot _ _ c.write_other.ensures.ran.rest);
   ran = c.write_other.ensures.ran;

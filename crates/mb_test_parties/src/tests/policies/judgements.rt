@@ -1,7 +1,7 @@
 //! Policies, and what each comes to for a report of `reports`.
 
 use super::reports::Expected::{Allowed, Denied, Line};
-use super::reports::Whose::{Configured, Ended, Living};
+use super::reports::Whose::{Called, Configured, Ended, Hashed, Living};
 use super::reports::{Expected, Whose, comes_to, report_on};
 use crate::tests::pieces::text_of;
 use mb_model::Report;
@@ -23,6 +23,10 @@ const OF_LIVING: &[(&str, Expected)] = &[
     ("allow r number 6 9\n", Denied(4, "default")),
     ("allow r alive\n", Allowed),
     ("allow r statement\n", Denied(4, "default")),
+    (
+        "allow r or called or input abc answer abc\n",
+        Denied(4, "default"),
+    ),
     ("allow r kind epoch\n", Allowed),
     ("allow r kind configuration\n", Denied(4, "default")),
     ("allow r version 3 1 1\n", Allowed),
@@ -180,6 +184,46 @@ const OF_CONFIGURED: &[(&str, Expected)] = &[
     ("allow r or owner 3 two code 3 abc\n", Denied(5, "default")),
 ];
 
+/// Four sets: the hash of the call's input, the hash of another input, the SHA-256 of `abc`, and both inputs.
+const CALL_SETS: &str = "set now 4fddb6e92a8333684779335007eda9426ddd8ea849ce4ab7c8340016d9d9d89a\n\
+                         set past 9779765541c59829a4e2196d1f3de1e33ac57753ef039737273b11af7734d7ac\n\
+                         set abc ba7816bf8f01cfea414140de5dae2223b00361a396177a9cb410ff61f20015ad\n\
+                         set any 9779765541c59829a4e2196d1f3de1e33ac57753ef039737273b11af7734d7ac 4fddb6e92a8333684779335007eda9426ddd8ea849ce4ab7c8340016d9d9d89a\n";
+
+/// Lines after the sets of calls, and what the policy comes to if the statement is one of a call.
+const OF_CALLED: &[(&str, Expected)] = &[
+    ("allow r statement\n", Allowed),
+    ("allow r called\n", Allowed),
+    ("deny r called\nallow s alive\n", Denied(5, "r")),
+    ("allow r input now\n", Allowed),
+    ("allow r input past\n", Denied(5, "default")),
+    ("allow r input any\n", Allowed),
+    ("allow r input abc\n", Denied(5, "default")),
+    ("allow r answer abc\n", Allowed),
+    ("allow r answer now\n", Denied(5, "default")),
+    ("allow r not answer now\n", Allowed),
+    (
+        "allow fresh and called and last and code 2 abc input now\n",
+        Allowed,
+    ),
+    ("allow r input 2 now\n", Line(5)),
+    ("allow r input\n", Line(5)),
+    ("allow r input later\n", Line(5)),
+    ("allow r answer\n", Line(5)),
+    ("allow r answer abc abc\n", Line(5)),
+    ("allow r called now\n", Line(5)),
+    ("allow r call\n", Line(5)),
+];
+
+/// Lines after the sets of calls, and what the policy comes to if the statement is a message of the bytes of the hash.
+const OF_HASHED: &[(&str, Expected)] = &[
+    ("allow r statement\n", Allowed),
+    ("allow r called\n", Denied(5, "default")),
+    ("allow r not called\n", Allowed),
+    ("allow r input now\n", Denied(5, "default")),
+    ("allow r or input any answer abc\n", Denied(5, "default")),
+];
+
 /// Policies that are judged for the report on a key: which key that is, the lines with which each begins, and its other
 /// lines.
 const POLICIES: &[(&str, Whose, &str, &[(&str, Expected)])] = &[
@@ -188,6 +232,8 @@ const POLICIES: &[(&str, Whose, &str, &[(&str, Expected)])] = &[
     ("alive", Living, "", OTHER_LINES),
     ("ended", Ended, SETS, OF_ENDED),
     ("configuration", Configured, SETS, OF_CONFIGURED),
+    ("called", Called, CALL_SETS, OF_CALLED),
+    ("hashed", Hashed, CALL_SETS, OF_HASHED),
 ];
 
 /// Whether the policy of the pieces comes to this.

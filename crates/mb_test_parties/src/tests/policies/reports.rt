@@ -5,7 +5,8 @@ ghost use Rattle.std.specs.Prelude.{◌≤◌, length};
 use hex::FromHex;
 use mb_lms::parse_key;
 use mb_model::{
-    Bytes, CodeName, Configuration, KeyKind, Layer, Layers, Lives, NoMemory, Report, Trust, Trusts,
+    Bytes, CodeName, Configuration, KeyKind, Layer, Layers, Lives, NoMemory, Report, Said, Trust,
+    Trusts,
 };
 use mb_policy::{Judgement, PolicyEnd, judge_report, read_policy};
 use std::alloc::Global;
@@ -77,7 +78,7 @@ pub fn report(alloc: Global) -> Result<Report, Fail> {
         alive: true,
         lives,
         entries: 8,
-        message: None,
+        said: None,
     })
 }
 
@@ -90,8 +91,12 @@ pub enum Whose {
     /// that layer has no code, and in 9, where it has no owner either.
     Ended,
     /// A configuration key of layer 2 that is alive, and lived in configuration 5. Layer 3 is not listed there, and the
-    /// chain has a statement.
+    /// chain has a statement of a message.
     Configured,
+    /// The key of `Configured`, whose chain has the statement of a call.
+    Called,
+    /// The key of `Configured`, whose chain has a statement of a message that is the hash of the call's input.
+    Hashed,
 }
 
 /// A configuration of a key that has ended, with this layer 2.
@@ -127,12 +132,12 @@ fn ended(alloc: Global) -> Result<Report, Fail> {
         alive: false,
         lives,
         entries: 12,
-        message: None,
+        said: None,
     })
 }
 
-/// The report on the configuration key.
-fn configured(alloc: Global) -> Result<Report, Fail> {
+/// The report on the configuration key, whose chain has a statement that says this.
+fn configured(alloc: Global, said: Said) -> Result<Report, Fail> {
     let whole = configuration(5, layer(OWNERS[0], CODE, Trust::Countersigned)?)?;
     let mut lives = Lives::new(alloc);
     lives.push(Configuration {
@@ -149,8 +154,25 @@ fn configured(alloc: Global) -> Result<Report, Fail> {
         alive: true,
         lives,
         entries: 9,
-        message: Some(Bytes::copy(alloc, b"today")?),
+        said: Some(said),
     })
+}
+
+/// The SHA-256 of `an input`.
+pub const INPUT: &str = "4fddb6e92a8333684779335007eda9426ddd8ea849ce4ab7c8340016d9d9d89a";
+
+/// The answer `abc` of a call with the input `an input`. The SHA-256 of the answer is that of the later code.
+fn called(alloc: Global) -> Result<Said, Fail> {
+    Ok(Said::Answer {
+        input: <[u8; 32] as FromHex>::from_hex(INPUT)?,
+        answer: Bytes::copy(alloc, b"abc")?,
+    })
+}
+
+/// The message of 32 bytes that are the SHA-256 of `an input`.
+fn message_of_a_hash(alloc: Global) -> Result<Said, Fail> {
+    let hash = <[u8; 32] as FromHex>::from_hex(INPUT)?;
+    Ok(Said::Message(Bytes::copy(alloc, &hash)?))
 }
 
 /// The report on this key.
@@ -158,7 +180,9 @@ pub fn report_on(alloc: Global, whose: Whose) -> Result<Report, Fail> {
     match whose {
         Whose::Living => report(alloc),
         Whose::Ended => ended(alloc),
-        Whose::Configured => configured(alloc),
+        Whose::Configured => configured(alloc, Said::Message(Bytes::copy(alloc, b"today")?)),
+        Whose::Called => configured(alloc, called(alloc)?),
+        Whose::Hashed => configured(alloc, message_of_a_hash(alloc)?),
     }
 }
 

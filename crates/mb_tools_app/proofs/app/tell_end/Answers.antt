@@ -1,7 +1,7 @@
 use Rattle.std.proofs.Common.{ℕ, List, Err, sym, ◌∙◌, ap, subst}
 use Rattle.mb_model_commands.specs.Commands.{refuse}
 use Rattle.mb_console.specs.Ending.{CarriesOut}
-use Rattle.mb_appvm.specs.declared.running.AppEnd.{AppEnd}
+use Rattle.mb_model.specs.declared.running.AppEnd.{AppEnd}
 use Rattle.mb_tools_app.specs.AppCommand.{tell_end, app_line}
 use Rattle.mb_tools_app.proofs.AppLemmas.{end_lacks}
 use Rattle.mb_tools_app.proofs.app.tell_end.Goals as goal

@@ -1,6 +1,6 @@
 use Rattle.std.proofs.Common.{refl, subst, List, ℕ}
 use Rattle.mb_console.proofs.Leading.{begins, reads, finds, stops_at_input, lacks_memory}
-use Rattle.mb_appvm.specs.Runs.{AppRun}
+use Rattle.mb_model.specs.application.Runs.{AppRun}
 use Rattle.mb_tools_app.specs.AppcodeCommand.{appcode, no_secrets}
 use Rattle.mb_tools_app.proofs.appcode.appcode.Goals as goal
 

@@ -1,7 +1,7 @@
 use Rattle.std.proofs.Common.{ℕ, List, Option, subst}
 use Rattle.std.specs.Prelude.{IfOk}
 use Rattle.mb_model.specs.declared.region.Secret.{Secret}
-use Rattle.mb_appvm.specs.Runs.{AppRun}
+use Rattle.mb_model.specs.application.Runs.{AppRun}
 use Rattle.mb_tools_app.proofs.AppcodeLemmas.{sees_none}
 use Rattle.mb_tools_app.proofs.appcode.run_code.Goals as goal
 

@@ -32,11 +32,11 @@ returns-clause-accepted c = λ bytes spelled.
     let made = as_entry c.in-Some.born in
     let judged = c.in_ok-judged.judged in
     let says = c.in_ok-judged.ensures in
-    let current : IfStatement c.args.chain.statement (IsCurrent (entries_of log) key made) = elim c.match-chain-3.branch [
+    let current : IfStatement c.args.chain.statement (IsCurrent (entries_of log) key made) = elim c.match-chain-5.branch [
       | in-Some-statement+in_ok-check_statement w ↦
           with_statement (IsCurrent (entries_of log) key made) c.args.chain.statement _ w.in-Some-statement.is
           (subst (λ (n : ℕ). IsCurrent (entries_of log) n made w.in-Some-statement.statement) says.life.number w.in_ok-check_statement.ensures.current)
       | in_default-statement w ↦ without_statement (IsCurrent (entries_of log) key made) c.args.chain.statement w.in_default-statement.is
     ] in
-    accepted c.args.root.now bytes c.args.chain log key judged.figures judged.life c.in-Some.born c.message_of.result spelled c.as_slice-log.ensures
-    says.good says.figures says.life c.in-Some.is current c.message_of.ensures
+    accepted c.args.root.now bytes c.args.chain log key judged.figures judged.life c.in-Some.born c.said_of.result spelled c.as_slice-log.ensures
+    says.good says.figures says.life c.in-Some.is current c.said_of.ensures

@@ -8,7 +8,7 @@ pub returns : goal.returns
 returns c =
     let key = c.args.key.now in
     let signature = c.args.statement.now.signature in
-    let fed = c.feed-5.ensures key signature _ (c.feed-4.ensures key signature _ (c.feed-3.ensures key signature _ (c.feed-2.ensures key signature _ (c.feed.ensures key signature [] c.in-Some.ensures.checking)))) in
-    let text = pieces_are c.args.serial.now c.to_be_bytes.result c.to_be_bytes-2.result c.as_slice.result.now c.args.statement.now.message c.args.number c.args.statement.now.number
-    c.to_be_bytes.ensures c.to_be_bytes-2.ensures c.as_slice.ensures in
+    let fed = c.feed_said.ensures key signature _ (c.feed-4.ensures key signature _ (c.feed-3.ensures key signature _ (c.feed-2.ensures key signature _ (c.feed.ensures key signature [] c.in-Some.ensures.checking)))) in
+    let text = pieces_are c.args.serial.now c.to_be_bytes.result c.to_be_bytes-2.result c.said_separator.result c.args.number c.args.statement.now.number c.args.statement.now.said
+    c.said_separator.ensures c.to_be_bytes.ensures c.to_be_bytes-2.ensures in
     subst (λ (t : List ℕ). IsTrue c.finish.result ↔ Verifies key t signature) text (c.finish.ensures key _ fed)

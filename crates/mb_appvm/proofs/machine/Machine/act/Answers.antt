@@ -1,5 +1,5 @@
 use Rattle.std.proofs.Common.{subst, sym, ap, ◌∙◌, ℕ}
-use Rattle.mb_appvm.specs.declared.instruction.Instruction.{Instruction}
+use Rattle.mb_model.specs.declared.instruction.Instruction.{Instruction}
 use Rattle.mb_appvm.specs.Acting.{surroundings_of, DoesOn}
 use Rattle.mb_appvm.proofs.Actions.{jumps}
 use Rattle.mb_appvm.proofs.machine.Machine.act.Goals as goal

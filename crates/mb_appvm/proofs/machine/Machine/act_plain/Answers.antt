@@ -1,5 +1,5 @@
 use Rattle.std.proofs.Common.{subst, sym}
-use Rattle.mb_appvm.specs.declared.instruction.Plain.{Plain}
+use Rattle.mb_model.specs.declared.instruction.Plain.{Plain}
 use Rattle.mb_appvm.specs.declared.machine.Step.TheVariants as step
 use Rattle.mb_appvm.specs.Acting.{DoesPlainOn}
 use Rattle.mb_appvm.proofs.Actions.{halts}

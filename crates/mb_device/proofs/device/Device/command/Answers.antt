@@ -34,7 +34,7 @@ returns-in-Ok g c = of_device c.in-One.is (record {
       let ready = running_ready (device.One c.in-One.up c.in-One.running) 1 _ world sound.fits.state sound sound.fits.phase sound.fits.live in
       order_told (device.One c.in-One.up c.in-One.running) c.in-One.running c.args.text.now c.args.draw.now (g.B.Board.seen c.args.b.now).memory (g.B.Board.seen c.args.b.now).power (g.B.Board.seen c.args.b.now).level (g.B.Board.seen c.args.b.now).meter world sound sound.fits
       (device.One c.in-Ok.up c.obey.new.running) c.obey.new.running c.in-Ok.reply (g.B.Board.seen c.obey.new.b).memory (g.B.Board.seen c.obey.new.b).power (g.B.Board.seen c.obey.new.b).level (g.B.Board.seen c.obey.new.b).meter
-      (c.in-Ok.ensures.told sound.fits.state ready sound.fits.knows) (c.in-Ok.ensures.ran.power ∙ sym on.0) c.in-Ok.ensures.ran.level c.in-Ok.ensures.ran.meter.armed on.0 on.1 (λ w fits. fits));
+      (c.in-Ok.ensures.told sound.fits.state ready sound.fits.knows sound.fits.codes) (c.in-Ok.ensures.ran.power ∙ sym on.0) c.in-Ok.ensures.ran.level c.in-Ok.ensures.ran.meter.armed on.0 on.1 (λ w fits. fits));
   untold = λ unwritten. c.in-Ok.ensures.writes (uncut c.in-Ok.reply unwritten);
   quiet = tt;
   spared = c.obey.ensures.spared;
@@ -47,7 +47,7 @@ returns-in-Ok g c = of_device c.in-One.is (record {
         ledger = c.in-Ok.ensures.ran.ledger;
         meter =
             metered_by 35 (c.in-Ok.up, c.in-Ok.reply) c.in-Ok.reply (g.B.Board.seen c.args.b.now).meter (g.B.Board.seen c.obey.new.b).meter
-            (order_goes_on sound.fits.state c.args.text.now c.args.draw.now c.obey.new.running.known c.in-Ok.reply (g.B.Board.seen c.args.b.now).memory (g.B.Board.seen c.obey.new.b).memory (c.in-Ok.ensures.told sound.fits.state ready sound.fits.knows)) c.in-Ok.ensures.ran.meter;
+            (order_goes_on sound.fits.state c.args.text.now c.args.draw.now c.obey.new.running.known c.in-Ok.reply (g.B.Board.seen c.args.b.now).memory (g.B.Board.seen c.obey.new.b).memory (c.in-Ok.ensures.told sound.fits.state ready sound.fits.knows sound.fits.codes)) c.in-Ok.ensures.ran.meter;
       };
   trees = trees_ordered {E = Off} (Ok (c.in-Ok.up, c.in-Ok.reply)) c.in-One.running.known c.obey.new.running.known c.args.text.now c.args.draw.now c.in-Ok.ensures.stays;
   done = c.in-Ok.ensures.keeps;
@@ -64,7 +64,7 @@ returns-in-Err g c = of_device c.in-One.is (record {
   steps = as_taken (event.Order c.args.text.now c.args.draw.now) (λ held. refl) (λ world sound.
       let ready = running_ready (device.One c.in-One.up c.in-One.running) 1 _ world sound.fits.state sound sound.fits.phase sound.fits.live in
       order_cut (device.One c.in-One.up c.in-One.running) c.in-One.running c.args.text.now c.args.draw.now (g.B.Board.seen c.args.b.now).memory (g.B.Board.seen c.args.b.now).power (g.B.Board.seen c.args.b.now).level (g.B.Board.seen c.args.b.now).meter world sound sound.fits
-      c.in-Err.off (g.B.Board.seen c.obey.new.b).memory (g.B.Board.seen c.obey.new.b).power (g.B.Board.seen c.obey.new.b).level (g.B.Board.seen c.obey.new.b).meter (c.in-Err.ensures.told sound.fits.state ready sound.fits.knows) c.in-Err.ensures.ran.power c.in-Err.ensures.ran.meter.armed c.in-Err.ensures.ran.meter.cut);
+      c.in-Err.off (g.B.Board.seen c.obey.new.b).memory (g.B.Board.seen c.obey.new.b).power (g.B.Board.seen c.obey.new.b).level (g.B.Board.seen c.obey.new.b).meter (c.in-Err.ensures.told sound.fits.state ready sound.fits.knows sound.fits.codes) c.in-Err.ensures.ran.power c.in-Err.ensures.ran.meter.armed c.in-Err.ensures.ran.meter.cut);
   untold = λ unwritten. absurd (cc);
   quiet = tt;
   spared = c.obey.ensures.spared;

@@ -27,13 +27,13 @@ returns-then-may_run-clause-steps g c = λ world sound.
     subst (λ (d : Device). IsSoundDevice d (held_by (g.B.Board.seen c.args.b.now).memory (g.B.Board.seen c.args.b.now).power (g.B.Board.seen c.args.b.now).level (g.B.Board.seen c.args.b.now).meter) world) c.in-One.is sound in
     goes_on (device.One c.in-One.up c.in-One.running) (device.Two c.advance.result c.in-One.running) 1 c.in-One.running (g.B.Board.seen c.args.b.now).memory (g.B.Board.seen c.advance.new.r).memory
     (g.B.Board.seen c.args.b.now).power (g.B.Board.seen c.advance.new.r).power (g.B.Board.seen c.args.b.now).level (g.B.Board.seen c.advance.new.r).level (g.B.Board.seen c.args.b.now).meter (g.B.Board.seen c.advance.new.r).meter
-    world own own.fits (second_runs world c.in-One.running own.fits own.valid (sym c.may_run.ensures ∙ c.if-may_run.true))
+    world own own.fits (second_runs (g.B.Board.seen c.args.b.now).memory.flash world c.in-One.running own.fits own.valid (sym c.may_run.ensures ∙ c.if-may_run.true))
     (g.met.B.Board.keeps_memory c.advance.new.r c.args.b.now c.advance.ensures.rest) (g.met.B.Board.keeps_meter c.advance.new.r c.args.b.now c.advance.ensures.rest) (g.met.B.Board.sees_power c.advance.new.r ∙ c.advance.ensures.power) (g.met.B.Board.sees_level c.advance.new.r ∙ c.advance.ensures.level) (λ w running. running)
 
 pub returns-else-may_run-clause-steps : goal.returns-else-may_run-clause-steps
 returns-else-may_run-clause-steps g c = λ world sound.
     refuses_as c.args.self (device.One c.in-One.up c.in-One.running) _ world event.Go c.reply-else-may_run.result WrongLayer c.in-One.is c.reply-else-may_run.ensures sound
-    (λ fits. no_second world c.in-One.running fits sound.valid (sym c.may_run.ensures ∙ c.if-may_run.false))
+    (λ fits. no_second (g.B.Board.seen c.args.b.now).memory.flash world c.in-One.running fits sound.valid (sym c.may_run.ensures ∙ c.if-may_run.false))
 
 pub returns-then-may_run-2-clause-steps : goal.returns-then-may_run-2-clause-steps
 returns-then-may_run-2-clause-steps g c = λ world sound.
@@ -41,13 +41,13 @@ returns-then-may_run-2-clause-steps g c = λ world sound.
     subst (λ (d : Device). IsSoundDevice d (held_by (g.B.Board.seen c.args.b.now).memory (g.B.Board.seen c.args.b.now).power (g.B.Board.seen c.args.b.now).level (g.B.Board.seen c.args.b.now).meter) world) c.in-Two.is sound in
     goes_on (device.Two c.in-Two.up c.in-Two.running) (device.Three c.advance-then-may_run-2.result c.in-Two.running) 2 c.in-Two.running (g.B.Board.seen c.args.b.now).memory (g.B.Board.seen c.advance-then-may_run-2.new.r).memory
     (g.B.Board.seen c.args.b.now).power (g.B.Board.seen c.advance-then-may_run-2.new.r).power (g.B.Board.seen c.args.b.now).level (g.B.Board.seen c.advance-then-may_run-2.new.r).level (g.B.Board.seen c.args.b.now).meter (g.B.Board.seen c.advance-then-may_run-2.new.r).meter
-    world own own.fits (third_runs world c.in-Two.running own.fits own.valid (sym c.may_run-in-Two.ensures ∙ c.if-may_run-2.true))
+    world own own.fits (third_runs (g.B.Board.seen c.args.b.now).memory.flash world c.in-Two.running own.fits own.valid (sym c.may_run-in-Two.ensures ∙ c.if-may_run-2.true))
     (g.met.B.Board.keeps_memory c.advance-then-may_run-2.new.r c.args.b.now c.advance-then-may_run-2.ensures.rest) (g.met.B.Board.keeps_meter c.advance-then-may_run-2.new.r c.args.b.now c.advance-then-may_run-2.ensures.rest) (g.met.B.Board.sees_power c.advance-then-may_run-2.new.r ∙ c.advance-then-may_run-2.ensures.power) (g.met.B.Board.sees_level c.advance-then-may_run-2.new.r ∙ c.advance-then-may_run-2.ensures.level) (λ w running. running)
 
 pub returns-else-may_run-2-clause-steps : goal.returns-else-may_run-2-clause-steps
 returns-else-may_run-2-clause-steps g c = λ world sound.
     refuses_as c.args.self (device.Two c.in-Two.up c.in-Two.running) _ world event.Go c.reply-else-may_run-2.result WrongLayer c.in-Two.is c.reply-else-may_run-2.ensures sound
-    (λ fits. no_third world c.in-Two.running fits sound.valid (sym c.may_run-in-Two.ensures ∙ c.if-may_run-2.false))
+    (λ fits. no_third (g.B.Board.seen c.args.b.now).memory.flash world c.in-Two.running fits sound.valid (sym c.may_run-in-Two.ensures ∙ c.if-may_run-2.false))
 
 pub returns-in-Three-clause-steps : goal.returns-in-Three-clause-steps
 returns-in-Three-clause-steps g c = λ world sound.

@@ -5,6 +5,7 @@ use Rattle.mb_board.specs.Calls.{held_in}
 use Rattle.mb_device.specs.Sound.{taken}
 use Rattle.mb_device.specs.KeptTrees.{trees_of}
 use Rattle.mb_device.proofs.Answered.{as_taken, switches, answers_more, sliced}
+use Rattle.mb_device.proofs.Calling.{call_fits}
 use Rattle.mb_device.proofs.Steps.{stays}
 use Rattle.mb_device.proofs.Taken.{goes_off, is_tampered, is_armed, off_same}
 use Rattle.mb_device.proofs.Trees.{trees_go, trees_stay}
@@ -41,7 +42,7 @@ returns-in-Status g c =
     answers_more {n = 35} {limit = 139744} (omega arith) (omega arith) c.in-Status.is
     (switches 35 139744 c.args.self c.args.self event.Status c.status-reply.result (g.B.Board.seen c.args.b.now) (g.B.Board.seen c.args.b.now) c.args.hashes.now (record { memory = refl; ledger = refl; meter = refl }) c.status-reply.ensures.goes_on
     (trees_stay c.args.self c.args.self c.args.self event.Status c.status-reply.result refl refl tt) tt
-    (as_taken event.Status (λ held. refl) (λ world sound. stays c.args.self c.args.self (held_in (g.B.Board.seen c.args.b.now)) world event.Status c.status-reply.result (c.status-reply.ensures.told world sound.fits sound.valid) sound sound.fits)))
+    (as_taken event.Status (λ held. refl) (λ world sound. stays c.args.self c.args.self (held_in (g.B.Board.seen c.args.b.now)) world event.Status c.status-reply.result (c.status-reply.ensures.told _ world sound.fits sound.valid) sound sound.fits)))
 
 pub returns-in-Go : goal.returns-in-Go
 returns-in-Go g c =
@@ -62,3 +63,12 @@ returns-in-Drop g c = answers_more (omega arith) (omega arith) refl c.use_region
 
 pub returns-in-Sign : goal.returns-in-Sign
 returns-in-Sign g c = answers_more (omega arith) (omega arith) refl c.use_region-in-Sign.ensures
+
+pub returns-in-Call : goal.returns-in-Call
+returns-in-Call g c = answers_more (omega arith) (omega arith) c.in-Call.is c.call_code.ensures
+
+pub call_code-requires-clause-layer : goal.call_code-requires-clause-layer
+call_code-requires-clause-layer g c = (call_fits c.args.event.now _ _ _ c.in-Call.is c.requires.can_step.script).0
+
+pub call_code-requires-clause-input : goal.call_code-requires-clause-input
+call_code-requires-clause-input g c = (call_fits c.args.event.now _ _ _ c.in-Call.is c.requires.can_step.script).1

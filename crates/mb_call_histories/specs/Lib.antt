@@ -1,0 +1,2 @@
+pub mod AcceptedCallLaws
+pub mod CallChangeLaws

@@ -1,0 +1,3 @@
+pub mod Instructions
+pub mod Application
+pub mod Runs
