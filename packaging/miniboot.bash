@@ -3,7 +3,7 @@ _miniboot() {
     local word=${COMP_WORDS[COMP_CWORD]} words=()
     COMPREPLY=()
     if [ "$COMP_CWORD" -eq 1 ]; then
-        mapfile -t COMPREPLY < <(compgen -W "keygen showkey factory hsskeygen showmaker endorse showorder ordered sign countersign cosign showimage run rehearse cutat chain attach migrate generate verify history audit trust endorsed register enrol devices fleet asm disasm appcode app --help --version" -- "$word")
+        mapfile -t COMPREPLY < <(compgen -W "keygen showkey factory hsskeygen showmaker endorse showorder ordered sign countersign cosign showimage run rehearse cutat chain attach migrate generate verify history audit trust endorsed register enrol devices fleet asm disasm appcode callcode app --help --version" -- "$word")
         return
     fi
     case ${COMP_WORDS[1]} in
@@ -38,6 +38,7 @@ _miniboot() {
     asm) words=(TEXT OUT) ;;
     disasm) words=(CODE OUT) ;;
     appcode) words=(CODE INPUT STEPS) ;;
+    callcode) words=(CODE SECRETS INPUT NEXT) ;;
     app) words=(IMAGE LAYER INPUT STEPS) ;;
     esac
     case ${words[COMP_CWORD - 2]-} in

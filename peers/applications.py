@@ -214,7 +214,11 @@ def run(code, input_, secrets, steps):
 
 
 class NoAnswer(Exception):
-    """A call that is not answered, and why."""
+    """A call that is not answered: why, in the words of `callcode`."""
+
+    def __init__(self, line):
+        super().__init__(line)
+        self.line = line
 
 
 def takes_calls(code):

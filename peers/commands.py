@@ -423,6 +423,20 @@ def appcode(call, code, input_, steps):
     return told_end(call.code(code), call.read("input", input_), {3: {}}, most)
 
 
+def callcode(call, code, secrets, input_, next_):
+    """What a call of the code as that of layer 3 comes to, on secrets in a text."""
+    loaded = call.code(code)
+    kept = call.text("text", secrets, texts.read_secrets)
+    given = call.read("input", input_)
+    try:
+        demands, answer = applications.called(loaded, given, {3: {name: value for name, value, _ in kept}})
+        left = applications.after_demands(demands, kept, 0)
+    except applications.NoAnswer as none:
+        raise Ended(7, none.line) from None
+    call.write("out", next_, b"".join(b"secret %b %b\n" % (name, value.hex().encode() or b"-") for name, value, _ in left))
+    return [f"called {answer.hex() or '-'}"]
+
+
 def told_end(code, given, secrets, most):
     """The line of a run, which is a refusal if the run does not halt."""
     line, is_halted = applications.run(code, given, secrets, most)
@@ -481,6 +495,7 @@ COMMANDS = {
     "devices": (fleet.devices, 1),
     "app": (app, 4),
     "appcode": (appcode, 3),
+    "callcode": (callcode, 4),
     "asm": (asm, 2),
     "disasm": (disasm, 2),
 }

@@ -7,8 +7,8 @@
 Layers 2 and 3 of each device have code that emits its input, or bytes of its own, or a secret; the programs of
 examples/calls; code that traps, that has no end, that is random, or that takes no calls. A script of calls, puts, gets,
 drops, signatures and power losses is served: replies and image have to be those of machine.py. What is signed is
-attached to the chain, verified, shown, and judged by a random policy. All that is printed and written has to be what
-commands.py predicts.
+attached to the chain, verified, shown, and judged by a random policy. Then a random code is called by `callcode` on
+random secrets. All that is printed and written has to be what commands.py predicts.
 """
 
 import collections
@@ -161,6 +161,17 @@ def some_policy(rng, given, codes):
     return "".join(line + "\n" for line in [*lines, "allow rest last"])
 
 
+def some_secrets(rng):
+    """Lines of secrets; now and then one is wrong."""
+    names = rng.sample(NAMES, rng.choice((0, 1, 3, 21, 22, 23)))
+    lines = [f"secret {name.decode()} {word(rng.randbytes(rng.choice(LENGTHS)))}" for name in names]
+    if lines and rng.random() < 0.15:
+        at = rng.randrange(len(lines))
+        spoilt = lines[at - 1], "", "# a remark", "secret", lines[at] + " 00", lines[at].upper(), "secret k " + "00" * 129
+        lines[at] = rng.choice(spoilt)
+    return "".join(line + "\n" for line in lines)
+
+
 class Comparison:
     """A program in a folder, or none; how often each kind of line came, and how many calls ended otherwise."""
 
@@ -203,7 +214,9 @@ class Comparison:
 
 def kind_of(line):
     words = line.split(" ")
-    return " ".join(words[:2] if words[0] == "refused" else words[:1])
+    if words[0] == "refused":
+        return " ".join(words[:2])
+    return " ".join(words[:1] if words[0] != "no" else words[:2])
 
 
 def try_device(comparison, rng, number):
@@ -227,6 +240,8 @@ def try_device(comparison, rng, number):
         if "now" in files:
             for words in (f"verify root now {key}", "history root now", f"trust root now {key} policy"):
                 comparison.ends(number, words, files)
+    files = {"code": some_code(rng, 3), "secrets": some_secrets(rng).encode(), "input": some_input(rng)}
+    comparison.ends(number, "callcode code secrets input next", files)
 
 
 def compare(program, count):

@@ -198,6 +198,28 @@ def read_statement_line(text):
     return only_line(text, lambda line: chains.Reader(hexadecimal(line)).whole(chains.Reader.statement))
 
 
+# ---- secrets
+
+
+def read_secrets(text):
+    """The secrets of a text, each a name, a value, and 0 in the place of a configuration number, or BadLine. No name
+    comes twice."""
+    secrets = []
+    for at, line in enumerate(lines_of(text), 1):
+        if line == b"" or line.startswith(b"#"):
+            continue
+        try:
+            if len(secrets) == MOST_SECRETS:
+                raise Wrong
+            named, value = several(words_after(line, b"secret"), 2)
+            if name(named) in [known for known, _, _ in secrets]:
+                raise Wrong
+            secrets.append((named, hexadecimal(value, 0, 128), 0))
+        except Wrong:
+            raise BadLine(at) from None
+    return tuple(secrets)
+
+
 # ---- scripts
 
 

@@ -55,6 +55,7 @@ SHARES = {
     "devices": 3,
     "app": 10,
     "appcode": 5,
+    "callcode": 6,
     "asm": 5,
     "disasm": 5,
 }

@@ -42,7 +42,7 @@ LINES = [
     *(f"refused {code} N" for code in (20, 21, 22, 23)),
     *(f"refused {code}" for code in (24, 25, 26, 27, 28, 30, 31, 32)),
     *("refused 4 layer", "denied N RULE", "out of steps", *(f"trap {cause} N" for cause in range(1, 9))),
-    *("zeroised", "differs", "has statement", "not countersignable", "spent"),
+    *("zeroised", "differs", "has statement", "not countersignable", "spent", "no action at N", "full"),
 ]
 REPLIES = ["booted", "off", "tampered", "armed", "at N", "done N N", "kept", "dropped", "value", "absent", "signed N N"]
 REPLIES += ["called", "status", "stopped"] + [f"refused {number} {words}" for number, words in commands.machine.REFUSALS.items()]
@@ -244,6 +244,7 @@ def kind_of_line(line):
     line = re.sub(r"^(refused 3[0-2]) .*", r"\1", line)
     line = re.sub(r"^denied \d+ .*", "denied N RULE", line)
     line = re.sub(r"^(trap \d) \d+ .*", r"\1 N", line)
+    line = re.sub(r"^no action at \d+", "no action at N", line)
     return re.sub(r"^out of steps .*", "out of steps", line)
 
 

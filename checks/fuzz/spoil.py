@@ -99,7 +99,7 @@ def spoilt_record(rng, bytes_, read):
 NUMBERS = b"0", b"1", b"2", b"3", b"4", b"01", b"00", b"-1", b"+1", b"4294967295", b"4294967296", b"%d" % 2**64
 WORDS = (
     *(b"boot", b"off", b"tamper", b"status", b"go", b"cut", b"command", b"put", b"get", b"drop", b"sign", b"call", b"keep"),
-    *(b"called", b"input", b"answer"),
+    *(b"secret", b"called", b"input", b"answer"),
     *(b"fill", b"order", b"target", b"owner", b"trust", b"version", b"code", b"always", b"never", b"countersigned"),
     *(b"establish", b"surrender", b"load", b"emergency", b"newkey", b"epoch", b"configuration", b"serial", b"length"),
     *(b"-", b"--", b"", b"#", b"0", b"f", b"ff", b"FF", b"0g", b"\xff", b"\r", b"\t", b"\0", b"100000", b"100001"),

@@ -8,6 +8,7 @@ import fleet
 import hss
 import keys
 import machine
+import random_calls
 import sketches
 import spoil
 from chains import EMERGENCY, LOAD, Reader
@@ -186,6 +187,16 @@ class Tools:
         if rng.random() < 0.04:
             steps = rng.choice(("0", "10000001", "03"))
         return ["code", "input", steps], {"code": code, "input": rng.randbytes(rng.choice((0, 1, 2, 8, 300)))}
+
+    def callcode(self):
+        rng, code = self.rng, random_calls.some_code(self.rng, 3)
+        if rng.random() < 0.3:
+            code = rng.choice((self.code(), applications.CALL_WORD + self.code(), spoil.spoilt_bytes(rng, code)))
+        secrets = random_calls.some_secrets(rng).encode()
+        if rng.random() < 0.2:
+            secrets = spoil.spoilt_text(rng, secrets)
+        files = {"code": code, "secrets": secrets, "input": random_calls.some_input(rng)}
+        return ["code", "secrets", "input", "next"], files
 
     def coded(self):
         """A state in which, in most cases, layer 2 or 3 runs code of the machine."""

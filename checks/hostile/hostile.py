@@ -124,12 +124,17 @@ ENROL = Command(
 )
 DEVICES = Command("devices register", (("register", "register"),))
 APPCODE = Command("appcode halting input 100", (("code", "halting"), ("input", "input")))
+CALLCODE = Command(
+    "callcode counting secrets input next",
+    (("code", "counting"), ("text", "secrets"), ("input", "input")),
+    (("out", "next"),),
+)
 LEAST_NOISE = {RUN: 32, REHEARSE: 0, CUTAT: 32, FACTORY: 48, KEYGEN: 32, HSSKEYGEN: 32}
 # those whose short inputs end as peers/commands.py predicts
 PREDICTED = (
     *(HSSKEYGEN, ENDORSE, ENDORSED, TRUST, APP, APPCODE, ASM, DISASM),
     *(FLEET, REGISTER, ENROL, DEVICES),
-    *(COSIGN, SHOWORDER, ORDERED, SHOWKEY, SHOWMAKER),
+    *(COSIGN, SHOWORDER, ORDERED, SHOWKEY, SHOWMAKER, CALLCODE),
 )
 COMMANDS = (
     *(RUN, REHEARSE, SHOWIMAGE, HISTORY, CUTAT, VERIFY, AUDIT, CHAIN, ATTACH, FACTORY, KEYGEN, SIGN, COUNTERSIGN, MIGRATE, GENERATE),
@@ -193,6 +198,8 @@ def tools_files(files):
         "coded": coded(files["image"], CODE),
         "calling": coded(files["image"], random_calls.ECHOING),
         "halting": CODE,
+        "counting": random_calls.COUNTER,
+        "secrets": b"secret k -\nsecret c 00000007\n",
         "input": b"what the code is given",
         "text": text.encode(),
         "register": fleet.spelled({bytes(16): fleet.Row(3, (bytes(32), None, None), (bytes(32), bytes(32)))}),
@@ -268,7 +275,7 @@ def ends_of_longest(command, role):
         return (3, f"input {role} at 56\n")
     if role in ("image", "code"):
         return (3, f"input {role} length\n")
-    lines = {"script": 7, "draft": 7, "order": 2, "statement": 2, "policy": 4, "text": 41}
+    lines = {"script": 7, "draft": 7, "order": 2, "statement": 2, "policy": 4, "text": 3 if command is CALLCODE else 41}
     return (3, f"input {role} line {lines[role]}\n") if role in lines else None
 
 

@@ -1,14 +1,14 @@
 #!/usr/bin/env bash
 # Code that is called. The owner of layer 3 writes a PIN check with three tries, pin.asm, and later a counter whose
-# answers a key signs, counter.asm (programs.md says what each line does). They are assembled and loaded; then they run
-# in the device, where they alone read and write their region. A host tries what it can: it puts the tries back, reads
-# the PIN, cuts power, and gives the image of yesterday again, which nothing detects. A relying party asks for a number
-# with a nonce of its own, and judges the answer by a policy. Builds the proved program, makes keys and the device with
-# it, and shows each step. Fails if what was printed is not what expected.txt says, which another program made
-# (peers/examples.py). The noise is known here, so that the same keys can be made; people take bytes that nobody can
-# guess, as `head -c 48 /dev/urandom` gives them. run.sh [PROGRAM] tries a program that is built. Works from any current
-# folder; beside the build in crates/*/out/ it writes in a temporary folder alone, which it removes, or in the new
-# folder that KEEP_IN names.
+# answers a key signs, counter.asm (programs.md says what each line does). They are assembled, tried on secrets in a
+# text, and loaded; then they run in the device, where they alone read and write their region. A host tries what it can:
+# it puts the tries back, reads the PIN, cuts power, and gives the image of yesterday again, which nothing detects. A
+# relying party asks for a number with a nonce of its own, and judges the answer by a policy. Builds the proved program,
+# makes keys and the device with it, and shows each step. Fails if what was printed is not what expected.txt says, which
+# another program made (peers/examples.py). The noise is known here, so that the same keys can be made; people take
+# bytes that nobody can guess, as `head -c 48 /dev/urandom` gives them. run.sh [PROGRAM] tries a program that is built.
+# Works from any current folder; beside the build in crates/*/out/ it writes in a temporary folder alone, which it
+# removes, or in the new folder that KEEP_IN names.
 set -euo pipefail
 export LC_ALL=C
 
@@ -54,14 +54,26 @@ policy() {
 }
 
 the_programs() {
-    echo "1. Author: a PIN check, and a counter. They are assembled:"
+    echo "1. Author: a PIN check, and a counter. They are assembled, and tried before anybody signs them:"
     ask asm pin.asm pin
     ask asm counter.asm counter
-    echo "The PIN check is given a PIN and a secret, by an input that begins with 00. A guess begins with 01. A wrong one is"
-    echo "counted, and what is left of the tries is told; a right one gets the secret."
+    echo "callcode runs a code on secrets in a text, here none, and writes them as they are afterwards. The PIN check is"
+    echo "given a PIN and a secret, by an input that begins with 00:"
+    printf '' >nothing
     printf '\0004071SECRET!!' >setup
+    ask callcode pin nothing setup kept
+    lines_of kept
+    echo "A guess begins with 01. A wrong one is counted, and what is left of the tries is told; a right one gets the secret:"
     printf '\0011111' >wrong
+    ask callcode pin kept wrong after
+    lines_of after
     printf '\0014071' >right
+    ask callcode pin kept right after
+    lines_of after
+    echo "A code that emits what is no action changes nothing. callcode says what is wrong; the device will not:"
+    printf 'push 1296193585\npop\npush 1\nemit\nhalt\n' >slip.asm
+    ask asm slip.asm slip
+    ask callcode slip kept wrong after
 }
 
 the_load() {

@@ -1,6 +1,7 @@
 //! The commands, as tables of plays: what each makes, against values of an independent program, and how it ends.
 
 mod applications;
+mod called;
 mod devices;
 mod devices_shown;
 mod endorsements;

@@ -13,6 +13,7 @@ mod images;
 mod judging;
 mod logs;
 mod signed;
+mod statements;
 mod versions;
 
 /// The bytes of these parts, one part after another.

@@ -12,7 +12,10 @@ use Rattle.mb_model.specs.application.Instructions.{instruction_format, Stands}
 use Rattle.mb_appvm.specs.Listing.{listing_bytes}
 use Rattle.mb_model_lemmas.proofs.InstructionLemmas.{instruction_exact}
 use Rattle.mb_appvm.proofs.Clear.{assemblies_are_clear}
+use Rattle.mb_model_lemmas.proofs.LineLemmas.{HasLines-same, FailsAtLine-none}
+use Rattle.mb_appvm.specs.SecretTexts.{AreSecrets}
 use Rattle.mb_tools_app.specs.AppInputs.{app_input, assembly_input, listing_input}
+use Rattle.mb_tools_app.specs.CallcodeCommand.{secrets_input}
 
 pub app_clear : (name : List ℕ) → IsClearInput (app_input name)
 app_clear name bytes value place are is faulty = faulty
@@ -102,3 +105,11 @@ listing_clear name bytes value place are is (inr faulty) =
     let lacks = faulty.1.2 in
     let there = stands_after bytes lacks.listed value lacks.rest are lacks.allowed is.allowed (some_bytes lacks.rest lacks.some) is.whole lacks.split in
     lacks.none there.it there.next (subst (λ (n : ℕ). Stands bytes n there.it there.next) (sym lacks.here) there.stands)
+
+-- ---- the text of secrets
+
+pub secrets_clear : (name : List ℕ) → IsClearInput (secrets_input name)
+secrets_clear name bytes value place are is faulty =
+    let fails = faulty.2 in
+    let same = HasLines-same bytes is.lines fails.lines is.has fails.has in
+    FailsAtLine-none AreSecrets fails.lines value faulty.0 (subst (λ (x : List (List ℕ)). AreSecrets x value) same is.stands) fails.fails

@@ -3,3 +3,4 @@ pub mod AssemblyLemmas
 pub mod InputLemmas
 pub mod SeeingLemmas
 pub mod AppcodeLemmas
+pub mod CallcodeLemmas

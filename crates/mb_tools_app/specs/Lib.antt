@@ -1,6 +1,7 @@
 pub mod AppInputs
 pub mod AppCommand
 pub mod AppcodeCommand
+pub mod CallcodeCommand
 pub mod AssemblyCommands
 pub mod Seeing
 pub mod Names

@@ -185,7 +185,7 @@ fn print_line<H: Host>(mut line: String, host: &mut H) -> Result<(), End>
 }
 
 /// The end of a command that is refused with a line of any length.
-fn refuse_line(line: String) -> End
+pub(crate) fn refuse_line(line: String) -> End
     ensures { (before : Outside) → CarriesOut (refuse (string_bytes line)) before (Err result) before }
 {
     match LongLine::new(line.into_bytes()) {

@@ -2,3 +2,4 @@
 
 pub mod assembly;
 pub mod listing;
+pub mod secrets;

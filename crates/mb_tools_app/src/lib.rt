@@ -1,12 +1,13 @@
 //! The commands on the code of applications.
 //!
-//! This crate owns what `app`, `appcode`, `asm` and `disasm` do after the words are read, and the forms of their
+//! This crate owns what `app`, `appcode`, `callcode`, `asm` and `disasm` do after the words are read, and the forms of their
 //! inputs.
 #![tactic(auto)]
 
 pub mod app;
 pub mod appcode;
 pub mod asm;
+pub mod callcode;
 pub mod disasm;
 mod input;
 mod laws;

@@ -93,6 +93,8 @@ commands =
     ∷ row command.Disasm (codes "disasm") (a_file ∷ a_file ∷ [])
     -- appcode CODE INPUT STEPS
     ∷ row command.Appcode (codes "appcode") (a_file ∷ a_file ∷ a_number 1 10000000 ∷ [])
+    -- callcode CODE SECRETS INPUT NEXT
+    ∷ row command.Callcode (codes "callcode") (a_file ∷ a_file ∷ a_file ∷ a_file ∷ [])
     -- app IMAGE LAYER INPUT STEPS
     ∷ row command.App (codes "app") (a_file ∷ a_number 2 3 ∷ a_file ∷ a_number 1 10000000 ∷ [])
     ∷ []

@@ -24,6 +24,7 @@ use mb_tools::verify::{VerifyNames, verify};
 use mb_tools_app::app::{AppNames, app};
 use mb_tools_app::appcode::{AppcodeNames, appcode};
 use mb_tools_app::asm::{AsmNames, asm};
+use mb_tools_app::callcode::{CallcodeNames, callcode};
 use mb_tools_app::disasm::{DisasmNames, disasm};
 use mb_tools_device::cutat::{CutNames, cutat};
 use mb_tools_device::generate::{GenerateNames, generate};
@@ -140,6 +141,7 @@ fn carry_out<H: Host, B: Board, L: Ledger>(
         Command::Migrate => migrate(alloc, &MigrateNames::of(given), host, hashes),
         Command::App => app(alloc, &AppNames::of(given), host, hashes),
         Command::Appcode => appcode(alloc, &AppcodeNames::of(given), host),
+        Command::Callcode => callcode(alloc, &CallcodeNames::of(given), host),
         Command::Asm => asm(alloc, &AsmNames::of(given), host),
         Command::Disasm => disasm(alloc, &DisasmNames::of(given), host),
         Command::Generate => generate(alloc, &GenerateNames::of(given), host, board, hashes),

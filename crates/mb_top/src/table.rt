@@ -45,6 +45,7 @@ pub enum Command {
     Asm,
     Disasm,
     Appcode,
+    Callcode,
     App,
 }
 
@@ -92,6 +93,8 @@ const LEVELS: Word = (
     },
 );
 
+const NEXT: Word = ("NEXT", Kind::File);
+
 const NOISE: Word = ("NOISE", Kind::File);
 
 const NUMBER: Word = (
@@ -125,6 +128,8 @@ const ROUNDS: Word = (
 );
 
 const SCRIPT: Word = ("SCRIPT", Kind::File);
+
+const SECRETS: Word = ("SECRETS", Kind::File);
 
 const STATEMENT: Word = ("STATEMENT", Kind::File);
 
@@ -404,6 +409,14 @@ pub const GROUPS: [Group; 5] = [
                 "
       runs the code on the bytes of INPUT for at most STEPS steps, 1 to 10,000,000, as layer 3 of a device
       without secrets, and prints how it ends",
+            ),
+            (
+                Command::Callcode,
+                "callcode",
+                &[CODE, SECRETS, INPUT, NEXT],
+                "
+      calls the code on the bytes of INPUT as that of layer 3 of a device with the secrets of the text,
+      writes the secrets afterwards, and prints the answer",
             ),
             (
                 Command::App,

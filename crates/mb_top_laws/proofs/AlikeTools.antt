@@ -29,8 +29,15 @@ use Rattle.mb_model.specs.declared.running.AppEnd.{AppEnd}
 use Rattle.mb_model.specs.declared.running.AppEnd.TheVariants as app_end
 use Rattle.mb_model.specs.application.Runs.{readable_secrets, AppRun}
 use Rattle.mb_model_lemmas.proofs.Determined.{runs_end_once}
+use Rattle.mb_model_lemmas.proofs.OneCallLemmas.{action_exact}
+use Rattle.mb_model_lemmas.proofs.OutputLemmas.{outputs_are_bytes}
+use Rattle.mb_model.specs.declared.region.Secret.{Secret}
+use Rattle.mb_model.specs.machine.Actions.{Action}
+use Rattle.mb_model.specs.machine.Calls.{after_demands}
+use Rattle.mb_appvm.proofs.SecretReading.{AreSecrets-same}
 use Rattle.mb_tools_app.specs.AppCommand.{AppNames, RunsStoredCode, app, run_stored_code, tell_end}
 use Rattle.mb_tools_app.specs.AppcodeCommand.{AppcodeNames, no_secrets, appcode}
+use Rattle.mb_tools_app.specs.CallcodeCommand.{CallcodeNames, OutputEnd, OutputComesTo, acts, finds_it_full, asks_for_nothing, acted, state_with, by_action, by_offset, secrets_three, callcode, tell_call, tell_output}
 use Rattle.mb_tools_app.specs.AssemblyCommands.{AsmNames, DisasmNames, asm, disasm}
 use Rattle.mb_fleet.specs.declared.row.Row.{Row}
 use Rattle.mb_fleet.specs.declared.item.Item.{Item}
@@ -46,7 +53,7 @@ use Rattle.mb_tools_shown.specs.ShowimageCommand.{ShowimageNames, showimage, sho
 use Rattle.mb_tools_shown.proofs.StateLemmas.{one_work}
 use Rattle.mb_top_laws.proofs.HistoryOnce.{one_finding}
 use Rattle.mb_top_laws.proofs.AlikeSteps.{IsReadOnce, Alike, alike_read, alike_find, alike_found, alike_either, alike_write, alike_print, alike_refuse, lack_never}
-use Rattle.mb_top_laws.proofs.InputsOnce.{binary_once, leading_once, bounded_once, whole_once, root_once, image_once}
+use Rattle.mb_top_laws.proofs.InputsOnce.{binary_once, leading_once, text_once, bounded_once, whole_once, root_once, image_once}
 use Rattle.mb_top_laws.proofs.AlikeCommands.{one_verdict, whole_bytes}
 use Rattle.mb_top_laws.proofs.ListingOnce.{listing_once, assembly_once}
 use Rattle.mb_top_laws.proofs.FleetOnce.{IsOfBytes, items_bytes, served_same, register_once, register_ordered, items_once}
@@ -141,6 +148,36 @@ pub appcode_alike : (names : AppcodeNames) → Alike (appcode names) (appcode na
 unfolding appcode
 appcode_alike names = alike_read _ _ (bounded_once _ _ _) (λ bytes code are is. alike_read _ _ (whole_once _ _) (λ text input given held.
     alike_found _ _ (λ a b one other. runs_end_once code input no_secrets names.steps a b one other) (λ ending run. ending_alike ending)))
+
+-- an output comes to one thing
+outputs_once : (secrets : List Secret) (output : List ℕ) (a b : OutputEnd) → IsBytes output → OutputComesTo secrets output a → OutputComesTo secrets output b → a ≡ b
+outputs_once secrets output a b are (by_action x spelled_x is_x) (by_action y spelled_y is_y) =
+    let same = (IsClearWhole-from_exact action_exact).one_value output x y are spelled_x spelled_y in
+    is_x ∙ ap (λ (action : Action). acted (after_demands 3 action.demands (state_with secrets)) action.answer) same ∙ sym is_y
+outputs_once secrets output a b are (by_action x spelled is_x) (by_offset offset fails is_b) =
+    absurd ((IsClearWhole-from_exact action_exact).never_both output x offset are spelled fails)
+outputs_once secrets output a b are (by_offset offset fails is_a) (by_action y spelled is_y) =
+    absurd ((IsClearWhole-from_exact action_exact).never_both output y offset are spelled fails)
+outputs_once secrets output a b are (by_offset p fails_p is_a) (by_offset q fails_q is_b) =
+    is_a ∙ ap asks_for_nothing ((IsClearWhole-from_exact action_exact).one_offset output p q are fails_p fails_q) ∙ sym is_b
+
+output_alike : (next : List ℕ) (told : OutputEnd) → Alike (tell_output next told) (tell_output next told)
+output_alike next (acts secrets answer) = alike_write _ _ (alike_print _)
+output_alike next finds_it_full = alike_refuse _
+output_alike next (asks_for_nothing offset) = alike_refuse _
+
+called_alike : (next code input : List ℕ) (secrets : List Secret) (ending : AppEnd) → AppRun code input (secrets_three secrets) 1000000 ending
+    → Alike (tell_call next secrets ending) (tell_call next secrets ending)
+called_alike next code input secrets (app_end.Halted steps output) run =
+    alike_found _ _ (λ a b is also. outputs_once secrets output a b (outputs_are_bytes code input (secrets_three secrets) 1000000 steps output run) is also) (λ told is. output_alike next told)
+called_alike next code input secrets (app_end.Trap cause place output) run = alike_refuse _
+called_alike next code input secrets (app_end.OutOfSteps output) run = alike_refuse _
+
+pub callcode_alike : (names : CallcodeNames) → Alike (callcode names) (callcode names)
+unfolding callcode
+callcode_alike names = alike_read _ _ (bounded_once _ _ _) (λ bytes code are is. alike_read _ _ (text_once _ _ _ AreSecrets-same) (λ text secrets given said.
+    alike_read _ _ (whole_once _ _) (λ raw input held whole.
+    alike_found _ _ (λ a b one other. runs_end_once code input (secrets_three secrets) 1000000 a b one other) (λ ending run. called_alike names.next code input secrets ending run))))
 
 pub asm_alike : (names : AsmNames) → Alike (asm names) (asm names)
 unfolding asm

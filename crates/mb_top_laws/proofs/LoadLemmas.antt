@@ -3,6 +3,7 @@ use Rattle.std.proofs.Common.{◌≡◌, ℕ, ◌≤◌, ◌⊎◌, List, Option
 use Rattle.mb_model.specs.declared.event.Event.{Event}
 use Rattle.mb_model.specs.declared.event.Answered.{Answered}
 use Rattle.mb_model.specs.declared.key.PublicKey.{PublicKey}
+use Rattle.mb_model.specs.declared.region.Secret.{Secret}
 use Rattle.mb_model.specs.declared.state.State.{State}
 use Rattle.mb_model.specs.outside.Board.{Held, Used, not_used, counted_load, loaded_once_more, having_answered}
 use Rattle.mb_model.specs.chains.Acceptance.{Verdict, chain_acceptance, chain_rejection}
@@ -40,7 +41,8 @@ use Rattle.mb_tools_policy.specs.Names.{trust_given}
 use Rattle.mb_tools_app.specs.AppCommand.{AppNames, app, run_stored_code, tell_end}
 use Rattle.mb_tools_app.specs.AppcodeCommand.{AppcodeNames, appcode}
 use Rattle.mb_tools_app.specs.AssemblyCommands.{AsmNames, DisasmNames, asm, disasm}
-use Rattle.mb_tools_app.specs.Names.{app_given, appcode_given, asm_given, disasm_given}
+use Rattle.mb_tools_app.specs.CallcodeCommand.{CallcodeNames, OutputEnd, acts, finds_it_full, asks_for_nothing, callcode, tell_call, tell_output}
+use Rattle.mb_tools_app.specs.Names.{app_given, appcode_given, callcode_given, asm_given, disasm_given}
 use Rattle.mb_fleet.specs.declared.row.Row.{Row}
 use Rattle.mb_fleet.specs.Showing as answers
 use Rattle.mb_fleet.specs.Showing.{Answer}
@@ -285,6 +287,22 @@ never_appcode : (names : AppcodeNames) → NeverLoads (appcode names)
 unfolding appcode NeverLoads
 never_appcode names = λ code input ending. never_ended ending
 
+never_output : (next : List ℕ) (told : OutputEnd) → NeverLoads (tell_output next told)
+unfolding NeverLoads
+never_output next (acts secrets answer) = tt
+never_output next finds_it_full = tt
+never_output next (asks_for_nothing offset) = tt
+
+never_called : (next : List ℕ) (secrets : List Secret) (ending : AppEnd) → NeverLoads (tell_call next secrets ending)
+unfolding NeverLoads
+never_called next secrets (app_end.Halted steps output) = never_output next
+never_called next secrets (app_end.Trap cause place output) = tt
+never_called next secrets (app_end.OutOfSteps output) = tt
+
+never_callcode : (names : CallcodeNames) → NeverLoads (callcode names)
+unfolding callcode NeverLoads
+never_callcode names = λ code secrets input ending. never_called names.next secrets ending
+
 pub all_load_nothing : (e : Ended) → NothingIsLoaded e
 all_load_nothing e command.Run given is ends = absurd (grind (arith, is))
 all_load_nothing e command.Rehearse given is ends = absurd (grind (arith, is))
@@ -316,6 +334,7 @@ all_load_nothing e command.Endorsed given is ends = nothing_is_loaded (endorsed 
 all_load_nothing e command.Migrate given is ends = nothing_is_loaded (migrate (migrate_given given)) at_first e (never_migrate (migrate_given given)) ends
 all_load_nothing e command.App given is ends = nothing_is_loaded (app (app_given given)) at_first e (never_app (app_given given)) ends
 all_load_nothing e command.Appcode given is ends = nothing_is_loaded (appcode (appcode_given given)) at_first e (never_appcode (appcode_given given)) ends
+all_load_nothing e command.Callcode given is ends = nothing_is_loaded (callcode (callcode_given given)) at_first e (never_callcode (callcode_given given)) ends
 all_load_nothing e command.Asm given is ends = nothing_is_loaded (asm (asm_given given)) at_first e (never_asm (asm_given given)) ends
 all_load_nothing e command.Disasm given is ends = nothing_is_loaded (disasm (disasm_given given)) at_first e (never_disasm (disasm_given given)) ends
 

@@ -36,8 +36,8 @@ pub const FILES_ARE_MADE: &[Step] = &[
 ];
 
 /// The files of the tables for the commands that serve no device: a maker of root keys with what it endorses, a policy
-/// that allows key 1, a device whose layer 2 has the code `push 65`, `emit`, `halt`, a text of a code, and a register
-/// with what it is shown and asked.
+/// that allows key 1, a device whose layer 2 has the code `push 65`, `emit`, `halt`, a text of a code, a code that is
+/// called and its secrets, and a register with what it is shown and asked.
 pub const TOOLS_ARE_MADE: &[Step] = &[
     Step::Ends("hsskeygen noise0 2 hss hss_public", 0, "maker *\n"),
     Step::Ends("endorse hss public0 endorsement", 0, "index 0\n"),
@@ -73,6 +73,14 @@ pub const TOOLS_ARE_MADE: &[Step] = &[
         name: "halts",
         content: Content::Hex("01000000414200"),
     }),
+    Step::Gives(Given {
+        name: "counts",
+        content: Content::Hex(
+            "010000000142010000000142010000000142010000006342010000000142010000000742010000000142010000000942\
+                00",
+        ),
+    }),
+    Step::Writes("kept", &[Part::Text("secret c 06\n")]),
     Step::Writes("register", &[Part::Text("MBF1\0\0")]),
     Step::Gives(Given {
         name: "shows",
@@ -271,6 +279,11 @@ const COMMANDS: &[Access] = &[
         words: "appcode halts nothing 10",
         reads: &[("code", "halts"), ("input", "nothing")],
         writes: &[],
+    },
+    Access {
+        words: "callcode counts kept nothing after",
+        reads: &[("code", "counts"), ("text", "kept"), ("input", "nothing")],
+        writes: &[("out", "after")],
     },
 ];
 

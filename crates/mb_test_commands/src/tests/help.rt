@@ -97,6 +97,9 @@ to write applications:
   miniboot appcode CODE INPUT STEPS
       runs the code on the bytes of INPUT for at most STEPS steps, 1 to 10,000,000, as layer 3 of a device
       without secrets, and prints how it ends
+  miniboot callcode CODE SECRETS INPUT NEXT
+      calls the code on the bytes of INPUT as that of layer 3 of a device with the secrets of the text,
+      writes the secrets afterwards, and prints the answer
   miniboot app IMAGE LAYER INPUT STEPS
       runs the code of layer 2 or 3 of the device of IMAGE on the bytes of INPUT for at most STEPS steps,
       1 to 10,000,000, and prints how it ends

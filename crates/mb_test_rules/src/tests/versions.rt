@@ -16,7 +16,7 @@ use std::sync::ledger::{Blank, Ledger};
 use std::test::Fail;
 
 /// The maker's key, which signs the birth.
-const ROOT: &str = "0000000500000003abc79a08451338fa701ede4a2dce0108\
+pub const ROOT: &str = "0000000500000003abc79a08451338fa701ede4a2dce0108\
     536f6628cdae7a4a1b32657c5bc5a7f2186341c948daa70955a08dfd899cde3a";
 
 /// The identifier and the seed of the maker's key.
@@ -92,7 +92,7 @@ fn signer_of(number: usize) -> Result<KeySeed, Fail> {
 }
 
 /// The right to sign the entry of this number. The birth and the first change have the first index.
-fn right_at(number: usize) -> Result<OneUse, Fail> {
+pub fn right_at(number: usize) -> Result<OneUse, Fail> {
     let before = u32::try_from(number)?.saturating_sub(1);
     if before > 32 {
         return Err("no index is left")?;
@@ -107,7 +107,7 @@ fn entry_of(alloc: Global, number: usize, version: u8) -> Result<Vec<u8>, Fail> 
 }
 
 /// Appends the entry of this number in this version, and its signature.
-fn put_entry<L: Ledger>(
+pub fn put_entry<L: Ledger>(
     alloc: Global,
     chain: &mut Vec<u8>,
     number: usize,
@@ -115,17 +115,27 @@ fn put_entry<L: Ledger>(
     hashes: &mut HashCount<L>,
 ) -> Result<(), Fail> {
     let entry = entry_of(alloc, number, version)?;
+    put_signed(chain, number, &entry, hashes)
+}
+
+/// Appends this entry, and the signature that an entry of this number has.
+pub fn put_signed<L: Ledger>(
+    chain: &mut Vec<u8>,
+    number: usize,
+    entry: &[u8],
+    hashes: &mut HashCount<L>,
+) -> Result<(), Fail> {
     let signer = signer_of(number)?;
     let mut signature = [0; 2348];
     sign(
         right_at(number)?,
         &signer,
         &[3],
-        &entry,
+        entry,
         &mut signature,
         hashes,
     );
-    chain.extend_from_slice(&entry)?;
+    chain.extend_from_slice(entry)?;
     chain.extend_from_slice(&signature)?;
     Ok(())
 }
