@@ -145,10 +145,11 @@ fn stated(alloc: Global, entries: &[u8], statement: &str, text: &str) -> Result<
     ensures { IfOk result (λ bytes. vec_len bytes ≤ 20000) }
 {
     let text = hex::decode(alloc, text)?;
+    let signature = signature_counted::<Brand>(alloc, &text, Blank::new(1))?;
     let mut chain = Vec::from_slice(alloc, entries)?;
     chain.push(1)?;
     chain.extend_from_slice(&hex::decode(alloc, statement)?)?;
-    chain.extend_from_slice(&signature_counted::<Brand>(alloc, &text, Blank::new(1))?)?;
+    chain.extend_from_slice(&signature)?;
     chain.truncate(20_000);
     Ok(chain)
 }
