@@ -81,7 +81,7 @@ serve_interrupts() {
 
 fail_allocations() {
     "$1" -O1 -Wall -Wextra -Werror -I "$folder/include" "$here/failing.c" "$archive" -o "$work/failing" &&
-        "$work/failing" "$vectors/maker" "$vectors/chain" | tee "$work/failing.said" && paste -sd ';' "$work/failing.said"
+        "$work/failing" "$vectors/maker" "$vectors/chain" "$vectors/said_maker" "$vectors/said_answer" | tee "$work/failing.said" && paste -sd ';' "$work/failing.said"
 }
 
 # Links a program without a C library: link_alone COMPILER NAME FLAG..

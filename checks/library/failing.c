@@ -1,8 +1,9 @@
 /*
- * Makes each allocation of mb_chain_verify and of mb_trust fail in turn: failing MAKER CHAIN. The heap is here, over
- * malloc. With one failing allocation a call answers MB_NO_MEMORY, writes nothing but that nothing is told, and has given
- * all memory back. Prints a line for each call, with the number of its allocations and the most memory that it had; ends
- * with status 1 if any answer was another.
+ * Makes each allocation of mb_chain_verify, of mb_trust and of mb_chain_said fail in turn: failing MAKER CHAIN
+ * STATED_MAKER STATED_CHAIN, where the second chain has a statement. The heap is here, over malloc. With one failing
+ * allocation a call answers MB_NO_MEMORY, writes nothing but that nothing is told, and has given all memory back. Prints
+ * a line for each call, with the number of its allocations and the most memory that it had; ends with status 1 if any
+ * answer was another.
  */
 #include "mb_library.h"
 
@@ -73,8 +74,8 @@ static uint8_t *whole(const char *name, size_t *length)
     return bytes;
 }
 
-static uint8_t *maker, *chain, out[4096];
-static size_t length;
+static uint8_t *maker, *chain, *stated_maker, *stated_chain, out[4096];
+static size_t length, stated_length;
 static const char policy[] =
     "set known f191e625176e7514249870c60bc24622131b04927a418001d1969c9cecd260f1\n"
     "deny dead not alive\n"
@@ -88,6 +89,18 @@ static uint32_t verify(struct mb_details *details)
 static uint32_t trust(struct mb_details *details)
 {
     return mb_trust(maker, chain, length, 1, (const uint8_t *)policy, sizeof policy - 1, details);
+}
+
+/* At MB_ACCEPTED the answer is told, and else nothing. */
+static uint32_t said(struct mb_details *details)
+{
+    struct mb_stated stated, none = {0};
+    memset(&stated, 0xEE, sizeof stated);
+    uint32_t code = mb_chain_said(stated_maker, stated_chain, stated_length, 1, &stated, details);
+    if (code == MB_ACCEPTED ? stated.kind == MB_SAYS_ANSWER : !memcmp(&stated, &none, sizeof none)) {
+        return code;
+    }
+    return MB_CHAIN_STATEMENT;
 }
 
 static int try_each(const char *name, uint32_t (*call)(struct mb_details *))
@@ -111,13 +124,17 @@ static int try_each(const char *name, uint32_t (*call)(struct mb_details *))
 int main(int count, char **words)
 {
     size_t key;
-    if (count != 3) {
+    if (count != 5) {
         return 2;
     }
     maker = whole(words[1], &key);
     chain = whole(words[2], &length);
-    int wrong = try_each("mb_chain_verify", verify) | try_each("mb_trust", trust);
+    stated_maker = whole(words[3], &key);
+    stated_chain = whole(words[4], &stated_length);
+    int wrong = try_each("mb_chain_verify", verify) | try_each("mb_trust", trust) | try_each("mb_chain_said", said);
     free(maker);
     free(chain);
+    free(stated_maker);
+    free(stated_chain);
     return wrong;
 }

@@ -5,8 +5,8 @@ ghost use Rattle.mb_library.specs.Details.{no_details, end_details};
 
 use mb_verifier::ChainRefusal;
 
-/// What a call tells beside its code. A field is 0 if the code is none of those that it names. The name of a rule
-/// cannot be told, since a struct has numbers alone; a second buffer for `mb_trust` was not chosen.
+/// What a call tells beside its code. A field is 0 if the code is none of those that it names. Of a denial it tells the
+/// configuration, and not the rule.
 #[repr(C)]
 #[derive(Clone, Copy)]
 pub struct Details {
