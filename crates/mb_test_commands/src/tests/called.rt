@@ -20,9 +20,7 @@ const FILES: &[Given] = &[
     // drops `c`, and answers nothing
     Given {
         name: "drops",
-        content: Content::Hex(
-            "01000000014201000000004201000000014201000000634201000000004200",
-        ),
+        content: Content::Hex("01000000014201000000004201000000014201000000634201000000004200"),
     },
     // answers the value of `c`
     Given {
@@ -123,12 +121,36 @@ const TOLD: &[Step] = &[
 /// Words that are no command, and files that are not in their forms.
 const NOT_READ: &[Step] = &[
     Step::Ends("callcode keeps nothing nothing", 2, "words\n"),
-    Step::Ends("callcode longer missing missing next", 3, "input code length\n"),
-    Step::Ends("callcode keeps other missing next", 3, "input text line 1\n"),
-    Step::Ends("callcode keeps twice missing next", 3, "input text line 3\n"),
-    Step::Ends("callcode keeps many missing next", 3, "input text line 23\n"),
-    Step::Ends("callcode keeps missing missing next", 4, "read failed text\n"),
-    Step::Ends("callcode keeps nothing missing next", 4, "read failed input\n"),
+    Step::Ends(
+        "callcode longer missing missing next",
+        3,
+        "input code length\n",
+    ),
+    Step::Ends(
+        "callcode keeps other missing next",
+        3,
+        "input text line 1\n",
+    ),
+    Step::Ends(
+        "callcode keeps twice missing next",
+        3,
+        "input text line 3\n",
+    ),
+    Step::Ends(
+        "callcode keeps many missing next",
+        3,
+        "input text line 23\n",
+    ),
+    Step::Ends(
+        "callcode keeps missing missing next",
+        4,
+        "read failed text\n",
+    ),
+    Step::Ends(
+        "callcode keeps nothing missing next",
+        4,
+        "read failed input\n",
+    ),
     Step::IsMissing("next"),
 ];
 
