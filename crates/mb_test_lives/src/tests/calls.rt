@@ -178,6 +178,7 @@ const A_SIGNED_CALL_IS_CUT: &[Step] = &[Step::IsCutTwice(&TwoCuts {
 
 /// A key that is spent is missed before the code runs, so nothing is counted. Calls without a key go on.
 const ITS_KEY_IS_SPENT: &[Step] = &[
+    Step::Writes("image", &[Part::File("counted")]),
     Step::Gives(Given {
         name: "many",
         content: Content::Repeats("call 3 1 -\n", 29),
