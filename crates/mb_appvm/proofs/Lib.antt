@@ -1,5 +1,6 @@
 pub mod SecretReading
 pub mod Readables
+pub mod Traces
 pub mod Fetches
 pub mod Asking
 pub mod Actions
