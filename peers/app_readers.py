@@ -1,4 +1,5 @@
-"""What is computed anew of application code: how codes run, and what texts assemble to, by `applications.py`."""
+"""What is computed anew of application code: how codes run, by which lines their steps are told, and what texts assemble
+to, by `applications.py`."""
 
 import re
 
@@ -30,6 +31,16 @@ def app_runs(source):
         found, _ = applications.run(bytes.fromhex(code), bytes.fromhex(input_), SIGHTS[sight], int(steps.replace("_", "")))
         source.seen.update(words)
         source.compare(f"run of {code[:40]}", found, told(end, words))
+
+
+def app_traces(source):
+    """The rows of codes, each with its input, what it may read, its steps and the lines of its trace."""
+    row = r'\(\s*"([0-9a-f]*)",\s*"([0-9a-f]*)",\s*(\w+),\s*([\d_]+),\s*"(trace [^"]*)",?\s*\)'
+    for code, input_, sight, steps, lines in source.rows(row):
+        read = SIGHTS[sight]
+        told = applications.traced(bytes.fromhex(code), bytes.fromhex(input_), read, int(steps.replace("_", "")))
+        wanted = unescaped(re.sub(r"\\\n\s*", "", lines)).decode()
+        source.compare(f"trace of {code[:40]}", "".join(f"{line}\n" for line in told), wanted)
 
 
 def unescaped(text):

@@ -33,6 +33,7 @@ READERS = {
     "crates/mb_lms/src/tests/heights.rt": readers.lms_signatures,
     "crates/mb_test_parties/src/tests/applications/runs.rt": app_readers.app_runs,
     "crates/mb_test_parties/src/tests/applications/texts.rt": app_readers.app_texts,
+    "crates/mb_test_parties/src/tests/applications/traces.rt": app_readers.app_traces,
     "crates/mb_test_parties/src/tests/policies/judgements.rt": party_readers.judgements,
     "crates/mb_test_parties/src/tests/policies/large.rt": party_readers.large_policies,
     "crates/mb_test_parties/src/tests/registers/runs.rt": party_readers.register_answers,
