@@ -33,6 +33,7 @@ pub use environment::Readable;
 pub use keyword::{Jump, Keyword};
 pub use laws::{
     assemblies_are_clear, listings_assemble, numbers_are, runs_end_once, runs_see_nothing_else,
+    traces_are_true,
 };
 pub use lines::Said;
 pub use mb_model::{

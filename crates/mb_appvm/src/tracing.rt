@@ -2,7 +2,7 @@
 
 ghost use Rattle.std.specs.Prelude.{◌≡◌, ◌++◌, IfOk, OnOk, option_copied};
 ghost use Rattle.mb_appvm.specs.Acting.{state_of, surroundings_of};
-ghost use Rattle.mb_appvm.specs.Tracing.{place_part, stack_part, stack_words, copied, if_room, memory_part, plain_part, written_part, TellsStep};
+ghost use Rattle.mb_appvm.specs.Tracing.{place_part, stack_part, stack_words, at_address, copied, if_room, memory_part, plain_written, written, TellsStep};
 
 use crate::disassembling::{put_numbered, put_words};
 use crate::environment::Environment;
@@ -78,7 +78,7 @@ fn put_written(
     stack: &[u32],
     environment: &Environment<'_>,
 ) -> Result<(), NoMemory>
-    ensures { OnOk result (out.new.items ≡ out.old.items ++ written_part (surroundings_of environment.now) instruction.now stack.now) }
+    ensures { OnOk result (out.new.items ≡ out.old.items ++ memory_part (written (surroundings_of environment.now) instruction.now stack.now)) }
 {
     let count = stack.len();
     if count < 2 {
@@ -108,7 +108,7 @@ fn put_stored(
     under: u32,
     top: u32,
 ) -> Result<(), NoMemory>
-    ensures { OnOk result (out.new.items ≡ out.old.items ++ plain_part plain under top) }
+    ensures { OnOk result (out.new.items ≡ out.old.items ++ memory_part (plain_written plain under top)) }
 {
     match plain {
         Plain::Store => {
@@ -161,7 +161,7 @@ fn put_memory(
     address: u32,
     bytes: Option<&[u8]>,
 ) -> Result<(), NoMemory>
-    ensures { OnOk result (out.new.items ≡ out.old.items ++ memory_part address (option_copied bytes)) }
+    ensures { OnOk result (out.new.items ≡ out.old.items ++ memory_part (at_address address (option_copied bytes))) }
 {
     let Some(bytes) = bytes else {
         return Ok(());
