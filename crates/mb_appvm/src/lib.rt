@@ -27,15 +27,16 @@ mod tracing;
 mod watching;
 
 pub use action::{Action, Demand, Demands, action_in, read_action};
-pub use assembling::{AsmEnd, assemble};
-pub use disassembling::{DisasmEnd, disassemble};
+pub use assembling::{ASSEMBLY_LIMIT, AsmEnd, assemble};
+pub use disassembling::{DisasmEnd, disassemble, put_line, put_numbered, put_words};
 pub use environment::Readable;
+pub use fetching::fetch;
 pub use keyword::{Jump, Keyword};
 pub use laws::{
     assemblies_are_clear, listings_assemble, numbers_are, runs_end_once, runs_see_nothing_else,
     traces_are_true,
 };
-pub use lines::Said;
+pub use lines::{Said, is_label_name, read_line};
 pub use mb_model::{
     AppEnd, CALL_LIMIT, Instruction, MEMORY_LENGTH, Name, OUTPUT_LIMIT, Opcode, Operation, Plain,
     STACK_LIMIT, Trap,
