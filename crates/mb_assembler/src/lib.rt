@@ -3,3 +3,8 @@
 //! This crate owns the texts with comments, named constants and strings, which it assembles, and the listing of a code
 //! with labels and places. The plain texts, of one instruction a line, are `mb_appvm`'s.
 #![tactic(auto)]
+
+mod labelled;
+mod marks;
+
+pub use labelled::list_with_labels;
