@@ -64,14 +64,18 @@ def app_texts(source):
 
 
 def app_trials(source):
-    """The codes that are tried, each with its input, its steps and its end."""
+    """The codes that are tried or shown, each with what is given besides and its end. What is shown of a code has to
+    assemble to it, once the places are taken off."""
     kinds = {"Hex": bytes.fromhex, "Text": unescaped, "Sevens": lambda count: b"\7" * int(count.replace("_", ""))}
     files = {}
     for name, kind, word in source.rows(r'name: "(\w+)",\s*content: Content::(Hex|Text|Sevens)\("?([^")]*)"?\)'):
         files[name] = kinds[kind](word)
     for name, count in source.rows(r'name: "(\w+)",\s*content: Content::Laid\(&\[\("", ([\d_]+), 0\)\]\)'):
         files[name] = bytes(int(count.replace("_", "")))
-    for words, status, line in source.rows(r'Step::Ends\(\s*"(appcode [^"]*)",\s*(\d),\s*"([^"]+)",?\s*\)'):
+    for words, status, line in source.rows(r'Step::Ends\(\s*"((?:appcode|showcode) [^"]*)",\s*(\d),\s*"([^"]+)",?\s*\)'):
         found, wanted = commands.answer(words.split(" "), commands.Folder(files)), unescaped(line).decode()
-        fits = found.text.startswith(wanted[:-2]) if wanted.endswith("*\n") else found.text == wanted
+        fits = found.text.startswith(wanted[:-2]) if wanted.endswith(("*\n", "**")) else found.text == wanted
         source.compare(words, (found.status, fits or found.text), (int(status), True))
+        if words.startswith("showcode") and found.status == 0:
+            without_places = re.sub(r" ; \d+$", "", found.text, flags=re.MULTILINE).encode()
+            source.compare(f"code of {words}", applications.assemble(without_places), files[words.split(" ")[1]])

@@ -5,6 +5,7 @@ alone, and the trace of a run, from docs/use/commands.md.
     traced(code, input, secrets, steps)  the lines that tell of its steps
     called(code, input, secrets)         the action that code which is called asks for, or NoAnswer
     assemble(text), disassemble(code)    what `asm` and `disasm` write
+    labelled(code)                       what `showcode` prints
 """
 
 import functools
@@ -377,14 +378,34 @@ def said(name, operand, length):
     return f"{name} {told}" if length > 1 else name
 
 
-def disassemble(code):
-    """The lines of a code."""
-    lines, at = [], 0
+def instructions(code):
+    """The offset, the name and the operand of each instruction of a code. The operand is a list of a word, or of none."""
+    found, at = [], 0
     while at < len(code):
         try:
             name, operand, length = instruction(code, at)
         except Wrong:
             raise NoInstruction(at) from None
-        lines.append(said(name, operand, length))
+        told = operand.decode() if name == "get" else str(operand)
+        found.append((at, name, [told] if length > 1 else []))
         at += length
+    return found
+
+
+def disassemble(code):
+    """The lines of a code."""
+    return [" ".join([name, *told]) for _, name, told in instructions(code)]
+
+
+def labelled(code):
+    """The lines of a code with labels and places."""
+    found, lines = instructions(code), []
+    begins = {str(at) for at, _, _ in found}
+    targets = {told[0] for _, name, told in found if name in JUMPS}
+    for at, name, told in found:
+        if str(at) in targets:
+            lines.append(f"label at_{at}")
+        if name in JUMPS and told[0] in begins:
+            told = [f"at_{told[0]}"]
+        lines.append(" ".join([name, *told, ";", str(at)]))
     return lines

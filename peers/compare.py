@@ -60,6 +60,7 @@ READERS = {
     chain_readers.FLEET: chain_readers.fleet_tests,
     "crates/mb_test_commands/src/tests/enrolments.rt": chain_readers.enrolments_tests,
     "crates/mb_test_commands/src/tests/trials.rt": app_readers.app_trials,
+    "crates/mb_test_commands/src/tests/shown_codes.rt": app_readers.app_trials,
     "crates/mb_test_commands/src/tests/short_files.rt": chain_readers.short_inputs,
     "crates/mb_test_commands/src/tests/devices_shown.rt": chain_readers.chains_tests,
     "crates/mb_test_commands/src/tests/limits.rt": chain_readers.last_entries,
