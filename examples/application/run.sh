@@ -69,6 +69,8 @@ it_is_tried() {
     printf 'label again\njump again\n' >endless.asm
     ask asm endless.asm endless
     ask appcode endless challenge 1000
+    echo "Where the instructions stand, which a trap names, and where the code goes:"
+    ask showcode endless
 }
 
 it_is_loaded() {
