@@ -119,8 +119,8 @@ fn run<W: Watcher>(
     for done in 0..steps {
         watcher.see(&NextStep {
             number: done + 1,
-            machine,
-            environment,
+            machine: &*machine,
+            environment: &*environment,
         });
         match machine.step(environment) {
             Step::GoesOn => {}

@@ -161,7 +161,7 @@ fn put_memory(
     address: u32,
     bytes: Option<&[u8]>,
 ) -> Result<(), NoMemory>
-    ensures { OnOk result (out.new.items ≡ out.old.items ++ memory_part (at_address address (option_copied bytes))) }
+    ensures { OnOk result (out.new.items ≡ out.old.items ++ memory_part (at_address address (option_copied bytes.entry))) }
 {
     let Some(bytes) = bytes else {
         return Ok(());
