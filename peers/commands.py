@@ -451,23 +451,14 @@ def asm(call, text, out):
     return [f"bytes {len(code)}"]
 
 
-def listed(call, code, lines_of):
-    """The lines of the instructions of a code."""
+def disasm(call, code, out):
     bytes_ = call.code(code)
     try:
-        return lines_of(bytes_)
+        lines = applications.disassemble(bytes_)
     except applications.NoInstruction as none:
         raise Ended(3, f"input code at {none.at}") from None
-
-
-def disasm(call, code, out):
-    lines = listed(call, code, applications.disassemble)
     call.write("out", out, "".join(line + "\n" for line in lines).encode())
     return [f"lines {len(lines)}"]
-
-
-def showcode(call, code):
-    return listed(call, code, applications.labelled)
 
 
 # ---- all commands
@@ -507,7 +498,6 @@ COMMANDS = {
     "callcode": (callcode, 4),
     "asm": (asm, 2),
     "disasm": (disasm, 2),
-    "showcode": (showcode, 1),
 }
 
 

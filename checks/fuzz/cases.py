@@ -58,7 +58,6 @@ SHARES = {
     "callcode": 6,
     "asm": 5,
     "disasm": 5,
-    "showcode": 6,
 }
 
 

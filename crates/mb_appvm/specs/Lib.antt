@@ -5,6 +5,5 @@ pub mod Reading
 pub mod Checking
 pub mod Labels
 pub mod Listing
-pub mod Tracing
 pub mod SecretTexts
 pub mod NumberLaws

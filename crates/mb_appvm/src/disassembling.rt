@@ -60,7 +60,7 @@ pub fn disassemble(alloc: Global, code: &[u8]) -> Result<Bytes, DisasmEnd>
 }
 
 /// Appends the line of an instruction and its LF.
-pub fn put_line(out: &mut Vec<u8>, instruction: &Instruction<'_>) -> Result<(), NoMemory>
+fn put_line(out: &mut Vec<u8>, instruction: &Instruction<'_>) -> Result<(), NoMemory>
     ensures { Puts (line_with_lf (instruction_line instruction.now)) out.old result out.new }
 {
     put_words(out, instruction)?;
@@ -68,7 +68,7 @@ pub fn put_line(out: &mut Vec<u8>, instruction: &Instruction<'_>) -> Result<(), 
 }
 
 /// Appends the words of an instruction.
-pub fn put_words(out: &mut Vec<u8>, instruction: &Instruction<'_>) -> Result<(), NoMemory>
+fn put_words(out: &mut Vec<u8>, instruction: &Instruction<'_>) -> Result<(), NoMemory>
     ensures { Puts (instruction_line instruction.now) out.old result out.new }
 {
     match instruction {
@@ -85,7 +85,7 @@ pub fn put_words(out: &mut Vec<u8>, instruction: &Instruction<'_>) -> Result<(),
 }
 
 /// Appends a word and a number in decimal.
-pub fn put_numbered(out: &mut Vec<u8>, word: &[u8], number: u32) -> Result<(), NoMemory>
+fn put_numbered(out: &mut Vec<u8>, word: &[u8], number: u32) -> Result<(), NoMemory>
     ensures { Puts (word.now ++ decimal number) out.old result out.new }
 {
     put_slice(out, word)?;

@@ -44,7 +44,6 @@ pub enum Command {
     Fleet,
     Asm,
     Disasm,
-    Showcode,
     Appcode,
     Callcode,
     App,
@@ -402,13 +401,6 @@ pub const GROUPS: [Group; 5] = [
                 &[CODE, OUT],
                 "
       lists the code, writes its text, and prints how many lines that has",
-            ),
-            (
-                Command::Showcode,
-                "showcode",
-                &[CODE],
-                "
-      lists the code with labels and the place of each instruction",
             ),
             (
                 Command::Appcode,

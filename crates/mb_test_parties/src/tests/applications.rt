@@ -4,4 +4,3 @@ mod codes;
 mod devices;
 mod runs;
 mod texts;
-mod traces;
