@@ -109,6 +109,8 @@ def man_page():
     yield '.SH "EXIT STATUS"'
     for status, means in statuses():
         yield from (".TP", f".B {status}", roff(means))
+    yield from (".SH ENVIRONMENT", ".TP", ".B MINIBOOT_TRACE")
+    yield "if it is set and not empty, appcode and callcode tell each step of the code on standard error"
     yield from (".SH NOTES", "Files of keys and devices are secret, and not encrypted.")
     yield "The page docs/use/commands.md of the repository has each line that is printed, what each file holds, and which"
     yield "files must never be copied."

@@ -2,13 +2,15 @@
 # Tries the wrong bodies of checks/wrong-bodies, or those of the crates that are named: edits in the form of must-fail
 # edits, a folder for each crate, which the gate does not try since they take long: checks/wrong_bodies.sh [-j N]
 # [CRATE..]. The prover has to refuse each, in a copy of its crate. Prints a line for each that is proved, for each that
-# does not apply, and for each that is refused only at a proof that was written by hand, which shows nothing of the
-# contract: such an edit is tried again without the answers that no longer fit, and the line says where the search stops
-# then. An edit with a line `test: CRATE TEST` is one that no clause can refuse: that test of that crate has to fail
-# over it. One with a line `free: REASON` gives an answer that every contract leaves free, and has to be proved. The
-# last line counts. Fails if any other is proved, if a free one is refused, or if one does not apply. It begins with
-# what `rt check` has kept of each crate, and then takes some ten seconds of a processor for each try; a crate of which
-# nothing is kept is proved first. With -j N it tries those of N crates at a time.
+# does not apply, and for each that is refused at a proof that was written by hand, which shows nothing of the contract.
+# Such an edit is tried again without the answers that no longer fit, and beside it its control: the right body without
+# the same answers. If a goal fails that the right body closes, the edit is refused for what it does; if none, it shows
+# nothing, since the right body is refused there too. An edit with a line `test: CRATE TEST` is one that no clause can
+# refuse: that test of that crate has to fail over it. One with a line `free: REASON` gives an answer that every contract
+# leaves free, and has to be proved. The last line counts. Fails if any other is proved, if a free one is refused, or if
+# one does not apply. It begins with what `rt check` has kept of each crate, and then takes some ten seconds of a
+# processor for each try; a crate of which nothing is kept is proved first. With -j N it tries those of N crates at a
+# time.
 set -u
 cd "$(dirname "$0")/.." || exit 2
 
@@ -39,6 +41,8 @@ BY_TEST = re.compile(r"^test: (\w+) (\w+)$", re.M)
 FREE = re.compile(r"^free: (.+)$", re.M)
 AT_A_PROOF = re.compile(r"(?:\./)?(proofs/\S+?):(\d+):\d+: error: (.*)")
 AT_A_CLAUSE = re.compile(r"note: (src/\S+: .*)")
+# a goal that is left open, with the file in which its answer would stand
+OPEN_GOAL = re.compile(r"^note: `(\S+)` of (proofs/\S+) must prove", re.M)
 # what the prover says of a text that it cannot read, and of a proof file that names what is gone
 UNREAD = re.compile(r"is not in scope|has no field|is no name|operand is missing|expected the end|cannot continue")
 
@@ -64,9 +68,9 @@ def make_room(room):
             shutil.copytree(crate / "out" / "rlib", room / "crates" / crate.name / "out" / "rlib", copy_function=linked)
 
 
-def restore(room, crate):
-    """The sources of a crate as they are."""
-    for part in PARTS:
+def restore(room, crate, parts=PARTS):
+    """The sources of a crate as they are, or these parts of them."""
+    for part in parts:
         own = room / "crates" / crate / part
         if own.exists():
             shutil.rmtree(own)
@@ -109,31 +113,52 @@ def is_unread(line):
     return bool(at) and bool(UNREAD.search(re.sub(r"`[^`]*`", "", at[2])))
 
 
-def try_by_prover(own):
-    """What became of the edited crate, and where the search stopped if answers had to go."""
-    gone = ""
-    for _ in range(TRIES):
-        ran = subprocess.run(
-            ["rt", "check", "--jobs", "1"], cwd=own, capture_output=True, text=True, errors="replace"
-        )
-        said = ran.stdout + ran.stderr
-        if ran.returncode == 0:
+def check(own):
+    """Whether the crate is proved, and what the prover says of it."""
+    words = ["rt", "check", "--jobs", "1"]
+    ran = subprocess.run(words, cwd=own, capture_output=True, text=True, errors="replace")
+    return ran.returncode == 0, ran.stdout + ran.stderr
+
+
+def misfits(said):
+    """The lines of each file of answers at which an answer does not fit."""
+    lines = collections.defaultdict(set)
+    for path, number, _ in AT_A_PROOF.findall(said):
+        if path.endswith(("/Answers.antt", "/Invariants.antt")):
+            lines[path].add(int(number))
+    return lines
+
+
+def try_by_prover(own, right):
+    """What became of the edited crate. `right` puts the right bodies back, and leaves the proofs."""
+    for tries in range(TRIES):
+        proved, said = check(own)
+        gone = "without answers that no longer fit " if tries else ""
+        if proved:
             return "proved", f"{gone}it is proved"
         if "logic=not-proved" not in said or any(map(is_unread, said.split("\n"))):
             return "not judged", said.strip().split("\n")[-1][:160]
-        broken = collections.defaultdict(set)
-        for path, number, _ in AT_A_PROOF.findall(said):
-            if path.endswith(("/Answers.antt", "/Invariants.antt")):
-                broken[path].add(int(number))
-        if not broken:
+        wrong = misfits(said)
+        if not wrong and not tries:
             clause, lemma = AT_A_CLAUSE.search(said), AT_A_PROOF.search(said)
-            if clause:
-                return "refused", gone and f"{gone}{clause[1][:160]}"
-            return "refused at a proof", f"{gone}{lemma[0][:160] if lemma else said.strip()[-160:]}"
-        for path, numbers in broken.items():
+            if clause or OPEN_GOAL.search(said):
+                return "refused", ""
+            return "refused at a lemma", lemma[0][:160] if lemma else said.strip()[-160:]
+        if not wrong:
+            right()
+            return judge(set(OPEN_GOAL.findall(said)), set(OPEN_GOAL.findall(check(own)[1])))
+        for path, numbers in wrong.items():
             (own / path).write_text(without((own / path).read_text(), numbers))
-        gone = "refused at a proof; without it: "
-    return "refused at a proof", f"after {TRIES} tries answers still do not fit"
+    return "not judged", f"after {TRIES} tries answers still do not fit"
+
+
+def judge(of_edit, of_right):
+    """What goals that are open in the edited crate show, beside those that are open with the right body."""
+    more, fewer = of_edit - of_right, of_right - of_edit
+    # an edit that changes a branch gives the goals under it other names
+    if len(more) > len(fewer):
+        return "refused by its control", "at " + ", ".join(sorted(goal for goal, _ in more))[:160]
+    return "shows nothing", "the right body is refused at as many goals without the answers that no longer fit"
 
 
 def try_by_test(room, crate, test):
@@ -155,7 +180,7 @@ def try_edit(room, crate, edit):
     by_test, free = BY_TEST.search(edit.read_text()), FREE.search(edit.read_text())
     if by_test:
         return try_by_test(room, *by_test.groups())
-    what, text = try_by_prover(own)
+    what, text = try_by_prover(own, lambda: restore(room, crate, ["src", "specs"]))
     if free and what == "proved":
         return "free", f"proved, and may be: {free[1]}"
     if free:
@@ -199,7 +224,7 @@ with tempfile.TemporaryDirectory() as work, concurrent.futures.ThreadPoolExecuto
     # those with the most edits first, so that none is left alone at the end
     by_length = sorted(crates, key=lambda crate: -len(list((EDITS / crate).glob("*.edit"))))
     list(tries.map(lambda crate: try_crate(crate, rooms), by_length))
-kinds = ["refused", "refused at a proof", "free", "proved", "not applied", "not judged"]
+kinds = ["refused", "refused by its control", "refused at a lemma", "shows nothing", "free", "proved", "not applied", "not judged"]
 print(", ".join(f"{counts[what]} {what}" for what in kinds))
 sys.exit(1 if counts["proved"] or counts["not applied"] or counts["not judged"] else 0)
 PYTHON

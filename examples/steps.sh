@@ -40,6 +40,21 @@ ask() {
     [ "$status" -eq 0 ] || echo "    status $status"
 }
 
+# Runs the program with these words, with a trace in the file `trace`; shows the words, what it prints, and its status
+# where it is not 0.
+trace() {
+    local status=0
+    echo "  \$ MINIBOOT_TRACE=1 miniboot $* 2>trace"
+    MINIBOOT_TRACE=1 "$program" "$@" >printed 2>trace || status=$?
+    sed 's/^/    /' printed
+    [ "$status" -eq 0 ] || echo "    status $status"
+}
+
+# Shows the lines of a file.
+lines_of() {
+    sed 's/^/    /' "$1"
+}
+
 # Writes the draft of an order, and shows its lines: draft NAME LINE..
 draft() {
     local name=$1

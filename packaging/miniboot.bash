@@ -3,7 +3,7 @@ _miniboot() {
     local word=${COMP_WORDS[COMP_CWORD]} words=()
     COMPREPLY=()
     if [ "$COMP_CWORD" -eq 1 ]; then
-        mapfile -t COMPREPLY < <(compgen -W "keygen showkey factory hsskeygen showmaker endorse showorder ordered sign countersign cosign showimage run rehearse cutat chain attach migrate generate verify history audit trust endorsed register enrol devices fleet asm disasm appcode callcode app --help --version" -- "$word")
+        mapfile -t COMPREPLY < <(compgen -W "keygen showkey factory hsskeygen showmaker endorse showorder ordered sign countersign cosign showimage run rehearse cutat chain attach migrate generate verify history audit trust endorsed register enrol devices fleet asm disasm showcode appcode callcode app --help --version" -- "$word")
         return
     fi
     case ${COMP_WORDS[1]} in
@@ -37,6 +37,7 @@ _miniboot() {
     fleet) words=(ROOT REGISTER ITEMS) ;;
     asm) words=(TEXT OUT) ;;
     disasm) words=(CODE OUT) ;;
+    showcode) words=(CODE) ;;
     appcode) words=(CODE INPUT STEPS) ;;
     callcode) words=(CODE SECRETS INPUT NEXT) ;;
     app) words=(IMAGE LAYER INPUT STEPS) ;;

@@ -1,4 +1,5 @@
-"""What is computed anew of application code: how codes run, and what texts assemble to, by `applications.py`."""
+"""What is computed anew of application code: how codes run, by which lines their steps are told, and what texts assemble
+to, by `applications.py`."""
 
 import re
 
@@ -32,6 +33,16 @@ def app_runs(source):
         source.compare(f"run of {code[:40]}", found, told(end, words))
 
 
+def app_traces(source):
+    """The rows of codes, each with its input, what it may read, its steps and the lines of its trace."""
+    row = r'\(\s*"([0-9a-f]*)",\s*"([0-9a-f]*)",\s*(\w+),\s*([\d_]+),\s*"(trace [^"]*)",?\s*\)'
+    for code, input_, sight, steps, lines in source.rows(row):
+        read = SIGHTS[sight]
+        told = applications.traced(bytes.fromhex(code), bytes.fromhex(input_), read, int(steps.replace("_", "")))
+        wanted = unescaped(re.sub(r"\\\n\s*", "", lines)).decode()
+        source.compare(f"trace of {code[:40]}", "".join(f"{line}\n" for line in told), wanted)
+
+
 def unescaped(text):
     return text.encode().decode("unicode_escape").encode("latin-1")
 
@@ -53,14 +64,18 @@ def app_texts(source):
 
 
 def app_trials(source):
-    """The codes that are tried, each with its input, its steps and its end."""
+    """The codes that are tried or shown, each with what is given besides and its end. What is shown of a code has to
+    assemble to it, once the places are taken off."""
     kinds = {"Hex": bytes.fromhex, "Text": unescaped, "Sevens": lambda count: b"\7" * int(count.replace("_", ""))}
     files = {}
     for name, kind, word in source.rows(r'name: "(\w+)",\s*content: Content::(Hex|Text|Sevens)\("?([^")]*)"?\)'):
         files[name] = kinds[kind](word)
     for name, count in source.rows(r'name: "(\w+)",\s*content: Content::Laid\(&\[\("", ([\d_]+), 0\)\]\)'):
         files[name] = bytes(int(count.replace("_", "")))
-    for words, status, line in source.rows(r'Step::Ends\(\s*"(appcode [^"]*)",\s*(\d),\s*"([^"]+)",?\s*\)'):
+    for words, status, line in source.rows(r'Step::Ends\(\s*"((?:appcode|showcode) [^"]*)",\s*(\d),\s*"([^"]+)",?\s*\)'):
         found, wanted = commands.answer(words.split(" "), commands.Folder(files)), unescaped(line).decode()
-        fits = found.text.startswith(wanted[:-2]) if wanted.endswith("*\n") else found.text == wanted
+        fits = found.text.startswith(wanted[:-2]) if wanted.endswith(("*\n", "**")) else found.text == wanted
         source.compare(words, (found.status, fits or found.text), (int(status), True))
+        if words.startswith("showcode") and found.status == 0:
+            without_places = re.sub(r" ; \d+$", "", found.text, flags=re.MULTILINE).encode()
+            source.compare(f"code of {words}", applications.assemble(without_places), files[words.split(" ")[1]])

@@ -1,9 +1,11 @@
 """Application code: its instructions, how a code runs, what it asks for, and its text, written from docs/use/formats.md
-alone.
+alone, and the trace of a run, from docs/use/commands.md.
 
     run(code, input, secrets, steps)     how the code ends, in the words of `app`, and whether it halts
+    traced(code, input, secrets, steps)  the lines that tell of its steps
     called(code, input, secrets)         the action that code which is called asks for, or NoAnswer
     assemble(text), disassemble(code)    what `asm` and `disasm` write
+    labelled(code)                       what `showcode` prints
 """
 
 import functools
@@ -93,6 +95,8 @@ class Machine:
     def __init__(self, code, input_, secrets):
         self.code, self.input, self.secrets = code, input_, secrets
         self.values, self.places, self.memory, self.output, self.at = [], [], bytearray(MEMORY), bytearray(), 0
+        # what the last step has written to memory: from which address on, and which bytes
+        self.written = None
 
     def state(self):
         """All that its next steps depend on, with how much it has emitted."""
@@ -100,6 +104,7 @@ class Machine:
 
     def step(self):
         """Executes an instruction; whether it is a `halt`."""
+        self.written = None
         try:
             name, operand, length = instruction(self.code, self.at)
         except Wrong:
@@ -160,7 +165,7 @@ class Machine:
         value, address = taken
         if address >= MEMORY:
             raise Trap(4)
-        self.memory[address] = value % 256
+        self.write(address, bytes([value % 256]))
         return [], after
 
     def input_(self, operand, taken, after):
@@ -181,8 +186,12 @@ class Machine:
             return [WORD - 1], after
         if address + len(secret) > MEMORY:
             raise Trap(4)
-        self.memory[address : address + len(secret)] = secret
+        self.write(address, secret)
         return [len(secret)], after
+
+    def write(self, address, bytes_):
+        self.memory[address : address + len(bytes_)] = bytes_
+        self.written = address, bytes_
 
 
 def ran(code, input_, secrets, steps):
@@ -208,6 +217,29 @@ def run(code, input_, secrets, steps):
     """How a code ends that runs for at most `steps` steps, in the words of `app`, and whether it halts."""
     words, output, is_halted = ran(code, input_, secrets, steps)
     return f"{words} {output.hex() or '-'}", is_halted
+
+
+def traced(code, input_, secrets, steps):
+    """The lines of a trace: one for each step of a run of at most `steps` steps, but for a place without an
+    instruction."""
+    machine = Machine(code, input_, secrets)
+    for number in range(1, steps + 1):
+        try:
+            told = said(*instruction(code, machine.at))
+        except Wrong:
+            return
+        stack = " ".join(map(str, machine.values)) or "-"
+        line = f"trace {number} at {machine.at}: {told}  stack {stack}"
+        try:
+            is_last = machine.step()
+        except Trap:
+            is_last = True
+        if machine.written:
+            address, bytes_ = machine.written
+            line += f"  memory {address}={bytes_.hex() or '-'}"
+        yield line
+        if is_last:
+            return
 
 
 # ---- what is asked for
@@ -340,15 +372,40 @@ class NoInstruction(Exception):
         self.at = at
 
 
-def disassemble(code):
-    """The lines of a code."""
-    lines, at = [], 0
+def said(name, operand, length):
+    """The line of an instruction."""
+    told = operand.decode() if name == "get" else str(operand)
+    return f"{name} {told}" if length > 1 else name
+
+
+def instructions(code):
+    """The offset, the name and the operand of each instruction of a code. The operand is a list of a word, or of none."""
+    found, at = [], 0
     while at < len(code):
         try:
             name, operand, length = instruction(code, at)
         except Wrong:
             raise NoInstruction(at) from None
         told = operand.decode() if name == "get" else str(operand)
-        lines.append(f"{name} {told}" if length > 1 else name)
+        found.append((at, name, [told] if length > 1 else []))
         at += length
+    return found
+
+
+def disassemble(code):
+    """The lines of a code."""
+    return [" ".join([name, *told]) for _, name, told in instructions(code)]
+
+
+def labelled(code):
+    """The lines of a code with labels and places."""
+    found, lines = instructions(code), []
+    begins = {str(at) for at, _, _ in found}
+    targets = {told[0] for _, name, told in found if name in JUMPS}
+    for at, name, told in found:
+        if str(at) in targets:
+            lines.append(f"label at_{at}")
+        if name in JUMPS and told[0] in begins:
+            told = [f"at_{told[0]}"]
+        lines.append(" ".join([name, *told, ";", str(at)]))
     return lines

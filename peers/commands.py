@@ -451,14 +451,23 @@ def asm(call, text, out):
     return [f"bytes {len(code)}"]
 
 
-def disasm(call, code, out):
+def listed(call, code, lines_of):
+    """The lines of the instructions of a code."""
     bytes_ = call.code(code)
     try:
-        lines = applications.disassemble(bytes_)
+        return lines_of(bytes_)
     except applications.NoInstruction as none:
         raise Ended(3, f"input code at {none.at}") from None
+
+
+def disasm(call, code, out):
+    lines = listed(call, code, applications.disassemble)
     call.write("out", out, "".join(line + "\n" for line in lines).encode())
     return [f"lines {len(lines)}"]
+
+
+def showcode(call, code):
+    return listed(call, code, applications.labelled)
 
 
 # ---- all commands
@@ -498,6 +507,7 @@ COMMANDS = {
     "callcode": (callcode, 4),
     "asm": (asm, 2),
     "disasm": (disasm, 2),
+    "showcode": (showcode, 1),
 }
 
 

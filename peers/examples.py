@@ -22,6 +22,7 @@ import re
 import shlex
 import sys
 
+import applications
 import chains
 import commands
 import fleet
@@ -314,6 +315,23 @@ class Called(Predicted):
     def script_of(self, events):
         return "".join(self.files[each].decode() if each in self.files else f"{each}\n" for each in events)
 
+    def trace(self, text):
+        """A call of a code on secrets in a text, with its trace in a file."""
+        _, code, secrets, input_, _ = text.split(" ")
+        kept = texts.read_secrets(self.files[secrets])
+        known = {3: {name: value for name, value, _ in kept}}
+        lines = applications.traced(self.files[code], self.files[input_], known, applications.CALL_STEPS)
+        told = "".join(f"{line}\n" for line in lines).encode()
+        self.show("  ", f"$ MINIBOOT_TRACE=1 miniboot {text} 2>trace")
+        status = self.miniboot(text)
+        self.show("    ", self.printed + (f"status {status}\n" if status else ""))
+        self.files["trace"] = told
+
+    def lines_with(self, word, name):
+        self.show("  ", f"$ grep {word} {name}")
+        lines = self.files[name].decode().splitlines()
+        self.show("    ", "".join(f"{line}\n" for line in lines if word in line))
+
     def copy(self, name, other):
         self.files[other] = self.files[name]
 
@@ -341,6 +359,8 @@ FORMS = [
     (r"table_of_codes", Steps.table_of_codes),
     (r"hash_of ([\w.]+) ([\w.]+)", Steps.hash_of),
     (r"lines_of (\w+)", Steps.lines_of),
+    (r"lines_with (\w+) (\w+)", lambda steps, word, name: steps.lines_with(word, name)),
+    (r"trace (.*)", lambda steps, text: steps.trace(text)),
     (r"write_script (.*)", Steps.write_script),
     (r"ask (.*)", Steps.ask),
     (r"miniboot (.*)", Steps.miniboot),

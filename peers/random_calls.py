@@ -8,10 +8,12 @@ Layers 2 and 3 of each device have code that emits its input, or bytes of its ow
 examples/calls; code that traps, that has no end, that is random, or that takes no calls. A script of calls, puts, gets,
 drops, signatures and power losses is served: replies and image have to be those of machine.py. What is signed is
 attached to the chain, verified, shown, and judged by a random policy. Then a random code is called by `callcode` on
-random secrets. All that is printed and written has to be what commands.py predicts.
+random secrets, and code of random instructions is tried by `appcode` and called by `callcode`. All that is printed and
+written has to be what commands.py predicts, with a trace and without one, and a trace what applications.py tells.
 """
 
 import collections
+import itertools
 import pathlib
 import random
 import re
@@ -22,10 +24,13 @@ import applications
 import commands
 import device
 import machine
+import texts
 from lms import sha256, u8
-from random_orders import called
+from random_orders import called, called_and_told
 
 DEVICES = 200
+# the longest run whose trace is compared
+MOST_TRACED = 5_000
 PROGRAMS = pathlib.Path(__file__).resolve().parents[1] / "examples" / "calls"
 WORD = "push 1296193585\npop\n"
 # code that emits its input, so that an input is an action
@@ -36,6 +41,7 @@ ENDS = ("halt\n", "emit\n", "push 0\nload\n", "push 0\npush 1\nget k\n", "label 
 NAMES = [b"k", b"t", b"p", b"~" * 32, b"!"] + [b"n%d" % n for n in range(19)]
 KINDS = ("call",) * 12 + ("boot",) * 3 + ("put", "get", "drop", "sign", "cut", "off", "go")
 LENGTHS = 0, 1, 2, 4, 127, 128
+VALUES = 0, 0, 1, 1, 2, 3, 6, 12, 30, 255, 256, 897, 1_000, 1_023, 1_024, 4_294_967_295
 POLICIES = ("called", "not called", "statement", "last", "alive", "input now", "answer now", "code 3 good", "input good")
 
 
@@ -67,6 +73,24 @@ def some_code(rng, layer):
     if how < 0.9:
         return applications.CALL_WORD + rng.randbytes(rng.choice((0, 1, 5, 30)))
     return rng.choice((b"", b"abc", ECHOING[:5], ECHOING[1:], ECHOING[6:], ECHOING[:5] + b"\3" + ECHOING[6:]))
+
+
+def some_instruction(rng):
+    """A line of an assembler text, after lines that push what it takes."""
+    name = rng.choice(list(applications.VALUES))
+    takes, _ = applications.VALUES[name]
+    pushed = [f"push {rng.choice(VALUES)}" for _ in range(takes if rng.random() < 0.95 else 0)]
+    if name == "get":
+        return [*pushed[:1], "push 3", f"get {rng.choice(NAMES).decode()}"]
+    if name in ("push", *applications.JUMPS):
+        return [*pushed, f"{name} {rng.choice(VALUES) % 65_536}"]
+    return [*pushed, name] if name != "halt" or rng.random() < 0.2 else ["push 1"]
+
+
+def some_instructions(rng):
+    """Code of random instructions, which often goes on for a while."""
+    lines = [line for _ in range(rng.choice((2, 8, 30))) for line in some_instruction(rng)]
+    return code_of("".join(f"{line}\n" for line in [*lines, "halt"]))
 
 
 def some_demand(rng):
@@ -191,6 +215,16 @@ class Comparison:
         self.calls += 1
         return called(self.program, self.folder, files, words.split(" "))
 
+    def traces(self, number, words, files):
+        """A trace, if the run is short; all else is as without it."""
+        answer = commands.answer(words.split(" "), commands.Folder(dict(files)))
+        wanted = list(itertools.islice(trace_of(words.split(" "), files), MOST_TRACED + 1))
+        if self.program and len(wanted) <= MOST_TRACED:
+            self.calls += 1
+            found = called_and_told(self.program, self.folder, files, words.split(" "), MINIBOOT_TRACE="1")
+            self.compare(number, words, found[:3], (answer.status, answer.text, files | answer.written))
+            self.compare(number, f"the trace of {words}", found[3].splitlines(), wanted)
+
     def compare(self, number, words, found, wanted):
         if found != wanted:
             self.wrong += 1
@@ -210,6 +244,19 @@ class Comparison:
         wrong = commands.wrong_in_run(served, replies, after["image"]) if status == 0 else f"status {status}, {printed}"
         self.compare(number, "run", (0, wrong), (0, None))
         return replies, after
+
+
+def trace_of(words, files):
+    """The lines of the trace of an `appcode` or a `callcode` whose inputs are in their forms, and of no other."""
+    command, code, *others = words
+    if command == "appcode":
+        return applications.traced(files[code], files[others[0]], {3: {}}, int(others[1]))
+    try:
+        kept = texts.read_secrets(files[others[0]])
+    except texts.BadLine:
+        return iter(())
+    known = {name: value for name, value, _ in kept}
+    return applications.traced(files[code], files[others[1]], {3: known}, applications.CALL_STEPS)
 
 
 def kind_of(line):
@@ -242,6 +289,11 @@ def try_device(comparison, rng, number):
                 comparison.ends(number, words, files)
     files = {"code": some_code(rng, 3), "secrets": some_secrets(rng).encode(), "input": some_input(rng)}
     comparison.ends(number, "callcode code secrets input next", files)
+    comparison.traces(number, "callcode code secrets input next", files)
+    files["code"] = some_instructions(rng)
+    for words in ("callcode code secrets input next", f"appcode code input {rng.choice((1, 10, 1_000))}"):
+        comparison.ends(number, words, files)
+        comparison.traces(number, words, files)
 
 
 def compare(program, count):

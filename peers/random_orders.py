@@ -9,6 +9,7 @@ them what `showorder`, `ordered` and `cosign` print, their statuses, and the fil
 commands.py predicts. One draft in two differs from its order in one place.
 """
 
+import os
 import pathlib
 import random
 import subprocess
@@ -145,12 +146,20 @@ def compare(program, count):
 
 def called(program, folder, files, words):
     """How the program ends with these words over these files: its status, what it prints, and the files after."""
+    return called_and_told(program, folder, files, words)[:3]
+
+
+def called_and_told(program, folder, files, words, **variables):
+    """How the program ends with these words over these files, and these variables in its environment: its status, what
+    it prints, the files after, and what it tells on standard error."""
     for path in folder.iterdir():
         path.unlink()
     for name, bytes_ in files.items():
         (folder / name).write_bytes(bytes_)
-    ended = subprocess.run([program, *words], cwd=folder, stdout=subprocess.PIPE, stderr=subprocess.DEVNULL, check=False)
-    return ended.returncode, ended.stdout.decode(), {path.name: path.read_bytes() for path in folder.iterdir()}
+    environment = os.environ | variables
+    ended = subprocess.run([program, *words], cwd=folder, capture_output=True, env=environment, check=False)
+    after = {path.name: path.read_bytes() for path in folder.iterdir()}
+    return ended.returncode, ended.stdout.decode(), after, ended.stderr.decode()
 
 
 def main(words):

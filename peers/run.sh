@@ -2,7 +2,8 @@
 # Computes the outside values of the tests and examples anew, by an LMS in Python that is written from RFC 8554 alone,
 # and prints how many of each source agree; then compares what the built program generates, and comes to when it serves
 # that, with a workload that is made and served in Python, what it shows of random orders, and how it answers random
-# calls: run.sh [PROGRAM]. Fails if something differs. It is no part of the gate, and writes in a temporary folder alone, which it removes.
+# calls: run.sh [PROGRAM]. Fails if something differs. It is no part of the gate, and writes in a temporary folder
+# alone, which it removes.
 set -euo pipefail
 
 if ! command -v python3 >/dev/null; then

@@ -334,6 +334,12 @@ def disasm(count):
     return "disasm code out", {"code": bytes(count)}, f"lines {count}\n"
 
 
+def showcode(count):
+    """Jumps, each to the next place."""
+    jumps = b"".join(b"\x20" + (at + 3).to_bytes(2, "big") for at in range(0, count - 2, 3))
+    return "showcode code", {"code": jumps + bytes(count % 3)}, "jump at_3 ; 0\n"
+
+
 def app(count):
     """The code halts at once."""
     return "app image 3 input 1", {"image": coded(bytes(MOST_CODE)), "input": bytes(count)}, "halted 1 -\n"
@@ -403,6 +409,7 @@ ROWS = (
     ("enrol", "entries", ENTRIES, enrol_entries),
     ("devices", "devices", fleet.DEVICES, devices),
     ("disasm", "bytes of code", MOST_CODE, disasm),
+    ("showcode", "bytes of code", MOST_CODE, showcode),
     ("app", "bytes of input", LONGEST, app),
     ("appcode", "bytes of code", MOST_CODE, appcode_code),
     ("appcode", "bytes of input", LONGEST, appcode_input),

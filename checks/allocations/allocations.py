@@ -208,15 +208,15 @@ def try_life(runner, pool):
 
 
 def try_guesses(runner, pool, image):
-    """A wrong guess and the right one, each without a key and with one: both make as many allocations, and lack memory
-    at the same of them, so that neither tells which it was. Prints how many there were, and gives how many runs were
-    wrong."""
+    """A wrong guess and the right one, each without a key and with one: both lack memory at the same allocations, so that
+    a lack does not tell which it was. What comes after the event may differ, since a longer answer is printed with more
+    memory. Prints how many allocations there were, and gives how many runs were wrong."""
     wrong = 0
     for key in "-", "3":
         scripts = [f"boot\ncall 3 {key} {guess}\noff\n".encode() for guess in (WRONG, RIGHT)]
         tried = [answers_of(runner, pool, {"image": image, "script": script, "noise": b""}) for script in scripts]
         lacking = [[number for number, answer in enumerate(each) if answer == "no memory"] for each in tried]
-        same = len(tried[0]) == len(tried[1]) and lacking[0] == lacking[1] and lacking[0]
+        same = lacking[0] == lacking[1] and lacking[0]
         counts = " and ".join(str(len(each) - 1) for each in tried)
         print(f"{f'call 3 {key}':12} {counts} allocations, {len(lacking[0])} and {len(lacking[1])} `no memory`", flush=True)
         if not same:

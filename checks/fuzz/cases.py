@@ -58,6 +58,7 @@ SHARES = {
     "callcode": 6,
     "asm": 5,
     "disasm": 5,
+    "showcode": 6,
 }
 
 

@@ -278,6 +278,9 @@ class Tools:
             code = code.ljust(rng.choice((MOST_CODE - 1, MOST_CODE, MOST_CODE + 1)), b"\0")
         return ["code", "out"], {"code": code}
 
+    def showcode(self):
+        return ["code"], self.disasm()[1]
+
     # ---- registers
 
     def fleet(self):

@@ -111,6 +111,7 @@ TRUST = Command("trust root chain 1 policy", (("root", "root"), ("chain", "chain
 APP = Command("app coded 2 input 100", (("image", "coded"), ("input", "input")))
 ASM = Command("asm text out", (("text", "text"),), (("out", "out"),))
 DISASM = Command("disasm codes out", (("code", "codes"),), (("out", "out"),))
+SHOWCODE = Command("showcode codes", (("code", "codes"),))
 FLEET = Command(
     "fleet root register items",
     (("root", "root"), ("register", "register"), ("items", "items")),
@@ -134,7 +135,7 @@ LEAST_NOISE = {RUN: 32, REHEARSE: 0, CUTAT: 32, FACTORY: 48, KEYGEN: 32, HSSKEYG
 PREDICTED = (
     *(HSSKEYGEN, ENDORSE, ENDORSED, TRUST, APP, APPCODE, ASM, DISASM),
     *(FLEET, REGISTER, ENROL, DEVICES),
-    *(COSIGN, SHOWORDER, ORDERED, SHOWKEY, SHOWMAKER, CALLCODE),
+    *(COSIGN, SHOWORDER, ORDERED, SHOWKEY, SHOWMAKER, CALLCODE, SHOWCODE),
 )
 COMMANDS = (
     *(RUN, REHEARSE, SHOWIMAGE, HISTORY, CUTAT, VERIFY, AUDIT, CHAIN, ATTACH, FACTORY, KEYGEN, SIGN, COUNTERSIGN, MIGRATE, GENERATE),

@@ -16,7 +16,7 @@ ROWS = [
     ("its memory", "#e5f2e9", ["mb_boot", "mb_outbound", "mb_region", "mb_area", "mb_flash", "mb_slot"]),
     ("officers and verifiers", "#faf0e0", [
         "mb_generate", "mb_officer", "mb_migrate", "mb_fleet", "mb_verifier", "mb_image"]),
-    ("rules", "#faf0e0", ["mb_orders", "mb_log", "mb_authority", "mb_policy", "mb_appvm"]),
+    ("rules", "#faf0e0", ["mb_orders", "mb_log", "mb_authority", "mb_policy", "mb_appvm", "mb_assembler"]),
     ("records and texts", "#f4f5f7", [
         "mb_cert", "mb_script", "mb_command", "mb_segments", "mb_layout_edits", "mb_layout"]),
     ("signatures", "#f4f5f7", ["mb_hss", "mb_signer", "mb_lms"]),

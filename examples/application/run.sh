@@ -2,10 +2,10 @@
 # An application. The owner of layer 3 has a program in assembler text, answer.asm (answer.md says what each line does),
 # which answers a challenge with a secret of its layer. It is assembled, tried, and loaded by a signed order; the secret
 # is put, and the program answers. Then the same code runs where it may not read the secret. Builds the proved program,
-# makes keys and the device with it, and shows each step. Fails if what was printed is not what expected.txt says, whose
-# answers another program computed (bench/applications/interpreter.c). run.sh [PROGRAM] tries a program that is built.
-# Works from any current folder; beside the build in crates/*/out/ it writes in a temporary folder alone, which it
-# removes, or in the new folder that KEEP_IN names.
+# makes keys and the device with it, and shows each step. Fails if what was printed is not what expected.txt says. Its
+# answers were computed by another program, bench/applications/interpreter.c, and its trace by peers/applications.py.
+# run.sh [PROGRAM] tries a program that is built. Works from any current folder; beside the build in crates/*/out/ it
+# writes in a temporary folder alone, which it removes, or in the new folder that KEEP_IN names.
 set -euo pipefail
 export LC_ALL=C
 
@@ -52,6 +52,10 @@ it_is_tried() {
     echo "It is tried before anybody signs it, as on a device that has no secrets yet. It then halts without an answer:"
     printf 'good morning' >challenge
     ask appcode answer challenge 1000
+    echo "A trace tells each step: its number, the place, the instruction, and what stands on the stack before it. Where"
+    echo "the secret is not there, its length is 4294967295:"
+    trace appcode answer challenge 1000
+    lines_of trace
     echo "So that the rest is tried too, the three lines that get the secret give way to one: it is empty. What it mixes"
     echo "then is the challenge alone, and its answer is the FNV-1a hash of 'good morning':"
     { echo 'push 0'; tail -n +4 answer.asm; } >trial.asm
@@ -65,6 +69,8 @@ it_is_tried() {
     printf 'label again\njump again\n' >endless.asm
     ask asm endless.asm endless
     ask appcode endless challenge 1000
+    echo "Where the instructions stand, which a trap names, and where the code goes:"
+    ask showcode endless
 }
 
 it_is_loaded() {
@@ -85,6 +91,9 @@ it_answers() {
     ask app image 3 other 1000
     echo "Layer 2 has the same code, and layer 3 is not below it, so it answers the same:"
     ask app image 2 challenge 1000
+    echo "Of a device's own code nothing is told, also if somebody asks:"
+    trace app image 3 challenge 1000
+    lines_of trace
     echo "A run has as many steps as it is given:"
     ask app image 3 challenge 332
     ask app image 3 challenge 331

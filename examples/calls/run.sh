@@ -15,7 +15,7 @@ export LC_ALL=C
 here=$(cd "$(dirname "${BASH_SOURCE[0]}")" && pwd)
 # shellcheck source=../begin.sh
 . "$here/../begin.sh"
-need cut head od paste sed sha256sum tail tr
+need cut grep head od paste sed sha256sum tail tr
 find_or_build "$@"
 
 # This many bytes, all of them 7.
@@ -40,9 +40,10 @@ order() {
     miniboot sign "$2.key" draft "$1"
 }
 
-# Shows the lines of a file.
-lines_of() {
-    sed 's/^/    /' "$1"
+# Shows the lines of a file that have a word: lines_with WORD FILE
+lines_with() {
+    echo "  \$ grep $1 $2"
+    grep "$1" "$2" | sed 's/^/    /'
 }
 
 # Writes a policy, and shows it: policy NAME LINE..
@@ -74,6 +75,12 @@ the_programs() {
     printf 'push 1296193585\npop\npush 1\nemit\nhalt\n' >slip.asm
     ask asm slip.asm slip
     ask callcode slip kept wrong after
+    echo "A trace tells each step: its number, the place, the instruction, and what stands on the stack before it:"
+    trace callcode slip kept wrong after
+    lines_of trace
+    echo "and what is written to memory. The right guess reads the count of the tries, the PIN, and then the secret:"
+    trace callcode pin kept right after
+    lines_with memory trace
 }
 
 the_load() {

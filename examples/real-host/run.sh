@@ -1,7 +1,7 @@
 #!/usr/bin/env bash
-# Tries the program on files and an output that fail, and on files that are locked or left behind, and compares its
-# lines and statuses and what it tells on standard error: run.sh [PROGRAM]. With no PROGRAM it proves and builds the
-# program first. Works from any current folder; beside that build it writes in a temporary folder alone, which it
+# Tries the program on files and an output that fail, on files that are locked or left behind, and with a trace, and
+# compares its lines and statuses and what it tells on standard error: run.sh [PROGRAM]. With no PROGRAM it proves and
+# builds the program first. Works from any current folder; beside that build it writes in a temporary folder alone, which it
 # removes, or in the new folder that KEEP_IN names. It needs Linux, for /dev/full and flock.
 set -euo pipefail
 export LC_ALL=C
@@ -9,7 +9,7 @@ export LC_ALL=C
 here=$(cd "$(dirname "${BASH_SOURCE[0]}")" && pwd)
 # shellcheck source=../begin.sh
 . "$here/../begin.sh"
-need flock stat
+need flock head stat tr
 find_or_build "$@"
 cd "$work"
 
@@ -176,6 +176,33 @@ status=0
 "$program" sign key surrender order >/dev/full 2>told || status=$?
 compare 'an index to a full device, status' "$status" 5
 compare 'the key and the order before it' "$(next_of key)$(wc -l <order)" 000000011
+
+# A trace of a code of one step. It is told if the variable has a value, and all else is the same, also if nothing can
+# be told.
+printf '\0' >halt
+traced() {
+    compare "$1, status" "$status" 0
+    compare "$1, line" "$(cat printed)" 'halted 1 -'
+    compare "$1, what is told" "$(cat told)" "$2"
+}
+status=0
+"$program" appcode halt noise 10 >printed 2>told || status=$?
+traced 'no trace' ''
+MINIBOOT_TRACE='' "$program" appcode halt noise 10 >printed 2>told || status=$?
+traced 'an empty variable' ''
+MINIBOOT_TRACE=1 "$program" appcode halt noise 10 >printed 2>told || status=$?
+traced 'a trace' 'trace 1 at 0: halt  stack -'
+MINIBOOT_TRACE="$(head -c 9999 /dev/zero | tr '\0' x)" "$program" appcode halt noise 10 >printed 2>told || status=$?
+traced 'a long variable' 'trace 1 at 0: halt  stack -'
+: >told
+MINIBOOT_TRACE=1 "$program" appcode halt noise 10 >printed 2>/dev/full || status=$?
+traced 'a trace to a full device' ''
+MINIBOOT_TRACE=1 "$program" appcode halt noise 10 >printed 2>&- || status=$?
+traced 'a trace to a closed standard error' ''
+before=(env MINIBOOT_TRACE=1)
+try 'a command that runs no code' 0 "$owner" keygen noise key public
+compare_key 'a command that runs no code'
+before=()
 
 echo "$passed passed, $failed failed"
 [ "$failed" -eq 0 ]

@@ -67,7 +67,7 @@ pieces_same all (s ∷ said) (p ∷ ps) (q ∷ qs) differ zp zq =
     let tail = pieces_same all said ps qs differ zp.1 zq.1 in
     cc
 
-one_assembly : (lines : List (List ℕ)) (a b : List ℕ) → IsAssembly lines a → IsAssembly lines b → a ≡ b
+pub one_assembly : (lines : List (List ℕ)) (a b : List ℕ) → IsAssembly lines a → IsAssembly lines b → a ≡ b
 one_assembly lines a b ia ib =
     let same = said_unique lines ib.said ia.said ib.right.worded ia.right.worded in
     let made = subst (λ (x : List Said). AllZip (Makes x) x ib.pieces) same ib.made in
@@ -108,7 +108,7 @@ not_shorter lines m n p q less =
     p.wrong (take (length (p.before ++ p.line ∷ [])) q.said)
     (right_front lines (p.before ++ p.line ∷ []) front.0 q.said (subst (λ (x : List (List ℕ)). AreRight lines x q.said) front.1 q.right))
 
-one_failure : (lines : List (List ℕ)) (m n : ℕ) → FailsAssembly lines m → FailsAssembly lines n → m ≡ n
+pub one_failure : (lines : List (List ℕ)) (m n : ℕ) → FailsAssembly lines m → FailsAssembly lines n → m ≡ n
 one_failure lines m n p q =
     elim (cases_order (length p.before) (length q.before)) [
       | inr (inl less) ↦ absurd (not_shorter lines m n p q less)
@@ -116,7 +116,7 @@ one_failure lines m n p q =
       | inr (inr less) ↦ absurd (not_shorter lines n m q p less)
     ]
 
-never_wrong : (lines : List (List ℕ)) (code : List ℕ) (n : ℕ) → IsAssembly lines code → FailsAssembly lines n → ⊥
+pub never_wrong : (lines : List (List ℕ)) (code : List ℕ) (n : ℕ) → IsAssembly lines code → FailsAssembly lines n → ⊥
 never_wrong lines code n is p =
     let split = p.split ∙ sym (append_assoc p.before (p.line ∷ []) p.later) in
     p.wrong (take (length (p.before ++ p.line ∷ [])) is.said)

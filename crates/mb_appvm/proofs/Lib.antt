@@ -1,5 +1,7 @@
 pub mod SecretReading
 pub mod Readables
+pub mod Traces
+pub mod Traced
 pub mod Fetches
 pub mod Asking
 pub mod Actions

@@ -38,7 +38,7 @@ pub record IsListedTo (code : List ℕ) (place : ℕ) (text : List ℕ) : Type 0
   pub front : take place code ≡ listing_bytes listed
   pub written : text ≡ text_of (map instruction_line listed)
 
-take_next : (code : List ℕ) (place next : ℕ) (i : Instruction) → Stands code place i next → take next code ≡ take place code ++ instruction_format.spelling i
+pub take_next : (code : List ℕ) (place next : ℕ) (i : Instruction) → Stands code place i next → take next code ≡ take place code ++ instruction_format.spelling i
 take_next code place next i is =
     let within : place ≤ length code = omega (arith, is.ends, is.within) in
     let whole = sym (take-append-drop place code) ∙ ap (λ (x : List ℕ). take place code ++ x) is.here
@@ -47,7 +47,7 @@ take_next code place next i is =
     omega (arith, length-append (take place code) (instruction_format.spelling i), length-take place code, within, is.ends) in
     ap (take next) whole ∙ take_at (take place code ++ instruction_format.spelling i) (drop next code) next long
 
-map_push : {A B : Type 0} (f : A → B) (xs : List A) (x : A) → map f (xs ++ x ∷ []) ≡ map f xs ++ f x ∷ []
+pub map_push : {A B : Type 0} (f : A → B) (xs : List A) (x : A) → map f (xs ++ x ∷ []) ≡ map f xs ++ f x ∷ []
 map_push f [] x = refl
 map_push {A} {B} f (y ∷ xs) x = ap (λ (l : List B). f y ∷ l) (map_push f xs x)
 
@@ -99,7 +99,7 @@ abbrev whole : Instruction → Said
 whole i = says.Whole i
 
 -- no line has an LF in it
-above_line : (bytes : List ℕ) → Above 32 bytes → IsLine bytes
+pub above_line : (bytes : List ℕ) → Above 32 bytes → IsLine bytes
 above_line bytes is = All-weaker (λ (byte : ℕ). 32 < byte) (λ (byte : ℕ). byte ≢ 10) (λ byte least lf. omega (arith, least, lf)) bytes is
 
 joined_line : (word operand : List ℕ) → Above 32 word → Above 32 operand → IsLine (word ++ 32 ∷ operand)
@@ -107,10 +107,10 @@ joined_line word operand w o =
     All-append (λ (byte : ℕ). byte ≢ 10) word (32 ∷ operand) (above_line word w)
     (All-cons (λ (byte : ℕ). byte ≢ 10) 32 operand (λ lf. omega (arith, lf)) (above_line operand o))
 
-name_above : (name : List ℕ) → All (λ byte. (0x21 ≤ byte) × (byte ≤ 0x7E)) name → Above 32 name
+pub name_above : (name : List ℕ) → All (λ byte. (0x21 ≤ byte) × (byte ≤ 0x7E)) name → Above 32 name
 name_above name is = All-weaker (λ (byte : ℕ). (0x21 ≤ byte) × (byte ≤ 0x7E)) (λ (byte : ℕ). 32 < byte) (λ byte printed. omega (arith, printed.0)) name is
 
-one_line : (i : Instruction) → instruction_format.Allowed i → IsLine (instruction_line i)
+pub one_line : (i : Instruction) → instruction_format.Allowed i → IsLine (instruction_line i)
 one_line (instruction.Plain p) is = above_line (instruction_line (instruction.Plain p)) (keyword_above (keyword_of_instruction (instruction.Plain p)))
 one_line (instruction.Push n) is =
     joined_line (keyword_word (keyword_of_instruction (instruction.Push n))) (decimal n) (keyword_above (keyword_of_instruction (instruction.Push n)))

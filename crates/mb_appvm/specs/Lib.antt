@@ -5,5 +5,6 @@ pub mod Reading
 pub mod Checking
 pub mod Labels
 pub mod Listing
+pub mod Tracing
 pub mod SecretTexts
 pub mod NumberLaws

@@ -60,7 +60,7 @@ pub fn disassemble(alloc: Global, code: &[u8]) -> Result<Bytes, DisasmEnd>
 }
 
 /// Appends the line of an instruction and its LF.
-fn put_line(out: &mut Vec<u8>, instruction: &Instruction<'_>) -> Result<(), NoMemory>
+pub fn put_line(out: &mut Vec<u8>, instruction: &Instruction<'_>) -> Result<(), NoMemory>
     ensures { Puts (line_with_lf (instruction_line instruction.now)) out.old result out.new }
 {
     put_words(out, instruction)?;
@@ -68,7 +68,7 @@ fn put_line(out: &mut Vec<u8>, instruction: &Instruction<'_>) -> Result<(), NoMe
 }
 
 /// Appends the words of an instruction.
-fn put_words(out: &mut Vec<u8>, instruction: &Instruction<'_>) -> Result<(), NoMemory>
+pub fn put_words(out: &mut Vec<u8>, instruction: &Instruction<'_>) -> Result<(), NoMemory>
     ensures { Puts (instruction_line instruction.now) out.old result out.new }
 {
     match instruction {
@@ -85,7 +85,7 @@ fn put_words(out: &mut Vec<u8>, instruction: &Instruction<'_>) -> Result<(), NoM
 }
 
 /// Appends a word and a number in decimal.
-fn put_numbered(out: &mut Vec<u8>, word: &[u8], number: u32) -> Result<(), NoMemory>
+pub fn put_numbered(out: &mut Vec<u8>, word: &[u8], number: u32) -> Result<(), NoMemory>
     ensures { Puts (word.now ++ decimal number) out.old result out.new }
 {
     put_slice(out, word)?;

@@ -14,7 +14,7 @@ use mb_model::{BadRecord, Instruction, NAME_LIMIT, Name, Opcode, Operation, Plai
 
 /// The instruction at an offset of a code, and the offset after it; `None` if no whole instruction stands there. The
 /// code has at most 4,194,304 bytes.
-pub(crate) fn fetch(code: &[u8], place: u32) -> Option<(Instruction<'_>, u32)>
+pub fn fetch(code: &[u8], place: u32) -> Option<(Instruction<'_>, u32)>
     requires { length code.now ≤ FILE_LIMIT }
     ensures { Fetches code.now place result }
 {

@@ -3,6 +3,7 @@
 ghost use Rattle.mb_model.specs.application.Runs.{RunsEndOnce, RunsSeeNothingElse};
 ghost use Rattle.mb_appvm.specs.Listing.{AssembliesAreClear, ListingsAssemble};
 ghost use Rattle.mb_appvm.specs.NumberLaws.{ApplicationNumbersAre};
+ghost use Rattle.mb_appvm.specs.Tracing.{TracesAreTrue};
 
 /// A run ends in one way.
 pub fn runs_end_once()
@@ -23,6 +24,12 @@ pub fn assemblies_are_clear()
 /// The text that is written of a code assembles to that code and to no other, and no line of it is wrong.
 pub fn listings_assemble()
     ensures { ListingsAssemble }
+{}
+
+/// A step that goes on leaves the memory with what its line says that it writes, and as it was if the line says nothing
+/// of memory.
+pub fn traces_are_true()
+    ensures { TracesAreTrue }
 {}
 
 /// The limits of the machine are these numbers.

@@ -26,7 +26,7 @@ pub enum Said<'a> {
 }
 
 /// Reads a line; `None` if it is not in the grammar.
-pub(crate) fn read_line(line: &[u8]) -> Option<Said<'_>>
+pub fn read_line(line: &[u8]) -> Option<Said<'_>>
     ensures { FindsSome (SaysAssemblyLine line.now) result }
 {
     match split_at_byte(line, b' ') {
@@ -113,7 +113,7 @@ pub(crate) fn is_name(word: &[u8]) -> bool
 }
 
 /// Whether the word is the name of a label: the name of a secret whose first byte is no digit.
-fn is_label_name(word: &[u8]) -> bool
+pub fn is_label_name(word: &[u8]) -> bool
     ensures { IsTrue result ↔ IsLabelName word.now }
 {
     is_name(word) && !word.first().is_some_and(|byte| byte.is_ascii_digit())

@@ -7,6 +7,7 @@ ghost use Rattle.mb_appvm.specs.Acting.{state_of, secrets_of, surroundings_of, e
 
 use crate::environment::{Environment, Readable};
 use crate::machine::{Machine, Step};
+use crate::watching::{NextStep, Nobody, Watcher};
 use mb_model::{AppEnd, Bytes, Layers, NoMemory, Region, Trap};
 use std::alloc::Global;
 
@@ -22,14 +23,16 @@ pub enum CodeEnd {
 }
 
 /// Runs a code on an input and on the secrets that it may read, for at most `steps` steps; an executed instruction is a
-/// step, including one that ends the run. What was emitted replaces the bytes of `output`, which has the room; no
-/// memory is taken. The code and the input have at most 4,194,304 bytes each.
-pub fn run_code(
+/// step, including one that ends the run. The watcher sees each step before it is done. What was emitted replaces the
+/// bytes of `output`, which has the room; no memory is taken but what the watcher takes. The code and the input have at
+/// most 4,194,304 bytes each.
+pub fn run_code<W: Watcher>(
     code: &[u8],
     input: &[u8],
     readable: Readable<'_>,
     steps: u32,
     output: &mut Vec<u8>,
+    watcher: &mut W,
 ) -> CodeEnd
     requires code { length code.now ≤ FILE_LIMIT }
     requires input { length input.now ≤ FILE_LIMIT }
@@ -37,6 +40,7 @@ pub fn run_code(
     ensures ran { AppRun code.now input.now (secrets_of readable.entry) steps (end_with result output.new.items) }
     ensures short { length output.new.items ≤ OUTPUT_LIMIT }
     ensures room { OUTPUT_LIMIT ≤ vec_capacity output.new }
+    ensures watched { W.kept watcher.new ≡ W.kept watcher.old }
 {
     let environment = Environment {
         code,
@@ -44,7 +48,7 @@ pub fn run_code(
         readable,
     };
     let mut machine = Machine::new();
-    let ending = run(&mut machine, &environment, steps);
+    let ending = run(&mut machine, &environment, steps, watcher);
     output.clear();
     match output.extend_from_slice(machine.output.as_slice()) {
         Ok(()) => ending,
@@ -78,7 +82,7 @@ pub fn run_app(
         readable: Readable::of(layer, layers, two, three),
     };
     let mut machine = Machine::new();
-    let ending = run(&mut machine, &environment, steps);
+    let ending = run(&mut machine, &environment, steps, &mut Nobody);
     let output = Bytes::copy(alloc, machine.output.as_slice())?;
     Ok(ending.with(output))
 }
@@ -100,13 +104,24 @@ impl CodeEnd {
     }
 }
 
-/// Executes at most `steps` instructions.
-fn run(machine: &mut Machine, environment: &Environment<'_>, steps: u32) -> CodeEnd
+/// Executes at most `steps` instructions, each of which the watcher sees before.
+fn run<W: Watcher>(
+    machine: &mut Machine,
+    environment: &Environment<'_>,
+    steps: u32,
+    watcher: &mut W,
+) -> CodeEnd
     requires code { length environment.now.code.now ≤ FILE_LIMIT }
     requires input { length environment.now.input.now ≤ FILE_LIMIT }
-    ensures { RunsTo (surroundings_of environment.now) (state_of machine.old) 0 steps (end_with result machine.new.output.items) }
+    ensures ran { RunsTo (surroundings_of environment.now) (state_of machine.old) 0 steps (end_with result machine.new.output.items) }
+    ensures watched { W.kept watcher.new ≡ W.kept watcher.old }
 {
     for done in 0..steps {
+        watcher.see(&NextStep {
+            number: done + 1,
+            machine: &*machine,
+            environment: &*environment,
+        });
         match machine.step(environment) {
             Step::GoesOn => {}
             Step::Ends => return CodeEnd::Halted { steps: done + 1 },

@@ -43,7 +43,7 @@ impl Machine {
 }
 
 /// The value of the first secret with the name.
-fn value_of<'a>(secrets: &'a [Secret], name: &[u8]) -> Option<&'a [u8]>
+pub(crate) fn value_of<'a>(secrets: &'a [Secret], name: &[u8]) -> Option<&'a [u8]>
     ensures { MatchOption result (LacksSecret name.now secrets.now) (λ value. HasSecret name.now secrets.now value.now) }
 {
     match place_of(secrets, name) {
@@ -68,7 +68,7 @@ pub(crate) fn is_named(secret: &Secret, name: &[u8]) -> bool
 }
 
 /// Whether the bytes fit into memory from an address on.
-fn has_room(address: u32, bytes: &[u8]) -> bool
+pub(crate) fn has_room(address: u32, bytes: &[u8]) -> bool
     ensures { IsTrue result ↔ (address + length bytes.now ≤ MEMORY_LENGTH) }
 {
     bytes.len() <= MEMORY_LENGTH && address as usize <= MEMORY_LENGTH - bytes.len()

@@ -12,7 +12,7 @@ ghost use Rattle.mb_device_regions.specs.Secrets.{IsKeptRegion};
 use crate::demands::meet_all;
 use crate::listed::list;
 use crate::reserve::{Spare, written};
-use mb_appvm::{CodeEnd, Readable, read_action, run_code};
+use mb_appvm::{CodeEnd, Nobody, Readable, read_action, run_code};
 use mb_model::{
     Bytes, CALL_STEPS, Layers, MESSAGE_LIMIT, NoMemory, OUTPUT_LIMIT, Region, Secret, Secrets,
 };
@@ -83,7 +83,14 @@ fn run(given: &Given<'_>, own: &Region, above: &Option<Region>, output: &mut Vec
     ensures short { length output.new.items ≤ OUTPUT_LIMIT }
 {
     let readable = readable(given, own, above);
-    match run_code(given.code, given.input, readable, CALL_STEPS, output) {
+    match run_code(
+        given.code,
+        given.input,
+        readable,
+        CALL_STEPS,
+        output,
+        &mut Nobody,
+    ) {
         CodeEnd::Halted { .. } => true,
         CodeEnd::Trap { .. } | CodeEnd::OutOfSteps => false,
     }

@@ -6,19 +6,23 @@ ghost use Rattle.mb_files.specs.Real.{untold};
 use crate::kept::KeptFiles;
 use crate::output::Output;
 use crate::path_text::path_of;
-use crate::system::System;
-use crate::told::tell;
+use crate::system::{System, has_variable};
+use crate::told::{tell_error, tell_text};
 use crate::whole::{ReadCounts, WriteCounts};
 use mb_host::{Host, HostEnd, HostFailed};
 use std::alloc::Global;
 use std::io;
+
+// The variable of the environment by which a trace is asked for.
+const TRACE_VARIABLE: &str = "MINIBOOT_TRACE";
 
 /// The files and the standard output of a runtime. Contracts see its counts alone, and none of its contents.
 ///
 /// A file that was read stays locked until the host is dropped. A file is replaced whole, and is on the disk once its
 /// write is Ok; a pipe, a terminal and a device are written as they stand. What the system says of each read and write
 /// that fails, and of the first print that fails, is told on standard error, on one line. It cannot tell a missing file
-/// from a failed read: both count a fault, and nothing counts an absence.
+/// from a failed read: both count a fault, and nothing counts an absence. A trace is wanted if the environment has the
+/// variable `MINIBOOT_TRACE` with a value that is not empty.
 #[derive(Drop)]
 pub struct RealHost<'a, R> {
     runtime: &'a R,
@@ -55,7 +59,7 @@ impl<'a, R: System> RealHost<'a, R> {
     // Tells the error of a write or a print, if it failed.
     fn tell_write(&self, name: &str, outcome: Result<(), HostFailed>) {
         if let (Err(_), Some(error)) = (outcome, self.writes.last_fault()) {
-            tell(self.runtime, name, error);
+            tell_error(self.runtime, name, error);
         }
     }
 }
@@ -68,7 +72,7 @@ impl<'a, R: System> Host for RealHost<'a, R> {
     fn read(&mut self, alloc: Global, name: &str) -> Result<Vec<u8>, HostEnd> {
         let result = self.reads.read(alloc, self.kept.open(self.runtime, name));
         if let (Err(HostEnd::Failed), Some(error)) = (&result, self.reads.last_fault()) {
-            tell(self.runtime, name, error);
+            tell_error(self.runtime, name, error);
         }
         result
     }
@@ -94,5 +98,13 @@ impl<'a, R: System> Host for RealHost<'a, R> {
             self.tell_write("standard output", result);
         }
         result
+    }
+
+    fn wants_trace(&self) -> bool {
+        has_variable(self.runtime, TRACE_VARIABLE)
+    }
+
+    fn tell(&mut self, bytes: &[u8]) {
+        tell_text(self.runtime, bytes);
     }
 }

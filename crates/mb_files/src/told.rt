@@ -1,4 +1,4 @@
-//! What the system said of a call that failed, told on standard error.
+//! What is told on standard error. What cannot be told is left out, which is no fault.
 
 use crate::system::System;
 use std::fmt::{Display, Formatter};
@@ -21,9 +21,15 @@ impl<'a> Display for OneLine<'a> {
     }
 }
 
+// Tells a text. Bytes that are no text are not told.
+pub(crate) fn tell_text<R: System>(runtime: &R, bytes: &[u8]) {
+    if let Ok(text) = str::from_utf8(bytes) {
+        let _ = runtime.eprint(text);
+    }
+}
+
 // Tells on one line what the system said of the file of this name. The line is made of the very error that was counted.
-// If that fails too, nothing is told, which is no fault.
-pub(crate) fn tell<R: System>(runtime: &R, name: &str, error: io::Error) {
+pub(crate) fn tell_error<R: System>(runtime: &R, name: &str, error: io::Error) {
     let name = OneLine(name);
     let _ = match format!(in runtime.alloc(); "{error}") {
         Ok(text) => eprintln!(runtime; "miniboot: {name}: {}", without_number(text.as_str())),

@@ -1,4 +1,4 @@
-//! The trait of a host: files by name, and printing.
+//! The trait of a host: files by name, printing, and what is told beside it.
 
 ghost use Rattle.std.specs.Prelude.{◌≡◌, ◌≤◌, IfOk, OnOk, OnErr, IsErrOf, vec_len};
 ghost use Rattle.mb_model.specs.declared.limits.TheConstants.{FILE_LIMIT};
@@ -22,7 +22,7 @@ pub enum HostEnd {
 #[derive(Clone, Copy, Debug, PartialEq, Eq)]
 pub struct HostFailed;
 
-/// Files by name, and somewhere to print.
+/// Files by name, somewhere to print, and somewhere to tell what a person may want to know besides.
 ///
 /// A host counts its calls of each kind, and its faults: reads that failed, reads of absent names, and writes and
 /// prints that failed. `Failed` and `HostFailed` raise one count of faults by one, and all other results leave these
@@ -55,4 +55,14 @@ pub trait Host {
         ensures done { OnOk result (Prints bytes.now (outside self.old) (outside self.new)) }
         ensures failed { OnErr result (FailsToPrint bytes.now (outside self.old)
             (outside self.new)) };
+
+    /// Whether whoever started the program wants each step of a code told that runs. It changes nothing, and no clause
+    /// says what it answers.
+    fn wants_trace(&self) -> bool;
+
+    /// Tells these bytes beside what is printed: a text for a person, of any number of lines, each with its LF. No
+    /// program should rely on it. It is no print, and changes nothing that is counted or shown to the contracts. What
+    /// cannot be told is left out, which is no fault.
+    fn tell(&mut self, bytes: &[u8])
+        ensures { outside self.new ≡ outside self.old };
 }

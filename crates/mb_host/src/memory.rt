@@ -15,7 +15,8 @@ use std::marker::Model;
 
 /// Files and output in memory, for tests. Contracts see all of its contents. If two files have one name, the first
 /// counts. A write or a print that finds no memory counts a fault. No clause says that no other write or print fails:
-/// both take memory. The list is not in the trait, since no other host has one.
+/// both take memory. The list is not in the trait, since no other host has one. It wants no trace, and drops what it is
+/// told.
 #[derive(Drop)]
 pub struct MemoryHost {
     alloc: Global,
@@ -200,6 +201,12 @@ impl Host for MemoryHost {
         }
         Ok(())
     }
+
+    fn wants_trace(&self) -> bool {
+        false
+    }
+
+    fn tell(&mut self, _bytes: &[u8]) {}
 }
 
 // The index of the first file of this name.

@@ -16,6 +16,7 @@ mod runs;
 mod short_files;
 mod short_orders;
 mod shown;
+mod shown_codes;
 mod sign;
 mod statuses;
 mod trials;

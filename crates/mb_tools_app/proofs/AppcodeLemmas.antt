@@ -38,7 +38,7 @@ sees_none_at layers two three region runs empty =
     ap (λ (b : Bool). if b then Some (if region == 2 then two.secrets else three.secrets) else None) (readable_three layers region runs)
     ∙ none_there two.secrets three.secrets region empty
 
-pub sees_none : (layers : Layers) (two three : Region) → Runnable layers 3 → three.secrets ≡ [] → readable_secrets layers 3 two three ≡ no_secrets
+sees_none : (layers : Layers) (two three : Region) → Runnable layers 3 → three.secrets ≡ [] → readable_secrets layers 3 two three ≡ no_secrets
 sees_none layers two three runs empty = fun_ext (λ region. sees_none_at layers two three region runs empty)
 
 -- ---- the ends

@@ -3,6 +3,7 @@ pub mod AppCommand
 pub mod AppcodeCommand
 pub mod CallcodeCommand
 pub mod AssemblyCommands
+pub mod ShowcodeCommand
 pub mod Seeing
 pub mod Names
 pub mod Reads

@@ -5,11 +5,13 @@ use Rattle.mb_tools_app.specs.AppCommand.{AppNames as AppFiles}
 use Rattle.mb_tools_app.specs.AppcodeCommand.{AppcodeNames as AppcodeFiles}
 use Rattle.mb_tools_app.specs.CallcodeCommand.{CallcodeNames as CallcodeFiles}
 use Rattle.mb_tools_app.specs.AssemblyCommands.{AsmNames as AsmFiles, DisasmNames as DisasmFiles}
+use Rattle.mb_tools_app.specs.ShowcodeCommand.{ShowcodeNames as ShowcodeFiles}
 use Rattle.mb_tools_app.specs.declared.app.AppNames.{AppNames}
 use Rattle.mb_tools_app.specs.declared.appcode.AppcodeNames.{AppcodeNames}
 use Rattle.mb_tools_app.specs.declared.callcode.CallcodeNames.{CallcodeNames}
 use Rattle.mb_tools_app.specs.declared.asm.AsmNames.{AsmNames}
 use Rattle.mb_tools_app.specs.declared.disasm.DisasmNames.{DisasmNames}
+use Rattle.mb_tools_app.specs.declared.showcode.ShowcodeNames.{ShowcodeNames}
 
 abbrev pub app_files : AppNames → AppFiles
 app_files names =
@@ -31,6 +33,9 @@ asm_files names = record { text = names.text.now; out = names.out.now }
 
 abbrev pub disasm_files : DisasmNames → DisasmFiles
 disasm_files names = record { code = names.code.now; out = names.out.now }
+
+abbrev pub showcode_files : ShowcodeNames → ShowcodeFiles
+showcode_files names = record { code = names.code.now }
 
 -- ---- by the places of the words
 
@@ -59,3 +64,6 @@ asm_given given = record { text = file_given 0 given; out = file_given 1 given }
 
 abbrev pub disasm_given : List Argument → DisasmFiles
 disasm_given given = record { code = file_given 0 given; out = file_given 1 given }
+
+abbrev pub showcode_given : List Argument → ShowcodeFiles
+showcode_given given = record { code = file_given 0 given }

@@ -2,8 +2,7 @@
 
 ghost use Rattle.std.specs.Prelude.{◌≡◌, ◌≤◌, ◌++◌, ◌∷◌, [], length, map, Err, IfOk, string_bytes, codes};
 ghost use Rattle.std.specs.Fmt.{decimal};
-ghost use Rattle.mb_model.specs.declared.limits.TheConstants.{FILE_LIMIT, CALL_STEPS};
-ghost use Rattle.mb_model.specs.application.Runs.{AppRun};
+ghost use Rattle.mb_model.specs.declared.limits.TheConstants.{FILE_LIMIT};
 ghost use Rattle.mb_model.specs.outside.Texts.{line_with_lf};
 ghost use Rattle.mb_model.specs.chains.Lines.{spaced_words, hex_word};
 ghost use Rattle.mb_model_commands.specs.Outside.{Outside};
@@ -12,16 +11,17 @@ ghost use Rattle.mb_console.specs.Ending.{CarriesOut};
 ghost use Rattle.mb_console.specs.Words.{given_argument};
 ghost use Rattle.mb_appvm.specs.SecretTexts.{secrets_text};
 ghost use Rattle.mb_device_regions.specs.Demands.{AreKept, shown_secret, shown_secrets};
-ghost use Rattle.mb_tools_app.specs.CallcodeCommand.{callcode, tell_call, tell_output, OutputComesTo, acts, secrets_three, HasShortOutput};
+ghost use Rattle.mb_tools_app.specs.CallcodeCommand.{callcode, tell_call, tell_output, OutputComesTo, acts, HasShortOutput};
 ghost use Rattle.mb_tools_app.specs.Names.{callcode_files, callcode_given};
 
 use crate::app::{refuse_line, tell_end};
 use crate::input::secrets::SecretsForm;
-use mb_appvm::{AppEnd, Readable, action_in, run_code, write_secrets};
+use crate::trying::try_code;
+use mb_appvm::{AppEnd, action_in, write_secrets};
 use mb_console::{Arguments, End, Output, file, finish, read_as, refused};
 use mb_device_regions::{Shown, list, meet_all};
 use mb_host::Host;
-use mb_model::{BadRecord, Bytes, CALL_STEPS, NoMemory, OUTPUT_LIMIT, Secret, Secrets};
+use mb_model::{BadRecord, Bytes, CALL_STEPS, NoMemory, Secret, Secrets};
 use mb_model_commands::Role;
 use mb_tools::{AnyBytes, CodeForm};
 use mb_words::hex_word;
@@ -56,38 +56,17 @@ impl<'a> CallcodeNames<'a> {
 }
 
 /// Calls a code on an input, as layer 3 of a device whose region 3 has these secrets: writes the secrets afterwards, and
-/// prints the answer.
+/// prints the answer. If the host wants a trace, it is told each step of the run.
 pub fn callcode<H: Host>(alloc: Global, names: &CallcodeNames<'_>, host: &mut H) -> Result<(), End>
     ensures { CarriesOut (callcode (callcode_files names.now)) (H.outside host.old) result (H.outside host.new) }
 {
     let code = read_as(alloc, host, Role::Code, names.code, CodeForm)?;
     let secrets = read_as(alloc, host, Role::Text, names.secrets, SecretsForm)?;
     let input = read_as(alloc, host, Role::Input, names.input, AnyBytes)?;
-    match run_called(alloc, &code, secrets.as_slice(), &input) {
+    match try_code(alloc, &code, secrets.as_slice(), &input, CALL_STEPS, host) {
         Ok(ending) => tell_call(alloc, names.next, secrets.as_slice(), &ending, host),
         Err(_) => Err(End::NoMemory),
     }
-}
-
-/// How the run of the code ends, with these secrets in region 3.
-fn run_called(
-    alloc: Global,
-    code: &[u8],
-    secrets: &[Secret],
-    input: &[u8],
-) -> Result<AppEnd, NoMemory>
-    requires code { length code.now ≤ FILE_LIMIT }
-    requires input { length input.now ≤ FILE_LIMIT }
-    ensures run { IfOk result (AppRun code.now input.now (secrets_three secrets.now) CALL_STEPS) }
-    ensures short { IfOk result HasShortOutput }
-{
-    let mut output = Vec::with_capacity(alloc, OUTPUT_LIMIT)?;
-    let readable = Readable {
-        two: None,
-        three: Some(secrets),
-    };
-    let ending = run_code(code, input, readable, CALL_STEPS, &mut output);
-    Ok(ending.with(Bytes::from_vec(output)))
 }
 
 /// Does what the run asks for, if it halted, and reports any other end.

@@ -91,6 +91,8 @@ commands =
     ∷ row command.Asm (codes "asm") (a_file ∷ a_file ∷ [])
     -- disasm CODE OUT
     ∷ row command.Disasm (codes "disasm") (a_file ∷ a_file ∷ [])
+    -- showcode CODE
+    ∷ row command.Showcode (codes "showcode") (a_file ∷ [])
     -- appcode CODE INPUT STEPS
     ∷ row command.Appcode (codes "appcode") (a_file ∷ a_file ∷ a_number 1 10000000 ∷ [])
     -- callcode CODE SECRETS INPUT NEXT

@@ -33,9 +33,10 @@ use Rattle.mb_tools_policy.specs.TrustCommand.{trust}
 use Rattle.mb_tools_policy.specs.Names.{trust_given}
 use Rattle.mb_tools_app.specs.AppCommand.{app}
 use Rattle.mb_tools_app.specs.AssemblyCommands.{asm, disasm}
+use Rattle.mb_tools_app.specs.ShowcodeCommand.{showcode}
 use Rattle.mb_tools_app.specs.AppcodeCommand.{appcode}
 use Rattle.mb_tools_app.specs.CallcodeCommand.{callcode}
-use Rattle.mb_tools_app.specs.Names.{app_given, appcode_given, callcode_given, asm_given, disasm_given}
+use Rattle.mb_tools_app.specs.Names.{app_given, appcode_given, callcode_given, asm_given, disasm_given, showcode_given}
 use Rattle.mb_tools_fleet.specs.FleetCommand.{fleet}
 use Rattle.mb_tools_fleet.specs.RegisterCommands.{register, devices}
 use Rattle.mb_tools_fleet.specs.EnrolCommand.{enrol}
@@ -85,6 +86,7 @@ command_of command.Appcode given = appcode (appcode_given given)
 command_of command.Callcode given = callcode (callcode_given given)
 command_of command.Asm given = asm (asm_given given)
 command_of command.Disasm given = disasm (disasm_given given)
+command_of command.Showcode given = showcode (showcode_given given)
 command_of command.Generate given = generate (generate_given given)
 
 -- How the program ends.

@@ -26,6 +26,7 @@ use mb_tools_app::appcode::{AppcodeNames, appcode};
 use mb_tools_app::asm::{AsmNames, asm};
 use mb_tools_app::callcode::{CallcodeNames, callcode};
 use mb_tools_app::disasm::{DisasmNames, disasm};
+use mb_tools_app::showcode::{ShowcodeNames, showcode};
 use mb_tools_device::cutat::{CutNames, cutat};
 use mb_tools_device::generate::{GenerateNames, generate};
 use mb_tools_device::rehearse::rehearse;
@@ -144,6 +145,7 @@ fn carry_out<H: Host, B: Board, L: Ledger>(
         Command::Callcode => callcode(alloc, &CallcodeNames::of(given), host),
         Command::Asm => asm(alloc, &AsmNames::of(given), host),
         Command::Disasm => disasm(alloc, &DisasmNames::of(given), host),
+        Command::Showcode => showcode(alloc, &ShowcodeNames::of(given), host),
         Command::Generate => generate(alloc, &GenerateNames::of(given), host, board, hashes),
     }
 }

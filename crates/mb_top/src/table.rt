@@ -44,6 +44,7 @@ pub enum Command {
     Fleet,
     Asm,
     Disasm,
+    Showcode,
     Appcode,
     Callcode,
     App,
@@ -401,6 +402,13 @@ pub const GROUPS: [Group; 5] = [
                 &[CODE, OUT],
                 "
       lists the code, writes its text, and prints how many lines that has",
+            ),
+            (
+                Command::Showcode,
+                "showcode",
+                &[CODE],
+                "
+      lists the code with labels and the place of each instruction",
             ),
             (
                 Command::Appcode,

@@ -39,6 +39,7 @@ use Rattle.mb_tools_app.specs.AppCommand.{AppNames, RunsStoredCode, app, run_sto
 use Rattle.mb_tools_app.specs.AppcodeCommand.{AppcodeNames, no_secrets, appcode}
 use Rattle.mb_tools_app.specs.CallcodeCommand.{CallcodeNames, OutputEnd, OutputComesTo, acts, finds_it_full, asks_for_nothing, acted, state_with, by_action, by_offset, secrets_three, callcode, tell_call, tell_output}
 use Rattle.mb_tools_app.specs.AssemblyCommands.{AsmNames, DisasmNames, asm, disasm}
+use Rattle.mb_tools_app.specs.ShowcodeCommand.{ShowcodeNames, showcode}
 use Rattle.mb_fleet.specs.declared.row.Row.{Row}
 use Rattle.mb_fleet.specs.declared.item.Item.{Item}
 use Rattle.mb_fleet.specs.Rows.{AreOrdered}
@@ -186,6 +187,10 @@ asm_alike names = alike_read _ _ (assembly_once _) (λ bytes code are is. alike_
 pub disasm_alike : (names : DisasmNames) → Alike (disasm names) (disasm names)
 unfolding disasm
 disasm_alike names = alike_read _ _ (listing_once _) (λ bytes listed are is. alike_write _ _ (alike_print _))
+
+pub showcode_alike : (names : ShowcodeNames) → Alike (showcode names) (showcode names)
+unfolding showcode
+showcode_alike names = alike_read _ _ (listing_once _) (λ bytes listed are is. alike_print _)
 
 -- ---- `fleet`
 

@@ -5,7 +5,7 @@ use Rattle.mb_tools.specs.Names.{keygen_given, sign_given, countersign_given, fa
 use Rattle.mb_tools_orders.specs.Names.{cosign_given, showorder_given, ordered_given, showkey_given}
 use Rattle.mb_tools_hss.specs.Names.{hsskeygen_given, showmaker_given, endorse_given, endorsed_given}
 use Rattle.mb_tools_policy.specs.Names.{trust_given}
-use Rattle.mb_tools_app.specs.Names.{app_given, appcode_given, callcode_given, asm_given, disasm_given}
+use Rattle.mb_tools_app.specs.Names.{app_given, appcode_given, callcode_given, asm_given, disasm_given, showcode_given}
 use Rattle.mb_tools_fleet.specs.FleetWords.{fleet_given, register_given, enrol_given, devices_given}
 use Rattle.mb_tools_shown.specs.Names.{history_given, showimage_given}
 use Rattle.mb_top.specs.declared.table.Command.{Command}
@@ -15,7 +15,7 @@ use Rattle.mb_top_laws.specs.LoadLaws.{serves}
 use Rattle.mb_top_laws.specs.EndLaws.{CommandsAreDetermined}
 use Rattle.mb_top_laws.proofs.AlikeSteps.{Alike, whole_alike}
 use Rattle.mb_top_laws.proofs.AlikeCommands.{keygen_alike, sign_alike, countersign_alike, factory_alike, verify_alike, audit_alike, chain_alike, attach_alike}
-use Rattle.mb_top_laws.proofs.AlikeTools.{migrate_alike, hsskeygen_alike, endorse_alike, endorsed_alike, trust_alike, app_alike, appcode_alike, callcode_alike, asm_alike, disasm_alike, fleet_alike, register_alike, enrol_alike, devices_alike, showimage_alike, history_alike}
+use Rattle.mb_top_laws.proofs.AlikeTools.{migrate_alike, hsskeygen_alike, endorse_alike, endorsed_alike, trust_alike, app_alike, appcode_alike, callcode_alike, asm_alike, disasm_alike, showcode_alike, fleet_alike, register_alike, enrol_alike, devices_alike, showimage_alike, history_alike}
 use Rattle.mb_top_laws.proofs.AlikeOrders.{cosign_alike, showorder_alike, ordered_alike, showkey_alike, showmaker_alike}
 
 each_alike : (called : Command) (given : List Argument) → serves called ≡ false → Alike (command_of called given) (command_of called given)
@@ -52,6 +52,7 @@ each_alike command.Appcode given is = appcode_alike (appcode_given given)
 each_alike command.Callcode given is = callcode_alike (callcode_given given)
 each_alike command.Asm given is = asm_alike (asm_given given)
 each_alike command.Disasm given is = disasm_alike (disasm_given given)
+each_alike command.Showcode given is = showcode_alike (showcode_given given)
 
 pub commands_are_determined : CommandsAreDetermined
 commands_are_determined called given files printed e f is whole also =

@@ -41,8 +41,9 @@ use Rattle.mb_tools_policy.specs.Names.{trust_given}
 use Rattle.mb_tools_app.specs.AppCommand.{AppNames, app, run_stored_code, tell_end}
 use Rattle.mb_tools_app.specs.AppcodeCommand.{AppcodeNames, appcode}
 use Rattle.mb_tools_app.specs.AssemblyCommands.{AsmNames, DisasmNames, asm, disasm}
+use Rattle.mb_tools_app.specs.ShowcodeCommand.{ShowcodeNames, showcode}
 use Rattle.mb_tools_app.specs.CallcodeCommand.{CallcodeNames, OutputEnd, acts, finds_it_full, asks_for_nothing, callcode, tell_call, tell_output}
-use Rattle.mb_tools_app.specs.Names.{app_given, appcode_given, callcode_given, asm_given, disasm_given}
+use Rattle.mb_tools_app.specs.Names.{app_given, appcode_given, callcode_given, asm_given, disasm_given, showcode_given}
 use Rattle.mb_fleet.specs.declared.row.Row.{Row}
 use Rattle.mb_fleet.specs.Showing as answers
 use Rattle.mb_fleet.specs.Showing.{Answer}
@@ -234,6 +235,10 @@ never_disasm : (names : DisasmNames) → NeverLoads (disasm names)
 unfolding disasm NeverLoads
 never_disasm names = λ listed. tt
 
+never_showcode : (names : ShowcodeNames) → NeverLoads (showcode names)
+unfolding showcode NeverLoads
+never_showcode names = λ listed. tt
+
 never_kept : (name : List ℕ) (outcome : FleetOutcome) → NeverLoads (keep_register name outcome)
 unfolding NeverLoads
 never_kept name (all_served text after) = tt
@@ -337,6 +342,7 @@ all_load_nothing e command.Appcode given is ends = nothing_is_loaded (appcode (a
 all_load_nothing e command.Callcode given is ends = nothing_is_loaded (callcode (callcode_given given)) at_first e (never_callcode (callcode_given given)) ends
 all_load_nothing e command.Asm given is ends = nothing_is_loaded (asm (asm_given given)) at_first e (never_asm (asm_given given)) ends
 all_load_nothing e command.Disasm given is ends = nothing_is_loaded (disasm (disasm_given given)) at_first e (never_disasm (disasm_given given)) ends
+all_load_nothing e command.Showcode given is ends = nothing_is_loaded (showcode (showcode_given given)) at_first e (never_showcode (showcode_given given)) ends
 
 -- ---- after the last load
 

@@ -248,6 +248,11 @@ const COMMANDS: &[Access] = &[
         writes: &[("out", "out")],
     },
     Access {
+        words: "showcode assembled",
+        reads: &[("code", "assembled")],
+        writes: &[],
+    },
+    Access {
         words: "fleet public0 register items",
         reads: &[
             ("root", "public0"),

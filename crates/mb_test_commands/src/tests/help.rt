@@ -94,6 +94,8 @@ to write applications:
       assembles the text, writes its code, and prints how many bytes that has
   miniboot disasm CODE OUT
       lists the code, writes its text, and prints how many lines that has
+  miniboot showcode CODE
+      lists the code with labels and the place of each instruction
   miniboot appcode CODE INPUT STEPS
       runs the code on the bytes of INPUT for at most STEPS steps, 1 to 10,000,000, as layer 3 of a device
       without secrets, and prints how it ends

@@ -688,6 +688,27 @@ const TOOLS_ARE_SHORT: &[ShortFile] = &[
         told: Told::Line("input code at 9\n"),
         offsets: &[10, 11],
     },
+    ShortFile {
+        words: "showcode assembled",
+        name: "assembled",
+        status: 3,
+        told: Told::Line("input code at 0\n"),
+        offsets: &[1],
+    },
+    ShortFile {
+        words: "showcode assembled",
+        name: "assembled",
+        status: 3,
+        told: Told::Line("input code at 6\n"),
+        offsets: &[7],
+    },
+    ShortFile {
+        words: "showcode assembled",
+        name: "assembled",
+        status: 3,
+        told: Told::Line("input code at 9\n"),
+        offsets: &[10, 11],
+    },
 ];
 
 const DEVICES_END: &[Step] = &[Step::InputsAreShort(DEVICES_ARE_SHORT)];

@@ -371,8 +371,13 @@ fn a_boot_and_an_emergency_load_are_cut_twice(rt: HostRuntime) -> Result<(), Fai
 }
 
 #[test]
+fn a_status_after_a_life_is_not_stopped(rt: HostRuntime) -> Result<(), Fail> {
+    owned_device_goes_through(&rt, &[A_LIFE_BEGINS])
+}
+
+#[test]
 fn a_load_is_cut_twice(rt: HostRuntime) -> Result<(), Fail> {
-    owned_device_goes_through(&rt, &[A_LIFE_BEGINS, SECRETS_ARE_PUT, A_LOAD])
+    owned_device_goes_through(&rt, &[SECRETS_ARE_PUT, A_LOAD])
 }
 
 #[test]

@@ -4,3 +4,4 @@ mod codes;
 mod devices;
 mod runs;
 mod texts;
+mod traces;
